@@ -1,0 +1,158 @@
+-- The words of the tables by name (rules 2.1 to 2.5), and the numbers that they are counted and told apart by.
+use Prim.Native.Nat.{_%_, _*_, _+_, _/_, suc, ℕ}
+use Rattle.model.specs.Level.{roleCount}
+
+-- Rule 2.1: sixteen users and sixty-four entities, both numbered from 1; rows of eight places.
+abbrev pub userCount : ℕ
+userCount = 16
+
+abbrev pub entityCount : ℕ
+entityCount = 64
+
+abbrev pub placeCount : ℕ
+placeCount = 8
+
+-- Rule 2.2: the words of a user. `held`, `heldOp` and `missed` are the notice; the spare words are zero.
+pub data UserWord : Type 0 where
+  present clearance authorised current device held heldOp missed : UserWord
+  spare : ℕ → UserWord
+
+-- Rule 2.3: the words of an entity. `count` is the number of places used; the three rows are counted from 0.
+pub data EntityWord : Type 0 where
+  kind type level mark value releaser maximum count : EntityWord
+  place shown triple : ℕ → EntityWord
+
+-- One word of one record. Whatever stands outside the records and their rows is zero.
+pub record Tables : Type 0 where
+  pub user : ℕ → UserWord → ℕ
+  pub entity : ℕ → EntityWord → ℕ
+
+-- The kinds (rule 2.3); 0 is an absent entity.
+abbrev pub absentKind : ℕ
+absentKind = 0
+
+abbrev pub objectKind : ℕ
+objectKind = 1
+
+abbrev pub containerKind : ℕ
+containerKind = 2
+
+abbrev pub deviceKind : ℕ
+deviceKind = 3
+
+-- The types (rule 2.3).
+abbrev pub plainType : ℕ
+plainType = 0
+
+abbrev pub draftType : ℕ
+draftType = 1
+
+abbrev pub releasedType : ℕ
+releasedType = 2
+
+-- What a device shows of an entity (rule 2.4): the value, the label, the ID are bits 0, 1 and 2 of its sum.
+abbrev pub valueBit : ℕ
+valueBit = 0
+
+abbrev pub labelBit : ℕ
+labelBit = 1
+
+abbrev pub idBit : ℕ
+idBit = 2
+
+abbrev pub sumLimit : ℕ
+sumLimit = 7
+
+-- Rule 2.5: an access triple is who × 65,536 + operation × 256 + operand position.
+abbrev pub tripleOf : ℕ → ℕ → ℕ → ℕ
+tripleOf w o p = w * 65536 + o * 256 + p
+
+abbrev pub whoOf : ℕ → ℕ
+whoOf t = t / 65536
+
+abbrev pub operationIn : ℕ → ℕ
+operationIn t = t / 256 % 256
+
+abbrev pub positionOf : ℕ → ℕ
+positionOf t = t % 256
+
+-- Who is a user's number, or 17 + r for the role of bit r.
+abbrev pub whoRole : ℕ → ℕ
+whoRole r = suc userCount + r
+
+abbrev pub whoLimit : ℕ
+whoLimit = userCount + roleCount
+
+abbrev pub operationCount : ℕ
+operationCount = 20
+
+abbrev pub positionCount : ℕ
+positionCount = 2
+
+-- Columns: one word of every record.
+abbrev pub kinds : Tables → ℕ → ℕ
+kinds d e = d .entity e kind
+
+abbrev pub counts : Tables → ℕ → ℕ
+counts d e = d .entity e count
+
+abbrev pub places : Tables → ℕ → ℕ → ℕ
+places d e i = d .entity e (place i)
+
+abbrev pub sums : Tables → ℕ → ℕ → ℕ
+sums d e i = d .entity e (shown i)
+
+abbrev pub triples : Tables → ℕ → ℕ → ℕ
+triples d e i = d .entity e (triple i)
+
+abbrev pub devices : Tables → ℕ → ℕ
+devices d u = d .user u device
+
+-- Words are told apart by a tag and, in a row, by their place: literal numbers, so that the question computes.
+abbrev pub userTag : UserWord → ℕ
+userTag present = 0
+userTag clearance = 1
+userTag authorised = 2
+userTag current = 3
+userTag device = 4
+userTag held = 5
+userTag heldOp = 6
+userTag missed = 7
+userTag (spare i) = 8
+
+abbrev pub userIndex : UserWord → ℕ
+userIndex present = 0
+userIndex clearance = 0
+userIndex authorised = 0
+userIndex current = 0
+userIndex device = 0
+userIndex held = 0
+userIndex heldOp = 0
+userIndex missed = 0
+userIndex (spare i) = i
+
+abbrev pub tag : EntityWord → ℕ
+tag kind = 0
+tag type = 1
+tag level = 2
+tag mark = 3
+tag value = 4
+tag releaser = 5
+tag maximum = 6
+tag count = 7
+tag (place i) = 8
+tag (shown i) = 9
+tag (triple i) = 10
+
+abbrev pub index : EntityWord → ℕ
+index kind = 0
+index type = 0
+index level = 0
+index mark = 0
+index value = 0
+index releaser = 0
+index maximum = 0
+index count = 0
+index (place i) = i
+index (shown i) = i
+index (triple i) = i
