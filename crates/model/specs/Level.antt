@@ -27,6 +27,9 @@ rank k l = l / 2 ^ k
 unfoldable pub atMostOver : ℕ → ℕ → ℕ → Bool
 atMostOver k a b = leb (rank k a) (rank k b) && subset k a b
 
+abbrev pub AtMostOver : ℕ → ℕ → ℕ → Type 0
+AtMostOver k a b = T (atMostOver k a b)
+
 -- The desk has eight compartments and four ranks, so its levels are 0 to 1,023.
 abbrev pub compartmentCount : ℕ
 compartmentCount = 8

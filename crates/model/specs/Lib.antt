@@ -1,3 +1,7 @@
 pub mod Basics
 pub mod Level
+pub mod BitLaws
+pub mod LevelLaws
 pub mod Tables
+pub mod State
+pub mod Effect

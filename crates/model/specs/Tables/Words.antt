@@ -89,6 +89,16 @@ operationCount = 20
 abbrev pub positionCount : ℕ
 positionCount = 2
 
+-- Rule 3.19: the refusals of which a notice is kept; rule 3.21: where its count stops.
+abbrev pub firstNoticed : ℕ
+firstNoticed = 5
+
+abbrev pub lastNoticed : ℕ
+lastNoticed = 16
+
+abbrev pub missedLimit : ℕ
+missedLimit = 65535
+
 -- Columns: one word of every record.
 abbrev pub kinds : Tables → ℕ → ℕ
 kinds d e = d .entity e kind

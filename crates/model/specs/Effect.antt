@@ -1,0 +1,10 @@
+pub mod Words
+pub mod Triples
+pub mod Places
+pub mod Screens
+pub mod WordsLaws
+pub mod TriplesLaws
+pub mod PutLaws
+pub mod ScreensLaws
+pub mod PlacesLaws
+pub mod ShowLaws

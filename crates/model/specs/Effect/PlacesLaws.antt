@@ -1,0 +1,217 @@
+-- Create, delete and move keep tables well-formed and secure.
+use mathlib.Core.Bool.{Bool, false, true}
+use mathlib.Core.Logic.{_≢_, _⊎_, inl, inr}
+use mathlib.Core.Path.{_≡_, ap, refl, subst}
+use Prim.Native.Nat.{_<_, _≤_, ℕ}
+use native.Mathlib.Nat.{not-suc-le-zero}
+use native.Mathlib.Omega.{arith}
+use lib.Dec.{T, eqb}
+use Rattle.model.specs.Basics.Choice.{pick}
+use Rattle.model.specs.Effect.Places.{create, delete, erase, fresh, leave, move}
+use Rattle.model.specs.Effect.PutLaws.{Takes, fewer-there, leave-secure, leave-wellFormed, put-secure, put-wellFormed, stayed}
+use Rattle.model.specs.Level.{AtMost, levelCount}
+use Rattle.model.specs.State.Agree.{zero-ok}
+use Rattle.model.specs.State.Depth.{Within}
+use Rattle.model.specs.State.DepthLaws.{fewer, holds-one}
+use Rattle.model.specs.State.LinksLaws.{appear, still, vanish}
+use Rattle.model.specs.State.Secure.{Secure, labelled}
+use Rattle.model.specs.State.WellFormed.{EntityOk, Holds, In, Thing, WellFormed}
+use Rattle.model.specs.Tables.EditLaws.{case, each}
+use Rattle.model.specs.Tables.Edits.{Edit, _and_, blank, row, word, written}
+use Rattle.model.specs.Tables.Words.{EntityWord, Tables, clearance, count, counts, devices, kind, kinds, level, mark, maximum, places, releaser, shown, sums, triple, triples, type, value}
+
+-- the level of e changes, and e neither holds anything nor is held
+module _ (d : Tables) (s : Secure d) (e l : ℕ) (nothing : (c : ℕ) → Holds d e c → ⊥) (nowhere : (x : ℕ) → Holds d x e → ⊥) where
+  contained-by : (x c : ℕ) → Holds d x c → AtMost (pick (eqb c e) l (d .entity c level)) (pick (eqb x e) l (d .entity x level))
+  contained-by x c h =
+      case (λ (y : ℕ). AtMost y (pick (eqb x e) l (d .entity x level))) c e l (d .entity c level) (λ q. absurd (nowhere x (subst (Holds d x) q h)))
+      (λ q. case (AtMost (d .entity c level)) x e l (d .entity x level) (λ r. absurd (nothing c (subst (λ (y : ℕ). Holds d y c) r h))) (λ r. s .contained x c h))
+
+  seen-by : (u c : ℕ) → devices d u ≢ 0 → Holds d (devices d u) c → AtMost (pick (eqb c e) l (d .entity c level)) (d .user u clearance)
+  seen-by u c on h = case (λ (y : ℕ). AtMost y (d .user u clearance)) c e l (d .entity c level) (λ q. absurd (nowhere (devices d u) (subst (Holds d (devices d u)) q h))) (λ q. s .seen u c on h)
+
+-- a record at an absent number
+module _ (d : Tables) (w : WellFormed d) (e c k t l : ℕ) (gone : kinds d e ≡ 0) (range : (1 ≤ e) × (e ≤ 64)) (sort : (1 ≤ k) × (k ≤ 2)) (draft : (t ≡ 0) ⊎ ((k ≡ 2) × (t ≡ 1))) (lev : l < levelCount) where
+  born : Edit EntityWord
+  born = word kind k and word type t and word level l and row triple (triples d c)
+
+  zero-here : (f : EntityWord) → d .entity e f ≡ 0
+  zero-here = w .entities e .absent gone
+
+  born-ok : EntityOk (d .entity e) → EntityOk (written born (d .entity e))
+  unfolding born
+  born-ok o =
+      let a = zero-here mark in
+      let b = zero-here value in
+      let f = zero-here releaser in
+      let g = zero-here maximum in
+      let h = zero-here count in
+      let z : (i : ℕ) → d .entity e (shown i) ≡ 0 = λ i. zero-here (shown i) in
+      let acc = w .entities c .access in
+      let ty : (t ≤ 1) × (t ≢ 0 → k ≡ 2) = typing draft in
+      search (arith, z)
+    where
+      typing : (t ≡ 0) ⊎ ((k ≡ 2) × (t ≡ 1)) → (t ≤ 1) × (t ≢ 0 → k ≡ 2)
+      typing (inl q) = (omega arith, λ z. absurd (z q))
+      typing (inr q) = (omega arith, λ z. q .0)
+
+  nothing : (x : ℕ) → Holds d e x → ⊥
+  nothing x h = omega (arith, h .1, zero-here count)
+
+  nowhere : (x : ℕ) → Holds d x e → ⊥
+  nowhere x h = omega (arith, w .links .contents x e h)
+
+  pub fresh-wellFormed : WellFormed (fresh e c k t l d)
+  unfolding born
+  fresh-wellFormed = record {
+    userNumbers = w .userNumbers;
+    entityNumbers = λ x. case (λ (y : ℕ). y ≢ 0 → (1 ≤ x) × (x ≤ 64)) x e k (kinds d x) (λ q z. rw q range) (λ q. w .entityNumbers x);
+    users = w .users;
+    entities = each EntityOk born e (d .entity) (w .entities) (born-ok (w .entities e));
+    links = appear (kinds d) (counts d) (places d) (devices d) (w .links) e k gone (zero-here count) sort;
+  }
+
+  pub fresh-secure : Secure d → Secure (fresh e c k t l d)
+  fresh-secure s = record {
+    contained = contained-by d s e l nothing nowhere;
+    seen = seen-by d s e l nothing nowhere;
+    valueLabelled = λ x i h. s .valueLabelled x i (same-kind x h);
+    roles = s .roles;
+    ceiling = λ x h. case (λ (y : ℕ). AtMost y (d .entity x maximum)) x e l (d .entity x level) (λ q. absurd (omega (arith, ap (kinds d) q, same-kind x h))) (λ q. s .ceiling x (same-kind x h));
+  }
+    where
+      same-kind : (x : ℕ) → kinds (fresh e c k t l d) x ≡ 3 → kinds d x ≡ 3
+      same-kind x = case (λ (y : ℕ). y ≡ 3 → kinds d x ≡ 3) x e k (kinds d x) (λ q z. absurd (omega arith)) (λ q z. z)
+
+-- a record is zeroed
+module _ (d : Tables) (w : WellFormed d) (e : ℕ) (thing : kinds d e ≤ 2) (empty : counts d e ≡ 0) (nowhere : (x : ℕ) → Holds d x e → ⊥) where
+  pub erase-wellFormed : WellFormed (erase e d)
+  erase-wellFormed = record {
+    userNumbers = w .userNumbers;
+    entityNumbers = λ x. case (λ (y : ℕ). y ≢ 0 → (1 ≤ x) × (x ≤ 64)) x e 0 (kinds d x) (λ q z. absurd (z refl)) (λ q. w .entityNumbers x);
+    users = w .users;
+    entities = each EntityOk (blank) e (d .entity) (w .entities) zero-ok;
+    links = vanish (kinds d) (counts d) (places d) (devices d) (w .links) e nowhere thing;
+  }
+
+  pub erase-secure : Secure d → Secure (erase e d)
+  erase-secure s = record {
+    contained = λ x c h. contained-by d s e 0 (λ y m. omega (arith, m .1)) nowhere x c (there x c h);
+    seen = λ u c on h. seen-by d s e 0 (λ y m. omega (arith, m .1)) nowhere u c on (there (devices d u) c h);
+    valueLabelled = λ x i. shows x i (eqb x e);
+    roles = s .roles;
+    ceiling = λ x. top x (eqb x e);
+  }
+    where
+      there : (x c : ℕ) → Holds (erase e d) x c → Holds d x c
+      there x c h = still (kinds d) (counts d) (places d) (devices d) (w .links) e nowhere thing x c h
+
+      shows : (x i : ℕ) (b : Bool) → pick b 0 (kinds d x) ≡ 3 → i < pick b 0 (counts d x) → T (labelled (pick b 0 (sums d x i)))
+      shows x i true h l = absurd (not-suc-le-zero l)
+      shows x i false h l = s .valueLabelled x i h l
+
+      top : (x : ℕ) (b : Bool) → pick b 0 (kinds d x) ≡ 3 → AtMost (pick b 0 (d .entity x level)) (pick b 0 (d .entity x maximum))
+      top x true h = absurd (let z : _≡_ {A = ℕ} 0 3 = h in omega arith)
+      top x false h = s .ceiling x h
+
+-- 2 delete: an entity with no contents, on no device
+module _ (d : Tables) (w : WellFormed d) (s : Secure d) (e : ℕ) (thing : kinds d e ≤ 2) (empty : counts d e ≡ 0) (unseen : (x : ℕ) → kinds d x ≡ 3 → Holds d x e → ⊥) where
+  nowhere-now : (x : ℕ) → Holds (leave e d) x e → ⊥
+  nowhere-now x h =
+      let m = stayed d w e x e h in
+      let not3 : kinds d x ≢ 3 = λ q. unseen x q (m .0) in
+      let not2 : kinds d x ≢ 2 = λ q. m .1 q refl in
+      let not1 : kinds d x ≢ 1 = λ q. omega (arith, w .entities x .filled .objectEmpty q, m .0 .1) in
+      let not0 : kinds d x ≢ 0 = λ q. omega (arith, w .entities x .absent q count, m .0 .1) in
+      omega (arith, w .entities x .shape .kindIn)
+
+  empty-now : counts (leave e d) e ≡ 0
+  empty-now = omega (arith, fewer-there d w e e)
+
+  pub delete-wellFormed : WellFormed (delete e d)
+  delete-wellFormed = erase-wellFormed (leave e d) (leave-wellFormed d w e) e thing empty-now nowhere-now
+
+  pub delete-secure : Secure (delete e d)
+  delete-secure = erase-secure (leave e d) (leave-wellFormed d w e) e thing empty-now nowhere-now (leave-secure d w e s)
+
+-- no user is on a container
+on-none : (d : Tables) → WellFormed d → (c u : ℕ) → kinds d c ≡ 2 → devices d u ≡ c → ⊥
+on-none d w c u h q =
+    let n = w .entityNumbers c (omega arith) in
+    omega (arith, w .links .deviceIs u (omega arith), ap (kinds d) q)
+
+-- 3 move
+module _ (d : Tables) (w : WellFormed d) (s : Secure d) (e c : ℕ) (thing : Thing d e) (box : kinds d c ≡ 2) (room : counts (leave e d) c < 8)
+    (apart : Within (In (kinds d) (counts d) (places d)) c e → ⊥) (low : AtMost (d .entity e level) (d .entity c level)) where
+  Inner : ℕ → ℕ → Type 0
+  Inner = In (kinds (leave e d)) (counts (leave e d)) (places (leave e d))
+
+  apart-now : Within Inner c e → ⊥
+  unfolding Inner
+  apart-now (inl q) = apart (inl q)
+  apart-now (inr p) = apart (inr (fewer (λ b a h. (h .0, stayed d w e b a (h .1) .0)) p))
+
+  takes : Takes (leave e d) c e 0
+  unfolding Inner
+  takes = record {
+    thing = thing;
+    holder = omega arith;
+    room = room;
+    new = λ i l q. stayed d w e c e (i, l, q) .1 box refl;
+    free = λ q b h. stayed d w e b e (h .1) .1 (h .0) refl;
+    apart = apart-now;
+    onIt = λ q. absurd (omega arith);
+    sumOn = λ q. absurd (omega arith);
+    sumOff = λ q. refl;
+  }
+
+  pub move-wellFormed : WellFormed (move e c d)
+  move-wellFormed = put-wellFormed (leave e d) (leave-wellFormed d w e) c e 0 takes
+
+  pub move-secure : Secure (move e c d)
+  move-secure = put-secure (leave e d) (leave-wellFormed d w e) c e 0 takes (leave-secure d w e s) low (λ u q. absurd (on-none d w c u box q)) (λ q. absurd (omega arith))
+
+-- 1 create
+module _ (d : Tables) (w : WellFormed d) (s : Secure d) (e c k t l : ℕ) (gone : kinds d e ≡ 0) (range : (1 ≤ e) × (e ≤ 64)) (sort : (1 ≤ k) × (k ≤ 2)) (draft : (t ≡ 0) ⊎ ((k ≡ 2) × (t ≡ 1))) (lev : l < levelCount)
+    (box : kinds d c ≡ 2) (room : counts d c < 8) (low : AtMost l (d .entity c level)) where
+  abbrev with-it : Tables
+  with-it = fresh e c k t l d
+
+  apart-c : c ≢ e
+  apart-c q = omega (arith, ap (kinds d) q)
+
+  box-now : kinds with-it c ≡ 2
+  box-now = case (λ (y : ℕ). y ≡ 2) c e k (kinds d c) (λ q. absurd (apart-c q)) (λ q. box)
+
+  level-c : d .entity c level ≡ with-it .entity c level
+  level-c = case (λ (y : ℕ). d .entity c level ≡ y) c e l (d .entity c level) (λ q. absurd (apart-c q)) (λ q. refl)
+
+  level-e : l ≡ with-it .entity e level
+  level-e = case (λ (y : ℕ). l ≡ y) e e l (d .entity e level) (λ q. refl) (λ q. absurd (q refl))
+
+  separate : Within (In (kinds with-it) (counts with-it) (places with-it)) c e → ⊥
+  separate (inl q) = apart-c q
+  separate (inr p) = let x = holds-one p in nothing d w e c k t l gone range sort draft lev (x .0) (x .1 .1)
+
+  takes-new : Takes with-it c e 0
+  takes-new = record {
+    thing = case (λ (y : ℕ). (1 ≤ y) × (y ≤ 2)) e e k (kinds d e) (λ q. sort) (λ q. absurd (q refl));
+    holder = omega (arith, box-now);
+    room = room;
+    new = λ i h q. nowhere d w e c k t l gone range sort draft lev c (i, h, q);
+    free = λ q b h. nowhere d w e c k t l gone range sort draft lev b (h .1);
+    apart = separate;
+    onIt = λ q. absurd (omega (arith, box-now));
+    sumOn = λ q. absurd (omega (arith, box-now));
+    sumOff = λ q. refl;
+  }
+
+  new-wellFormed : WellFormed with-it
+  new-wellFormed = fresh-wellFormed d w e c k t l gone range sort draft lev
+
+  pub create-wellFormed : WellFormed (create e c k t l d)
+  create-wellFormed = put-wellFormed with-it new-wellFormed c e 0 takes-new
+
+  pub create-secure : Secure (create e c k t l d)
+  create-secure = put-secure with-it new-wellFormed c e 0 takes-new (fresh-secure d w e c k t l gone range sort draft lev s)
+      (rw (← level-e, ← level-c) low) (λ u q. absurd (on-none with-it new-wellFormed c u box-now q)) (λ q. absurd (omega (arith, box-now)))

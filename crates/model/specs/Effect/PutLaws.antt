@@ -1,0 +1,131 @@
+-- The two moves that places are changed by, put last and leave, keep tables well-formed and secure.
+use mathlib.Core.Bool.{Bool, false, true}
+use mathlib.Core.Logic.{_≢_, _⊎_, inl, inr}
+use mathlib.Core.Path.{_∙_, _≡_, ap, sym}
+use Prim.Native.Nat.{_<_, _≤_, suc, ℕ}
+use native.Mathlib.Omega.{arith}
+use lib.Dec.{T, eqb, eqb→eq}
+use Rattle.model.specs.Basics.Choice.{Same, it, other, pick, same}
+use Rattle.model.specs.Effect.Places.{leave, leaving, put}
+use Rattle.model.specs.Effect.Screens.{clear, off}
+use Rattle.model.specs.Level.{AtMost}
+use Rattle.model.specs.State.Depth.{Within}
+use Rattle.model.specs.State.LinksLaws.{attach, grown, shrink}
+use Rattle.model.specs.State.Secure.{Secure, labelled}
+use Rattle.model.specs.State.WellFormed.{EntityOk, Filled, Holds, In, Thing, WellFormed}
+use Rattle.model.specs.Tables.EditLaws.{all, case, each}
+use Rattle.model.specs.Tables.Edits.{Edit, _and_, row, word, written}
+use Rattle.model.specs.Tables.RowLaws.{append-packed, without-fewer, without-member, without-packed}
+use Rattle.model.specs.Tables.Rows.{Member, left, replace, without}
+use Rattle.model.specs.Tables.Words.{EntityWord, Tables, clearance, count, counts, devices, kinds, level, place, places, shown, sums}
+
+-- e is put last in c, with the sum s
+put-filled : (k n e s : ℕ) (at sum : ℕ → ℕ) → (2 ≤ k) → n < 8 → 1 ≤ e → ((i : ℕ) → i < n → at i ≢ e) → (k ≡ 3 → (1 ≤ s) × (s ≤ 7)) → (k ≢ 3 → s ≡ 0) → Filled k n at sum → Filled k (suc n) (replace n e at) (replace n s sum)
+put-filled k n e s at sum hk fits he new on off f = record {
+  packed = append-packed at n e (f .packed) fits he new;
+  objectEmpty = λ q. absurd (omega arith);
+  sums = λ q i l. case (λ (y : ℕ). (1 ≤ y) × (y ≤ 7)) i n s (sum i) (λ z. on q) (λ z. f .sums q i (omega arith));
+  noSums = λ q i. case (λ (y : ℕ). y ≡ 0) i n s (sum i) (λ z. off q) (λ z. f .noSums q i);
+  restSums = λ i l. case (λ (y : ℕ). y ≡ 0) i n s (sum i) (λ z. absurd (omega arith)) (λ z. f .restSums i (omega arith));
+}
+
+-- what the request's conditions give: c has room, and takes e
+pub record Takes (d : Tables) (c e s : ℕ) : Type 0 where
+  pub thing : Thing d e
+  pub holder : 2 ≤ kinds d c
+  pub room : counts d c < 8
+  pub new : (i : ℕ) → i < counts d c → places d c i ≢ e
+  pub free : kinds d c ≡ 2 → (b : ℕ) → In (kinds d) (counts d) (places d) b e → ⊥
+  pub apart : Within (In (kinds d) (counts d) (places d)) c e → ⊥
+  pub onIt : kinds d c ≡ 3 → (u : ℕ) × (devices d u ≡ c)
+  pub sumOn : kinds d c ≡ 3 → (1 ≤ s) × (s ≤ 7)
+  pub sumOff : kinds d c ≢ 3 → s ≡ 0
+
+module _ (d : Tables) (w : WellFormed d) (c e s : ℕ) (t : Takes d c e s) where
+  putting : Edit EntityWord
+  putting = word count (suc (counts d c)) and row place (replace (counts d c) e (places d c)) and row shown (replace (counts d c) s (sums d c))
+
+  put-ok : EntityOk (d .entity c) → EntityOk (written putting (d .entity c))
+  unfolding putting
+  put-ok o =
+      let n = w .entityNumbers e (omega (arith, t .thing)) in
+      let f = put-filled (kinds d c) (counts d c) e s (places d c) (sums d c) (t .holder) (t .room) (n .0) (t .new) (t .sumOn) (t .sumOff) (o .filled) in
+      let h = t .holder in
+      search arith
+
+  pub put-wellFormed : WellFormed (put c e s d)
+  unfolding putting
+  put-wellFormed = record {
+    userNumbers = w .userNumbers;
+    entityNumbers = w .entityNumbers;
+    users = w .users;
+    entities = each EntityOk putting c (d .entity) (w .entities) (put-ok (w .entities c));
+    links = attach (kinds d) (counts d) (places d) (devices d) (w .links) c e (t .thing) (t .free) (t .apart) (t .onIt);
+  }
+
+  put-grown : (x a : ℕ) → Holds (put c e s d) x a → Holds d x a ⊎ ((x ≡ c) × (a ≡ e))
+  put-grown x a h = grown (kinds d) (counts d) (places d) (devices d) (w .links) c e x a h
+
+  pub put-secure : Secure d → AtMost (d .entity e level) (d .entity c level) → ((u : ℕ) → devices d u ≡ c → AtMost (d .entity e level) (d .user u clearance)) → (kinds d c ≡ 3 → T (labelled s)) → Secure (put c e s d)
+  put-secure o low clear label = record {
+    contained = λ x a h. in-it x a (put-grown x a h);
+    seen = λ u a on h. on-it u a on (put-grown (devices d u) a h);
+    valueLabelled = λ x i k l. shows x i k (eqb x c) (same x c) l;
+    roles = o .roles;
+    ceiling = o .ceiling;
+  }
+    where
+      in-it : (x a : ℕ) → Holds d x a ⊎ ((x ≡ c) × (a ≡ e)) → AtMost (d .entity a level) (d .entity x level)
+      in-it x a (inl h) = o .contained x a h
+      in-it x a (inr q) = rw (q .0, q .1) low
+
+      on-it : (u a : ℕ) → devices d u ≢ 0 → Holds d (devices d u) a ⊎ ((devices d u ≡ c) × (a ≡ e)) → AtMost (d .entity a level) (d .user u clearance)
+      on-it u a on (inl h) = o .seen u a on h
+      on-it u a on (inr q) = rw (q .1) (clear u (q .0))
+
+      shows : (x i : ℕ) → kinds d x ≡ 3 → (b : Bool) → Same x c b → i < pick b (suc (counts d c)) (counts d x) → T (labelled (pick b (replace (counts d c) s (sums d c) i) (sums d x i)))
+      shows x i k true (it q) l = case (λ (y : ℕ). T (labelled y)) i (counts d c) s (sums d c i) (λ z. label (ap (kinds d) (sym q) ∙ k)) (λ z. o .valueLabelled c i (ap (kinds d) (sym q) ∙ k) (omega arith))
+      shows x i k false (other q) l = o .valueLabelled x i k l
+
+-- e leaves its container
+leave-filled : (k n e : ℕ) (at sum : ℕ → ℕ) → k ≡ 2 → Filled k n at sum → Filled k (left e at n) (without e at n) sum
+leave-filled k n e at sum h f = record {
+  packed = without-packed e at n (f .packed);
+  objectEmpty = λ q. absurd (omega arith);
+  sums = λ q. absurd (omega arith);
+  noSums = f .noSums;
+  restSums = λ i l. f .noSums (omega arith) i;
+}
+
+module _ (d : Tables) (w : WellFormed d) (e : ℕ) where
+  leave-ok : (x : ℕ) → kinds d x ≡ 2 → EntityOk (d .entity x) → EntityOk (written (leaving e d x) (d .entity x))
+  leave-ok x h o = let f = leave-filled (kinds d x) (counts d x) e (places d x) (sums d x) h (o .filled) in search arith
+
+  -- what is still there, and that e is in no container
+  pub stayed : (x c : ℕ) → Holds (leave e d) x c → Holds d x c × (kinds d x ≡ 2 → c ≢ e)
+  stayed x c = go (eqb (kinds d x) 2) (same (kinds d x) 2)
+    where
+      go : (b : Bool) → Same (kinds d x) 2 b → Member (λ i. pick b (without e (places d x) (counts d x) i) (places d x i)) (pick b (left e (places d x) (counts d x)) (counts d x)) c → Holds d x c × (kinds d x ≡ 2 → c ≢ e)
+      go true (it q) m = let y = without-member e (places d x) (counts d x) (w .entities x .filled .packed) c m in (y .0, λ z. y .1)
+      go false (other q) m = (m, λ z. absurd (q z))
+
+  pub fewer-there : (x : ℕ) → counts (leave e d) x ≤ counts d x
+  fewer-there x = case (λ (y : ℕ). y ≤ counts d x) (kinds d x) 2 (left e (places d x) (counts d x)) (counts d x) (λ q. without-fewer e (places d x) (counts d x) (w .entities x .filled .packed)) (λ q. omega arith)
+
+  pub leave-wellFormed : WellFormed (leave e d)
+  leave-wellFormed = record {
+    userNumbers = w .userNumbers;
+    entityNumbers = w .entityNumbers;
+    users = w .users;
+    entities = all EntityOk (λ x. eqb (kinds d x) 2) (leaving e d) (d .entity) (w .entities) (λ x t. leave-ok x (eqb→eq (kinds d x) 2 t) (w .entities x));
+    links = shrink (kinds d) (counts d) (places d) (devices d) (w .links) (counts (leave e d)) (places (leave e d)) (λ x c h. stayed x c h .0) fewer-there;
+  }
+
+  pub leave-secure : Secure d → Secure (leave e d)
+  leave-secure o = record {
+    contained = λ x c h. o .contained x c (stayed x c h .0);
+    seen = λ u c on h. o .seen u c on (stayed (devices d u) c h .0);
+    valueLabelled = λ x i k l. o .valueLabelled x i k (omega (arith, fewer-there x));
+    roles = o .roles;
+    ceiling = o .ceiling;
+  }

@@ -1,0 +1,55 @@
+-- The effects that set words of one record and touch no place (rules 6.4 to 6.7 and 6.14 to 6.20).
+use Prim.Native.Nat.{suc, ℕ}
+use lib.Dec.{eqb, ltb}
+use Rattle.model.specs.Basics.Choice.{pick}
+use Rattle.model.specs.Tables.Edits.{_and_, onEntity, onUser, userWord, word}
+use Rattle.model.specs.Tables.Words.{Tables, authorised, clearance, current, held, heldOp, level, mark, maximum, missed, missedLimit, releasedType, releaser, type, value}
+
+-- Rule 6.4: the value of e is v.
+abbrev pub edit : ℕ → ℕ → Tables → Tables
+edit e v = onEntity e (word value v)
+
+-- Rule 6.5: a's value into b.
+abbrev pub copy : ℕ → ℕ → Tables → Tables
+copy a b d = edit b (d .entity a value) d
+
+-- Rules 6.6 and 6.18: the level of e is v.
+abbrev pub setLevel : ℕ → ℕ → Tables → Tables
+setLevel e v = onEntity e (word level v)
+
+-- Rule 6.7: the mark of e is v.
+abbrev pub setMark : ℕ → ℕ → Tables → Tables
+setMark e v = onEntity e (word mark v)
+
+-- Rule 6.14: the current roles of u are v.
+abbrev pub setCurrent : ℕ → ℕ → Tables → Tables
+setCurrent u v = onUser u (userWord current v)
+
+-- Rule 6.15: the clearance of u is v.
+abbrev pub setClearance : ℕ → ℕ → Tables → Tables
+setClearance u v = onUser u (userWord clearance v)
+
+-- Rule 6.16: the authorised roles of u are v.
+abbrev pub setAuthorised : ℕ → ℕ → Tables → Tables
+setAuthorised u v = onUser u (userWord authorised v)
+
+-- Rule 6.17: the maximum of the device e is v.
+abbrev pub setMaximum : ℕ → ℕ → Tables → Tables
+setMaximum e v = onEntity e (word maximum v)
+
+-- Rule 6.19: e is released, and its releaser is u.
+abbrev pub release : ℕ → ℕ → Tables → Tables
+release u e = onEntity e (word type releasedType and word releaser u)
+
+-- Rule 6.20: the notice of u is empty.
+abbrev pub acknowledge : ℕ → Tables → Tables
+acknowledge u = onUser u (userWord held 0 and userWord heldOp 0 and userWord missed 0)
+
+-- Rule 8.2: the notice of u after a refusal r of an operation o. The first refusal stays until it is acknowledged; the count
+-- grows by one and stops.
+abbrev pub notice : ℕ → ℕ → ℕ → Tables → Tables
+notice u r o d = onUser u
+    (userWord held (pick (eqb (d .user u held) 0) r (d .user u held))
+    and userWord heldOp (pick (eqb (d .user u held) 0) o (d .user u heldOp))
+    and userWord missed (pick (ltb (d .user u missed) missedLimit) (suc (d .user u missed)) missedLimit))
+    d

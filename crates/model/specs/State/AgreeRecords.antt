@@ -1,0 +1,168 @@
+-- The tests of a record by itself agree with the statements of rule 3.
+use mathlib.Core.Bool.{Bool, false, true}
+use mathlib.Core.Logic.{_≢_, _⊎_}
+use mathlib.Core.Path.{_≡_}
+use Prim.Native.Nat.{_%_, _/_, _<_, _≤_, suc, ℕ}
+use native.Mathlib.Omega.{arith}
+use lib.Dec.{ltb}
+use Rattle.model.specs.Basics.Agree.{Agrees, agreement, agrees-and, agrees-as, agrees-eq, agrees-every, agrees-imp, agrees-le}
+use Rattle.model.specs.Basics.Choice.{Below, below, over, under}
+use Rattle.model.specs.Basics.Tests.{imp}
+use Rattle.model.specs.Effect.Screens.{off}
+use Rattle.model.specs.Effect.Words.{notice}
+use Rattle.model.specs.Level.{levelCount, roleSets}
+use Rattle.model.specs.State.Tests.{accessTest, entityTest, filledTest, goodTest, nobodyTest, noneTest, noticeTest, packedTest, shapeTest, userTest}
+use Rattle.model.specs.State.WellFormed.{Access, EntityOk, Filled, GoodTriple, Notice, Shape, UserOk}
+use Rattle.model.specs.Tables.Edits.{row}
+use Rattle.model.specs.Tables.RowLaws.{first-zero}
+use Rattle.model.specs.Tables.Rows.{Packed, seek}
+use Rattle.model.specs.Tables.Words.{EntityWord, UserWord, authorised, clearance, count, current, device, held, heldOp, kind, level, mark, maximum, missed, place, placeCount, present, releaser, shown, spare, sums, triple, type, value}
+
+pub shape-agrees : (k t l m v r x : ℕ) → Agrees (shapeTest k t l m v r x) (Shape k t l m v r x)
+unfolding shapeTest
+shape-agrees k t l m v r x = agrees-as
+    {P = (k ≤ 3) × ((t ≤ 2) × ((l < 1024) × ((m ≤ 1) × ((x < 1024) × ((t ≢ 0 → k ≡ 2) × ((m ≢ 0 → k ≡ 2)
+    × ((t ≡ 2 → (1 ≤ r) × (r ≤ 16)) × ((t ≢ 2 → r ≡ 0) × ((k ≢ 3 → x ≡ 0) × (k ≡ 3 → v ≡ 0))))))))))}
+    (λ z. search) (λ s. search) (search agreement depth 20)
+
+-- a row of eight has nothing past its end
+pub packed-agrees : (row : ℕ → ℕ) (n : ℕ) → ((i : ℕ) → 8 ≤ i → row i ≡ 0) → Agrees (packedTest row n) (Packed row n)
+unfolding packedTest
+packed-agrees row n out = agrees-as
+    {P = (n ≤ 8) × (((i : ℕ) → i < 8 → i < n → 1 ≤ row i) × (((i : ℕ) → i < 8 → n ≤ i → row i ≡ 0) × ((i : ℕ) → i < 8 → (j : ℕ) → j < 8 → i < n → j < n → row i ≡ row j → i ≡ j)))}
+    (λ z. record {
+      room = z .0;
+      used = λ i h. z .1 .0 i (omega arith) h;
+      rest = λ i h. rest z i h (below i 8);
+      distinct = λ i j h l e. z .1 .1 .1 i (omega arith) j (omega arith) h l e;
+    })
+    (λ p. (p .room, (λ i l h. p .used i h, (λ i l h. p .rest i h, λ i l j m h k e. p .distinct i j h k e))))
+    (search agreement depth 20)
+  where
+    rest : (n ≤ 8) × (((i : ℕ) → i < 8 → i < n → 1 ≤ row i) × (((i : ℕ) → i < 8 → n ≤ i → row i ≡ 0) × ((i : ℕ) → i < 8 → (j : ℕ) → j < 8 → i < n → j < n → row i ≡ row j → i ≡ j)))
+        → (i : ℕ) → n ≤ i → {b : Bool} → Below i 8 b → row i ≡ 0
+    rest z i h (under l) = z .1 .1 .0 i l h
+    rest z i h (over l) = out i l
+
+notice-agrees : (h o n : ℕ) → Agrees (noticeTest h o n) (Notice h o n)
+unfolding noticeTest
+notice-agrees h o n = agrees-as
+    {P = ((h ≡ 0) ⊎ ((5 ≤ h) × (h ≤ 16))) × ((o ≤ 20) × ((n ≤ 65535) × ((h ≡ 0 → n ≡ 0) × ((n ≡ 0 → h ≡ 0) × (h ≡ 0 → o ≡ 0)))))}
+    (λ z. search) (λ s. search) (search agreement depth 20)
+
+-- a row of eight is zero from its eighth place on
+abbrev pub Eight : (ℕ → ℕ) → Type 0
+Eight r = (i : ℕ) → placeCount ≤ i → r i ≡ 0
+
+within : (r : ℕ → ℕ) → Eight r → ((i : ℕ) → i < 8 → r i ≡ 0) → (i : ℕ) → r i ≡ 0
+within r out f i = go (ltb i 8) (below i 8)
+  where
+    go : (b : Bool) → Below i 8 b → r i ≡ 0
+    go true (under h) = f i h
+    go false (over h) = out i h
+
+filled-agrees : (k n : ℕ) (at sum : ℕ → ℕ) → Eight at → Eight sum → Agrees (filledTest k n at sum) (Filled k n at sum)
+unfolding filledTest
+filled-agrees k n at sum ea es = agrees-as
+    {P = Packed at n × ((k ≡ 1 → n ≡ 0) × ((k ≡ 3 → (i : ℕ) → i < 8 → i < n → (1 ≤ sum i) × (sum i ≤ 7)) × ((k ≢ 3 → (i : ℕ) → i < 8 → sum i ≡ 0) × ((i : ℕ) → i < 8 → n ≤ i → sum i ≡ 0))))}
+    (λ z. record {
+      packed = z .0;
+      objectEmpty = z .1 .0;
+      sums = λ q i h. z .1 .1 .0 q i (omega (arith, z .0 .room)) h;
+      noSums = λ q. within sum es (z .1 .1 .1 .0 q);
+      restSums = λ i h. go z i h (ltb i 8) (below i 8);
+    })
+    (λ f. (f .packed, (f .objectEmpty, (λ q i h l. f .sums q i l, (λ q i h. f .noSums q i, λ i h l. f .restSums i l)))))
+    (agrees-and (packed-agrees at n ea) (search agreement depth 20))
+  where
+    go : Packed at n × ((k ≡ 1 → n ≡ 0) × ((k ≡ 3 → (i : ℕ) → i < 8 → i < n → (1 ≤ sum i) × (sum i ≤ 7)) × ((k ≢ 3 → (i : ℕ) → i < 8 → sum i ≡ 0) × ((i : ℕ) → i < 8 → n ≤ i → sum i ≡ 0))))
+        → (i : ℕ) → n ≤ i → (b : Bool) → Below i 8 b → sum i ≡ 0
+    go z i h true (under l) = z .1 .1 .1 .1 i l h
+    go z i h false (over l) = es i l
+
+good-agrees : (t : ℕ) → Agrees (goodTest t) (GoodTriple t)
+unfolding goodTest
+good-agrees t = agrees-as
+    {P = ((1 ≤ t / 65536) × (t / 65536 ≤ 24)) × (((1 ≤ t / 256 % 256) × (t / 256 % 256 ≤ 20)) × ((1 ≤ t % 256) × (t % 256 ≤ 2)))}
+    (λ z. search) (λ s. search) (search agreement depth 20)
+
+access-agrees : (r : ℕ → ℕ) → Eight r → Agrees (accessTest r) ((n : ℕ) × Access n r)
+unfolding accessTest
+access-agrees r out = agrees-as
+    {P = Packed r (seek 0 r 8) × ((i : ℕ) → i < 8 → i < seek 0 r 8 → GoodTriple (r i))}
+    (λ z. (seek 0 r 8, record { packed = z .0; good = λ i h. z .1 i (omega (arith, z .0 .room)) h }))
+    (λ a. let e = first-zero r (a .0) (a .1 .packed) in (rw e (a .1 .packed), λ i h l. a .1 .good i (omega arith)))
+    (agrees-and (packed-agrees r (seek 0 r 8) out) (agrees-every 8 (λ i. imp (ltb i (seek 0 r 8)) (goodTest (r i))) (λ i. i < seek 0 r 8 → GoodTriple (r i)) (λ i. agrees-imp (agrees-le (suc i) (seek 0 r 8)) (good-agrees (r i)))))
+
+pub record Eights (w : EntityWord → ℕ) : Type 0 where
+  pub place8 : Eight (λ i. w (place i))
+  pub shown8 : Eight (λ i. w (shown i))
+  pub triple8 : Eight (λ i. w (triple i))
+
+none-agrees : (w : EntityWord → ℕ) → Eights w → Agrees (noneTest w) ((f : EntityWord) → w f ≡ 0)
+unfolding noneTest
+none-agrees w o = agrees-as
+    {P = (w kind ≡ 0) × ((w type ≡ 0) × ((w level ≡ 0) × ((w mark ≡ 0) × ((w value ≡ 0) × ((w releaser ≡ 0) × ((w maximum ≡ 0) × ((w count ≡ 0)
+    × (((i : ℕ) → i < 8 → w (place i) ≡ 0) × (((i : ℕ) → i < 8 → w (shown i) ≡ 0) × ((i : ℕ) → i < 8 → w (triple i) ≡ 0))))))))))}
+    (λ z. elim [
+      | kind ↦ z .0
+      | type ↦ z .1 .0
+      | level ↦ z .1 .1 .0
+      | mark ↦ z .1 .1 .1 .0
+      | value ↦ z .1 .1 .1 .1 .0
+      | releaser ↦ z .1 .1 .1 .1 .1 .0
+      | maximum ↦ z .1 .1 .1 .1 .1 .1 .0
+      | count ↦ z .1 .1 .1 .1 .1 .1 .1 .0
+      | place i ↦ within (λ j. w (place j)) (o .place8) (z .1 .1 .1 .1 .1 .1 .1 .1 .0) i
+      | shown i ↦ within (λ j. w (shown j)) (o .shown8) (z .1 .1 .1 .1 .1 .1 .1 .1 .1 .0) i
+      | triple i ↦ within (λ j. w (triple j)) (o .triple8) (z .1 .1 .1 .1 .1 .1 .1 .1 .1 .1) i
+    ])
+    (λ f. (f kind, (f type, (f level, (f mark, (f value, (f releaser, (f maximum, (f count, (λ i h. f (place i), (λ i h. f (shown i), λ i h. f (triple i))))))))))))
+    (search agreement depth 20)
+
+pub entity-agrees : (w : EntityWord → ℕ) → Eights w → Agrees (entityTest w) (EntityOk w)
+unfolding entityTest
+entity-agrees w o = agrees-as
+    {P = (w kind ≡ 0 → (f : EntityWord) → w f ≡ 0) × (Shape (w kind) (w type) (w level) (w mark) (w value) (w releaser) (w maximum)
+    × (Filled (w kind) (w count) (λ i. w (place i)) (λ i. w (shown i)) × ((n : ℕ) × Access n (λ i. w (triple i)))))}
+    (λ z. record { absent = z .0; shape = z .1 .0; filled = z .1 .1 .0; access = z .1 .1 .1 })
+    (λ e. (e .absent, (e .shape, (e .filled, e .access))))
+    (agrees-and (agrees-imp (agrees-eq (w kind) 0) (none-agrees w o)) (agrees-and (shape-agrees (w kind) (w type) (w level) (w mark) (w value) (w releaser) (w maximum))
+    (agrees-and (filled-agrees (w kind) (w count) (λ i. w (place i)) (λ i. w (shown i)) (o .place8) (o .shown8)) (access-agrees (λ i. w (triple i)) (o .triple8)))))
+
+nobody-agrees : (w : UserWord → ℕ) → Agrees (nobodyTest w)
+    ((w present ≡ 0) × ((w clearance ≡ 0) × ((w authorised ≡ 0) × ((w current ≡ 0) × ((w device ≡ 0) × ((w held ≡ 0) × ((w heldOp ≡ 0) × (w missed ≡ 0))))))))
+unfolding nobodyTest
+nobody-agrees w = search agreement depth 20
+
+-- Rules 3.1, 3.2, 3.17, 3.19 to 3.21.
+pub user-agrees : (w : UserWord → ℕ) → Eight (λ i. w (spare i)) → Agrees (userTest w) (UserOk w)
+unfolding userTest
+user-agrees w o = agrees-as
+    {P = (w present ≡ 0 → (w present ≡ 0) × ((w clearance ≡ 0) × ((w authorised ≡ 0) × ((w current ≡ 0) × ((w device ≡ 0) × ((w held ≡ 0) × ((w heldOp ≡ 0) × (w missed ≡ 0))))))))
+    × ((w present ≤ 1) × ((w clearance < levelCount) × ((w authorised < roleSets) × ((w current < roleSets) × (((i : ℕ) → i < placeCount → w (spare i) ≡ 0) × ((w device ≡ 0 → w current ≡ 0) × Notice (w held) (w heldOp) (w missed)))))))}
+    (λ z. record {
+      absent = λ q. let y = z .0 q in elim [
+        | present ↦ y .0
+        | clearance ↦ y .1 .0
+        | authorised ↦ y .1 .1 .0
+        | current ↦ y .1 .1 .1 .0
+        | device ↦ y .1 .1 .1 .1 .0
+        | held ↦ y .1 .1 .1 .1 .1 .0
+        | heldOp ↦ y .1 .1 .1 .1 .1 .1 .0
+        | missed ↦ y .1 .1 .1 .1 .1 .1 .1
+        | spare i ↦ within (λ j. w (spare j)) o (z .1 .1 .1 .1 .1 .0) i
+      ];
+      presentIn = z .1 .0;
+      clearanceIn = z .1 .1 .0;
+      authorisedIn = z .1 .1 .1 .0;
+      currentIn = z .1 .1 .1 .1 .0;
+      spareZero = within (λ j. w (spare j)) o (z .1 .1 .1 .1 .1 .0);
+      off = z .1 .1 .1 .1 .1 .1 .0;
+      notice = z .1 .1 .1 .1 .1 .1 .1;
+    })
+    (λ u. (
+      λ q. let f = u .absent q in (f present, (f clearance, (f authorised, (f current, (f device, (f held, (f heldOp, f missed))))))),
+      (u .presentIn, (u .clearanceIn, (u .authorisedIn, (u .currentIn, (λ i h. u .spareZero i, (u .off, u .notice)))))),
+    ))
+    (search (agreement, notice-agrees, nobody-agrees) depth 20)

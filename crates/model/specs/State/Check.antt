@@ -1,0 +1,94 @@
+-- The tests of what records say of one another (rules 3.6, 3.13 to 3.16, 3.18), of well-formed and secure tables (rules 3 and 4),
+-- and the answer of the state check (rule 8.5).
+use mathlib.Core.Bool.{Bool, _&&_, not}
+use mathlib.Core.List.{List}
+use Prim.Native.Nat.{suc, ℕ}
+use lib.Dec.{eqb, leb, ltb}
+use lib.ListN.{length}
+use Rattle.model.specs.Basics.Choice.{pick}
+use Rattle.model.specs.Basics.Tests.{every, imp}
+use Rattle.model.specs.Level.{atMost, roleCount, subset}
+use Rattle.model.specs.State.Climb.{up}
+use Rattle.model.specs.State.Secure.{labelled}
+use Rattle.model.specs.State.Tests.{entityTest, userTest}
+use Rattle.model.specs.Tables.Layout.{tablesOf, wordCount}
+use Rattle.model.specs.Tables.Rows.{seek}
+use Rattle.model.specs.Tables.Words.{Tables, authorised, clearance, containerKind, counts, current, deviceKind, devices, entityCount, kinds, level, maximum, objectKind, placeCount, places, sums, userCount}
+
+-- a stands directly in the container b
+unfoldable pub inTest : (ℕ → ℕ) → (ℕ → ℕ) → (ℕ → ℕ → ℕ) → ℕ → ℕ → Bool
+inTest k n at b a = eqb (k b) containerKind && ltb (seek a (at b) (n b)) (n b)
+
+-- the first container that a stands in, or 0
+unfoldable pub spotOf : (ℕ → ℕ) → (ℕ → ℕ) → (ℕ → ℕ → ℕ) → ℕ → ℕ
+spotOf k n at a = seek 1 (λ i. pick (inTest k n at (suc i) a) 1 0) entityCount
+
+unfoldable pub parent : (ℕ → ℕ) → (ℕ → ℕ) → (ℕ → ℕ → ℕ) → ℕ → ℕ
+parent k n at a = pick (ltb (spotOf k n at a) entityCount) (suc (spotOf k n at a)) 0
+
+-- Rule 3.6: contents are present and no devices.
+unfoldable pub contentsTest : (k n : ℕ → ℕ) (at : ℕ → ℕ → ℕ) (dev : ℕ → ℕ) → Bool
+contentsTest k n at dev = every entityCount (λ e. every placeCount (λ i. imp (ltb i (n (suc e))) (leb objectKind (k (at (suc e) i)) && leb (k (at (suc e) i)) containerKind)))
+
+-- Rule 3.13: no entity stands in two containers.
+unfoldable pub oneTest : (k n : ℕ → ℕ) (at : ℕ → ℕ → ℕ) (dev : ℕ → ℕ) → Bool
+oneTest k n at dev = every entityCount (λ a. imp (eqb (k (suc a)) containerKind) (every entityCount (λ b. imp (eqb (k (suc b)) containerKind)
+    (every placeCount (λ i. every placeCount (λ j. imp (ltb i (n (suc a))) (imp (ltb j (n (suc b))) (imp (eqb (at (suc a) i) (at (suc b) j)) (eqb (suc a) (suc b))))))))))
+
+-- Rule 3.14: from every entity the way up ends.
+unfoldable pub loopTest : (k n : ℕ → ℕ) (at : ℕ → ℕ → ℕ) (dev : ℕ → ℕ) → Bool
+loopTest k n at dev = every entityCount (λ e. up (parent k n at) (suc entityCount) (suc e))
+
+-- Rule 3.15: a user's device is a present device.
+unfoldable pub deviceTest : (k n : ℕ → ℕ) (at : ℕ → ℕ → ℕ) (dev : ℕ → ℕ) → Bool
+deviceTest k n at dev = every userCount (λ u. imp (not (eqb (dev (suc u)) 0)) (eqb (k (dev (suc u))) deviceKind))
+
+-- Rule 3.16: no two users on one device.
+unfoldable pub aloneTest : (k n : ℕ → ℕ) (at : ℕ → ℕ → ℕ) (dev : ℕ → ℕ) → Bool
+aloneTest k n at dev = every userCount (λ u. every userCount (λ v. imp (not (eqb (dev (suc u)) 0)) (imp (eqb (dev (suc u)) (dev (suc v))) (eqb (suc u) (suc v)))))
+
+-- Rule 3.18: a device that nobody is on shows nothing.
+unfoldable pub idleTest : (k n : ℕ → ℕ) (at : ℕ → ℕ → ℕ) (dev : ℕ → ℕ) → Bool
+idleTest k n at dev = every entityCount (λ e. imp (eqb (k (suc e)) deviceKind) (imp (every userCount (λ u. not (eqb (dev (suc u)) (suc e)))) (eqb (n (suc e)) 0)))
+
+unfoldable pub linksTest : (k n : ℕ → ℕ) (at : ℕ → ℕ → ℕ) (dev : ℕ → ℕ) → Bool
+linksTest k n at dev = contentsTest k n at dev && (oneTest k n at dev && (loopTest k n at dev && (deviceTest k n at dev && (aloneTest k n at dev && idleTest k n at dev))))
+
+-- Rule 3.
+unfoldable pub wellFormedTest : Tables → Bool
+wellFormedTest d = every userCount (λ u. userTest (d .user (suc u)))
+    && (every entityCount (λ e. entityTest (d .entity (suc e))) && linksTest (kinds d) (counts d) (places d) (devices d))
+
+-- Rule 4.1: contents at most what holds them.
+unfoldable pub containedTest : Tables → ℕ → Bool
+containedTest d e = every placeCount (λ i. imp (ltb i (counts d e)) (atMost (d .entity (places d e i) level) (d .entity e level)))
+
+-- Rule 4.2: what a logged-on device shows is at most its user's clearance.
+unfoldable pub seenTest : Tables → ℕ → Bool
+seenTest d u = imp (not (eqb (devices d u) 0))
+    (every placeCount (λ i. imp (ltb i (counts d (devices d u))) (atMost (d .entity (places d (devices d u) i) level) (d .user u clearance))))
+
+-- Rule 4.3: value shown means label shown.
+unfoldable pub labelledTest : Tables → ℕ → Bool
+labelledTest d e = imp (eqb (kinds d e) deviceKind) (every placeCount (λ i. imp (ltb i (counts d e)) (labelled (sums d e i))))
+
+-- Rule 4.4: current roles within authorised.
+unfoldable pub rolesTest : Tables → ℕ → Bool
+rolesTest d u = subset roleCount (d .user u current) (d .user u authorised)
+
+-- Rule 4.5: a device's level at most its maximum.
+unfoldable pub ceilingTest : Tables → ℕ → Bool
+ceilingTest d e = imp (eqb (kinds d e) deviceKind) (atMost (d .entity e level) (d .entity e maximum))
+
+-- Rule 4.
+unfoldable pub secureTest : Tables → Bool
+secureTest d = every entityCount (λ e. containedTest d (suc e)) && (every userCount (λ u. seenTest d (suc u))
+    && (every entityCount (λ e. labelledTest d (suc e)) && (every userCount (λ u. rolesTest d (suc u)) && every entityCount (λ e. ceilingTest d (suc e)))))
+
+-- Rule 8.5: 2 where the tables are not well-formed, else 3 where they are not secure, else 0.
+unfoldable pub judge : Tables → ℕ
+judge d = pick (wellFormedTest d) (pick (secureTest d) 0 3) 2
+
+-- Rule 8.5 of any words: 1 where they are not 2,304.
+unfoldable pub check : List ℕ → ℕ
+check t = pick (eqb (length t) wordCount) (judge (tablesOf t)) 1

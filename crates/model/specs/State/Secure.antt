@@ -1,0 +1,30 @@
+-- Rule 4, secure (Definition 2): a named part for each sentence.
+use mathlib.Core.Bool.{Bool}
+use mathlib.Core.Logic.{_≢_}
+use mathlib.Core.Path.{_≡_}
+use Prim.Native.Nat.{_<_, ℕ}
+use lib.Dec.{T}
+use Rattle.model.specs.Basics.Tests.{imp}
+use Rattle.model.specs.Level.{AtMost, Subset, bit, roleCount}
+use Rattle.model.specs.State.WellFormed.{Holds, WellFormed}
+use Rattle.model.specs.Tables.Words.{Tables, authorised, clearance, counts, current, deviceKind, devices, kinds, labelBit, level, maximum, sums, valueBit}
+
+-- the value is shown only where the label is
+unfoldable pub labelled : ℕ → Bool
+labelled s = imp (bit valueBit s) (bit labelBit s)
+
+pub record Secure (d : Tables) : Type 0 where
+  -- rule 4.1
+  pub contained : (e c : ℕ) → Holds d e c → AtMost (d .entity c level) (d .entity e level)
+  -- rule 4.2
+  pub seen : (u c : ℕ) → devices d u ≢ 0 → Holds d (devices d u) c → AtMost (d .entity c level) (d .user u clearance)
+  -- rule 4.3
+  pub valueLabelled : (e i : ℕ) → kinds d e ≡ deviceKind → i < counts d e → T (labelled (sums d e i))
+  -- rule 4.4
+  pub roles : (u : ℕ) → Subset roleCount (d .user u current) (d .user u authorised)
+  -- rule 4.5
+  pub ceiling : (e : ℕ) → kinds d e ≡ deviceKind → AtMost (d .entity e level) (d .entity e maximum)
+
+-- well-formed and secure
+abbrev pub Good : Tables → Type 0
+Good d = WellFormed d × Secure d
