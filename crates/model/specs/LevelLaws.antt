@@ -56,14 +56,14 @@ pub levels-ordered : (k : ℕ) → PartialOrder ℕ (AtMostOver k)
 levels-ordered k = record { reflexive = atMostOver-refl k; transitive = atMostOver-trans k; antisymmetric = atMostOver-antisym k }
 
 -- the level 0 is at most every level
-pub lowest : (k b : ℕ) → AtMostOver k 0 b
+pub atMostOver-lowest : (k b : ℕ) → AtMostOver k 0 b
 unfolding rank
-lowest k b = atMost-agrees k 0 b .from (omega (arith, zero-div (2 ^ k)), λ i h t. absurd (bit-zero i t))
+atMostOver-lowest k b = atMost-agrees k 0 b .from (omega (arith, zero-div (2 ^ k)), λ i h t. absurd (bit-zero i t))
 
 -- of the levels of r ranks, the one with the highest rank and all compartments is at least every one
-pub highest : (k r a : ℕ) → a < r * 2 ^ k → AtMostOver k a (r * 2 ^ k - 1)
+pub atMostOver-highest : (k r a : ℕ) → a < r * 2 ^ k → AtMostOver k a (r * 2 ^ k - 1)
 unfolding rank
-highest k r a h = rw parts (atMost-agrees k a ((r - 1) * 2 ^ k + (2 ^ k - 1)) .from (ranked, λ i l t. all i l))
+atMostOver-highest k r a h = rw parts (atMost-agrees k a ((r - 1) * 2 ^ k + (2 ^ k - 1)) .from (ranked, λ i l t. all i l))
   where
     inside : a / 2 ^ k < r
     inside = div-lt-iff-lt-mul (pow-pos k) .1 h
@@ -85,12 +85,12 @@ atMost-ordered = levels-ordered compartmentCount
 -- the desk's lowest level
 pub atMost-lowest : (b : ℕ) → AtMost 0 b
 unfolding atMost
-atMost-lowest b = lowest compartmentCount b
+atMost-lowest b = atMostOver-lowest compartmentCount b
 
 -- the desk's highest level, 1,023
 pub atMost-highest : (a : ℕ) → a < levelCount → AtMost a (levelCount - 1)
 unfolding atMost
-atMost-highest a h = highest compartmentCount rankCount a h
+atMost-highest a h = atMostOver-highest compartmentCount rankCount a h
 
 -- 256 has the higher rank, and 1 has a compartment that 256 lacks
 pub incomparable : (AtMost 256 1 → ⊥) × (AtMost 1 256 → ⊥)

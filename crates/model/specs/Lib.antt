@@ -5,3 +5,5 @@ pub mod LevelLaws
 pub mod Tables
 pub mod State
 pub mod Effect
+pub mod Request
+pub mod Case

@@ -4,3 +4,12 @@ pub mod EditLaws
 pub mod Rows
 pub mod RowLaws
 pub mod Layout
+pub mod WordAt
+pub mod WordAtLaws
+pub mod RangeLaws
+pub mod LayoutLaws
+pub mod WordsOf
+pub mod WordsOfLaws
+pub mod Sheet
+pub mod SheetLaws
+pub mod Stores

@@ -8,8 +8,6 @@ use lib.Dec.{ltb}
 use Rattle.model.specs.Basics.Agree.{Agrees, agreement, agrees-and, agrees-as, agrees-eq, agrees-every, agrees-imp, agrees-le}
 use Rattle.model.specs.Basics.Choice.{Below, below, over, under}
 use Rattle.model.specs.Basics.Tests.{imp}
-use Rattle.model.specs.Effect.Screens.{off}
-use Rattle.model.specs.Effect.Words.{notice}
 use Rattle.model.specs.Level.{levelCount, roleSets}
 use Rattle.model.specs.State.Tests.{accessTest, entityTest, filledTest, goodTest, nobodyTest, noneTest, noticeTest, packedTest, shapeTest, userTest}
 use Rattle.model.specs.State.WellFormed.{Access, EntityOk, Filled, GoodTriple, Notice, Shape, UserOk}

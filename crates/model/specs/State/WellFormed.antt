@@ -3,8 +3,6 @@
 use mathlib.Core.Logic.{_↔_, _≢_, _⊎_}
 use mathlib.Core.Path.{_≡_}
 use Prim.Native.Nat.{_<_, _≤_, ℕ}
-use Rattle.model.specs.Effect.Screens.{off}
-use Rattle.model.specs.Effect.Words.{notice}
 use Rattle.model.specs.Level.{levelCount, roleSets}
 use Rattle.model.specs.State.Depth.{Inside}
 use Rattle.model.specs.Tables.Rows.{Member, Packed}

@@ -1,0 +1,4 @@
+pub mod Cases
+pub mod S1
+pub mod S1Holds
+pub mod Opened

@@ -1,0 +1,52 @@
+-- How a case is written: what was asked before, what is asked, the answer, and words that stand afterwards.
+use mathlib.Core.Bool.{Bool, _&&_, false, true}
+use mathlib.Core.List.{List, [], _++_, _∷_}
+use Prim.Native.Nat.{ℕ}
+use lib.Dec.{eqb}
+use lib.ListN.{length}
+use Rattle.model.specs.Request.Ladder.{after, answer}
+use Rattle.model.specs.Request.Words.{Request, nameCount, requestOf}
+use Rattle.model.specs.Tables.Sheet.{padded}
+use Rattle.model.specs.Tables.Words.{EntityWord, Tables, UserWord, placeCount}
+
+-- an entity of a sheet: kind, type, level, mark, value, releaser, maximum; its contents, what is shown of them, its triples
+unfoldable pub item : ℕ → ℕ → ℕ → ℕ → ℕ → ℕ → ℕ → List ℕ → List ℕ → List ℕ → List ℕ
+item k t l m v r x cs ss ts =
+    k ∷ t ∷ l ∷ m ∷ v ∷ r ∷ x ∷ length cs ∷ (padded placeCount cs ++ (padded placeCount ss ++ ts))
+
+-- an absent entity of a sheet
+unfoldable pub gone : List ℕ
+gone = []
+
+-- the sixteen words of a request: user, operation, first and second reference, a, b, c
+unfoldable pub asking : ℕ → ℕ → List ℕ → List ℕ → ℕ → ℕ → ℕ → List ℕ
+asking u o r s a b c = u ∷ o ∷ length r ∷ (padded nameCount r ++ (length s ∷ (padded nameCount s ++ (a ∷ b ∷ c ∷ 0 ∷ []))))
+
+unfoldable pub ask : ℕ → ℕ → List ℕ → List ℕ → ℕ → ℕ → ℕ → Request
+ask u o r s a b c = requestOf (asking u o r s a b c)
+
+-- any sixteen words
+unfoldable pub raw : List ℕ → Request
+raw q = requestOf q
+
+-- a word that stands
+pub data Stands : Type 0 where
+  userIs : ℕ → UserWord → ℕ → Stands
+  entityIs : ℕ → EntityWord → ℕ → Stands
+
+unfoldable pub stand : List Stands → Tables → Bool
+stand [] d = true
+stand (userIs u f v ∷ ws) d = elim (eqb (d .user u f) v) [ true ↦ stand ws d | false ↦ false ]
+stand (entityIs e f v ∷ ws) d = elim (eqb (d .entity e f) v) [ true ↦ stand ws d | false ↦ false ]
+
+pub data Case : Type 0 where
+  expect : List Request → Request → ℕ → List Stands → Case
+
+-- the state is handed on, so that what was computed of it is found again
+unfoldable pub passesAt : Tables → List Request → Request → ℕ → List Stands → Bool
+passesAt d [] q n ws = eqb (answer d q) n && stand ws (after d q)
+passesAt d (p ∷ ps) q n ws = passesAt (after d p) ps q n ws
+
+unfoldable pub allPass : Tables → List Case → Bool
+allPass d [] = true
+allPass d (expect qs q n ws ∷ cs) = elim (passesAt d qs q n ws) [ true ↦ allPass d cs | false ↦ false ]

@@ -1,0 +1,128 @@
+-- Rule 7: the ladder of refusals, the answer, and rule 8: what is left afterwards.
+use mathlib.Core.Bool.{Bool, _&&_, _||_, false, not, true}
+use mathlib.Core.List.{List, [], _∷_}
+use mathlib.Core.Option.{none, some}
+use Prim.Native.Nat.{suc, zero, ℕ}
+use lib.Dec.{eqb, leb, ltb}
+use Rattle.model.specs.Basics.Tests.{every, imp}
+use Rattle.model.specs.Effect.Words.{notice}
+use Rattle.model.specs.Level.{atMost, roleCount}
+use Rattle.model.specs.Request.Asked.{asked, basisOf, hasRole, operand}
+use Rattle.model.specs.Request.Conditions.{Condition, Kind, Range, unused}
+use Rattle.model.specs.Request.Operations.{Op, Own, numberOf, offDuty, opOf, refuse, rowOf}
+use Rattle.model.specs.Request.Words.{Reference, Request, nameCount}
+use Rattle.model.specs.State.Check.{secureTest, wellFormedTest}
+use Rattle.model.specs.Tables.Rows.{seek}
+use Rattle.model.specs.Tables.Words.{Tables, clearance, devices, firstNoticed, level, mark, placeCount, present, tripleOf, triples, userCount, whoRole}
+
+abbrev pub Rung : Type 0
+Rung = Tables → Request → Bool
+
+-- a question put to the operation that the request names; no where it names none
+unfoldable pub ofOp : Request → (Op → Bool) → Bool
+ofOp q p = elim (opOf (q .operation)) [ none ↦ false | some o ↦ p o ]
+
+-- some operand, by its position and the kind asked of it
+unfoldable pub someOperand : ℕ → List Kind → (ℕ → Kind → Bool) → Bool
+someOperand k [] p = false
+someOperand k (x ∷ xs) p = elim (p k x) [ true ↦ true | false ↦ someOperand (suc k) xs p ]
+
+-- Rule 7.2.
+unfoldable pub notWellFormed : Rung
+notWellFormed d q = not (wellFormedTest d)
+
+-- Rule 7.3.
+unfoldable pub notSecure : Rung
+notSecure d q = not (secureTest d)
+
+-- Rule 7.4.
+unfoldable pub unknownUser : Rung
+unknownUser d q = not ((leb 1 (q .user) && leb (q .user) userCount) && not (eqb (d .user (q .user) present) 0))
+
+-- Rule 7.5: a reference that is used has 1 to 4 names, another none, and the words behind its names are zero;
+unfoldable pub lengthFits : ℕ → List Kind → Reference → Bool
+lengthFits k [] r = eqb (r .length) 0
+lengthFits zero (x ∷ xs) r = leb 1 (r .length) && leb (r .length) nameCount
+lengthFits (suc k) (x ∷ xs) r = lengthFits k xs r
+
+unfoldable pub namesFit : Reference → Bool
+namesFit r = every nameCount (λ i. imp (leb (r .length) i) (eqb (r .name i) 0))
+
+-- the arguments are in their ranges, and zero where they are not used; word 15 is zero.
+unfoldable pub rangeAt : ℕ → List Range → Range
+rangeAt k [] = unused
+rangeAt zero (r ∷ rs) = r
+rangeAt (suc k) (r ∷ rs) = rangeAt k rs
+
+unfoldable pub fits : Op → Request → Bool
+fits o q = lengthFits 0 (rowOf o .operands) (q .first) && (lengthFits 1 (rowOf o .operands) (q .second) && (namesFit (q .first) && (namesFit (q .second)
+    && (rangeAt 0 (rowOf o .arguments) (q .a) && (rangeAt 1 (rowOf o .arguments) (q .b) && (rangeAt 2 (rowOf o .arguments) (q .c) && eqb (q .last) 0))))))
+
+unfoldable pub notUnderstood : Rung
+notUnderstood d q = not (ofOp q (λ o. fits o q))
+
+-- Rule 7.6.
+unfoldable pub notLoggedOn : Rung
+notLoggedOn d q = ofOp q (λ o. not (offDuty o) && eqb (devices d (q .user)) 0)
+
+-- Rule 7.7.
+unfoldable pub leadsNowhere : Rung
+leadsNowhere d q = ofOp q (λ o. someOperand 1 (rowOf o .operands) (λ k x. eqb (operand (asked d q) k) 0))
+
+-- Rule 7.8: a triple of e names the user, or a role that the user has now, for this operation and position.
+unfoldable pub permits : Tables → ℕ → ℕ → ℕ → ℕ → Bool
+permits d u o k e = ltb (seek (tripleOf u o k) (triples d e) placeCount) placeCount
+    || not (every roleCount (λ r. not (hasRole d u r && ltb (seek (tripleOf (whoRole r) o k) (triples d e) placeCount) placeCount)))
+
+unfoldable pub noAccess : Rung
+noAccess d q = ofOp q (λ o. someOperand 1 (rowOf o .operands) (λ k x. not (permits d (q .user) (numberOf o) k (operand (asked d q) k))))
+
+-- Rule 7.9: a marked container on the way whose level the clearance l is not at least.
+unfoldable pub bars : Tables → ℕ → List ℕ → Bool
+bars d l [] = false
+bars d l (e ∷ es) = elim (not (eqb (d .entity e mark) 0) && not (atMost (d .entity e level) l)) [ true ↦ true | false ↦ bars d l es ]
+
+unfoldable pub notCleared : Rung
+notCleared d q = ofOp q (λ o. someOperand 1 (rowOf o .operands) (λ k x. bars d (d .user (q .user) clearance) (basisOf (asked d q) k)))
+
+-- Rule 7.10.
+unfoldable pub wrongKind : Rung
+wrongKind d q = ofOp q (λ o. someOperand 1 (rowOf o .operands) (λ k x. not (x d (operand (asked d q) k))))
+
+-- Rules 7.11 to 7.16: the operation's own condition of that number.
+unfoldable pub refused : ℕ → List Own → Condition
+refused n [] d s = false
+refused n (refuse k c ∷ cs) d s = elim (eqb k n) [ true ↦ c d s | false ↦ refused n cs d s ]
+
+unfoldable pub ownRung : ℕ → Rung
+ownRung n d q = ofOp q (λ o. refused n (rowOf o .conditions) d (asked d q))
+
+-- the ladder, from 2 on: rung 1 is judged before there are tables
+unfoldable pub ladder : List Rung
+ladder = notWellFormed ∷ notSecure ∷ unknownUser ∷ notUnderstood ∷ notLoggedOn ∷ leadsNowhere ∷ noAccess ∷ notCleared ∷ wrongKind
+    ∷ ownRung 11 ∷ ownRung 12 ∷ ownRung 13 ∷ ownRung 14 ∷ ownRung 15 ∷ ownRung 16 ∷ []
+
+-- the number of the first rung that applies, the first of the list being n; 0 where none does
+unfoldable pub lowest : ℕ → List Rung → Tables → Request → ℕ
+lowest n [] d q = 0
+lowest n (r ∷ rs) d q = elim (r d q) [ true ↦ n | false ↦ lowest (suc n) rs d q ]
+
+-- Rule 7.0: the answer is the lowest rung that applies, or 0, accepted.
+unfoldable pub answer : Tables → Request → ℕ
+answer d q = lowest 2 ladder d q
+
+-- Rule 8.4: the effect of an accepted request.
+unfoldable pub effect : Tables → Request → Tables
+effect d q = elim (opOf (q .operation)) [ none ↦ d | some o ↦ rowOf o .effect (asked d q) d ]
+
+-- Rule 8.2: the operation that a notice keeps; 0 where the request names none.
+unfoldable pub noticedOp : Request → ℕ
+noticedOp q = elim (opOf (q .operation)) [ none ↦ 0 | some o ↦ numberOf o ]
+
+-- Rules 8.1, 8.2 and 8.4: what an answer n leaves.
+unfoldable pub leaves : ℕ → Tables → Request → Tables
+leaves n d q = elim (eqb n 0) [ true ↦ effect d q | false ↦ elim (ltb n firstNoticed) [ true ↦ d | false ↦ notice (q .user) n (noticedOp q) d ] ]
+
+-- the tables after a request
+unfoldable pub after : Tables → Request → Tables
+after d q = leaves (answer d q) d q

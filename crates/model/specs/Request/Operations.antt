@@ -1,0 +1,101 @@
+-- Rule 6: the twenty operations, and their table: operands, arguments, own conditions, effect.
+use mathlib.Core.Bool.{Bool, _||_, false, true}
+use mathlib.Core.List.{List, [], _∷_}
+use mathlib.Core.Option.{Option, none, some}
+use Prim.Native.Nat.{ℕ}
+use lib.Dec.{eqb}
+use Rattle.model.specs.Effect.Places.{create, delete, move, sortKind, sortType, vacant}
+use Rattle.model.specs.Effect.Screens.{clear, login, logout, show}
+use Rattle.model.specs.Effect.Triples.{grant, revoke}
+use Rattle.model.specs.Effect.Words.{acknowledge, copy, edit, release, setAuthorised, setClearance, setCurrent, setLevel, setMark, setMaximum}
+use Rattle.model.specs.Level.{officer, releasing}
+use Rattle.model.specs.Request.Asked.{Asked, namedTriple, own}
+use Rattle.model.specs.Request.Conditions.{Condition, Kind, Range, aFlag, aLevel, aPosition, aSort, aSum, aUser, aWho, anOperation, createAbove, createNoRoom, currentOutside, deleteForbidden, deviceAbove, deviceLowered, firstAbove, free, grantNoRoom, insecure, isAny, isContainer, isDevice, isDraft, isEntity, lacks, levelLowered, loginTaken, moveInside, moveNoRoom, notAcknowledged, rolesOfAnother, rolesOff, rolesUnauthorised, showAbove, showNoRoom, showUnlabelled, someRoles, userAbsent}
+use Rattle.model.specs.Tables.Words.{Tables}
+
+pub data Op : Type 0 where
+  toCreate toDelete toMove toEdit toCopy toLevel toMark toGrant toRevoke toShow toClear toLogin toLogout toCurrent toClearance toAuthorised toMaximum toDeviceLevel toRelease toAcknowledge : Op
+
+-- "13 b not at most its level" is `refuse 13 createAbove`
+pub data Own : Type 0 where
+  refuse : ℕ → Condition → Own
+
+pub record Row : Type 0 where
+  -- what each operand must be
+  pub operands : List Kind
+  -- the ranges of a, b and c, as many of them as are used
+  pub arguments : List Range
+  -- refusals 11 to 16
+  pub conditions : List Own
+  pub effect : Asked → Tables → Tables
+
+abbrev pub takes : List Kind → List Range → List Own → (Asked → Tables → Tables) → Row
+takes k r c e = record { operands = k; arguments = r; conditions = c; effect = e }
+
+abbrev pub levelEffect : Asked → Tables → Tables
+levelEffect s = setLevel (s .first) (s .a)
+
+abbrev pub clearanceEffect : Asked → Tables → Tables
+clearanceEffect s = setClearance (s .a) (s .b)
+
+-- the table of rule 6, a line or two for each operation
+abbrev pub rowOf : Op → Row
+rowOf toCreate = takes (isContainer ∷ []) (aSort ∷ aLevel ∷ []) (refuse 13 createAbove ∷ refuse 14 createNoRoom ∷ [])
+    (λ s d. create (vacant d) (s .first) (sortKind (s .a)) (sortType (s .a)) (s .b) d)
+rowOf toDelete = takes (isEntity ∷ []) [] (refuse 15 deleteForbidden ∷ []) (λ s. delete (s .first))
+rowOf toMove = takes (isEntity ∷ isContainer ∷ []) [] (refuse 13 firstAbove ∷ refuse 14 moveNoRoom ∷ refuse 15 moveInside ∷ []) (λ s. move (s .first) (s .second))
+rowOf toEdit = takes (isEntity ∷ []) (free ∷ []) [] (λ s. edit (s .first) (s .a))
+rowOf toCopy = takes (isEntity ∷ isEntity ∷ []) [] (refuse 13 firstAbove ∷ []) (λ s. copy (s .first) (s .second))
+rowOf toLevel = takes (isEntity ∷ []) (aLevel ∷ []) (refuse 12 levelLowered ∷ refuse 13 (insecure levelEffect) ∷ []) levelEffect
+rowOf toMark = takes (isContainer ∷ []) (aFlag ∷ []) [] (λ s. setMark (s .first) (s .a))
+rowOf toGrant = takes (isAny ∷ []) (aWho ∷ anOperation ∷ aPosition ∷ []) (refuse 14 grantNoRoom ∷ []) (λ s. grant (s .first) (namedTriple s))
+rowOf toRevoke = takes (isAny ∷ []) (aWho ∷ anOperation ∷ aPosition ∷ []) [] (λ s. revoke (s .first) (namedTriple s))
+rowOf toShow = takes (isEntity ∷ []) (aSum ∷ []) (refuse 13 showAbove ∷ refuse 14 showNoRoom ∷ refuse 15 showUnlabelled ∷ []) (λ s d. show (own d s) (s .first) (s .a) d)
+rowOf toClear = takes [] [] [] (λ s d. clear (own d s) d)
+rowOf toLogin = takes (isDevice ∷ []) [] (refuse 15 loginTaken ∷ []) (λ s. login (s .user) (s .first))
+rowOf toLogout = takes [] [] [] (λ s. logout (s .user))
+rowOf toCurrent = takes [] (aUser ∷ someRoles ∷ []) (refuse 11 rolesOff ∷ refuse 12 rolesOfAnother ∷ refuse 13 rolesUnauthorised ∷ []) (λ s. setCurrent (s .a) (s .b))
+rowOf toClearance = takes [] (aUser ∷ aLevel ∷ []) (refuse 11 userAbsent ∷ refuse 12 (lacks officer) ∷ refuse 13 (insecure clearanceEffect) ∷ []) clearanceEffect
+rowOf toAuthorised = takes [] (aUser ∷ someRoles ∷ []) (refuse 11 userAbsent ∷ refuse 12 (lacks officer) ∷ refuse 13 currentOutside ∷ []) (λ s. setAuthorised (s .a) (s .b))
+rowOf toMaximum = takes (isDevice ∷ []) (aLevel ∷ []) (refuse 12 (lacks officer) ∷ refuse 13 deviceAbove ∷ []) (λ s. setMaximum (s .first) (s .a))
+rowOf toDeviceLevel = takes (isDevice ∷ []) (aLevel ∷ []) (refuse 12 deviceLowered ∷ refuse 13 (insecure levelEffect) ∷ []) levelEffect
+rowOf toRelease = takes (isDraft ∷ []) [] (refuse 12 (lacks releasing) ∷ []) (λ s. release (s .user) (s .first))
+rowOf toAcknowledge = takes [] (free ∷ free ∷ []) (refuse 16 notAcknowledged ∷ []) (λ s. acknowledge (s .user))
+
+-- the operations' numbers
+abbrev pub numberOf : Op → ℕ
+numberOf toCreate = 1
+numberOf toDelete = 2
+numberOf toMove = 3
+numberOf toEdit = 4
+numberOf toCopy = 5
+numberOf toLevel = 6
+numberOf toMark = 7
+numberOf toGrant = 8
+numberOf toRevoke = 9
+numberOf toShow = 10
+numberOf toClear = 11
+numberOf toLogin = 12
+numberOf toLogout = 13
+numberOf toCurrent = 14
+numberOf toClearance = 15
+numberOf toAuthorised = 16
+numberOf toMaximum = 17
+numberOf toDeviceLevel = 18
+numberOf toRelease = 19
+numberOf toAcknowledge = 20
+
+unfoldable pub operations : List Op
+operations = toCreate ∷ toDelete ∷ toMove ∷ toEdit ∷ toCopy ∷ toLevel ∷ toMark ∷ toGrant ∷ toRevoke ∷ toShow ∷ toClear ∷ toLogin ∷ toLogout ∷ toCurrent ∷ toClearance ∷ toAuthorised ∷ toMaximum ∷ toDeviceLevel ∷ toRelease ∷ toAcknowledge ∷ []
+
+-- the operation of a number, if it is one
+unfoldable pub withNumber : ℕ → List Op → Option Op
+withNumber n [] = none
+withNumber n (o ∷ os) = elim (eqb (numberOf o) n) [ true ↦ some o | false ↦ withNumber n os ]
+
+unfoldable pub opOf : ℕ → Option Op
+opOf n = withNumber n operations
+
+-- Rule 7.6: login and acknowledge are open to a requester who is not logged on.
+abbrev pub offDuty : Op → Bool
+offDuty o = eqb (numberOf o) (numberOf toLogin) || eqb (numberOf o) (numberOf toAcknowledge)
