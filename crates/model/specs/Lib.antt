@@ -6,4 +6,5 @@ pub mod Tables
 pub mod State
 pub mod Effect
 pub mod Request
+pub mod Theorem
 pub mod Case

@@ -4,3 +4,4 @@ pub mod Asked
 pub mod Conditions
 pub mod Operations
 pub mod Ladder
+pub mod Allowed
