@@ -1,3 +1,4 @@
 pub mod Choice
 pub mod Tests
 pub mod Agree
+pub mod Reading

@@ -5,3 +5,7 @@ pub mod Conditions
 pub mod Operations
 pub mod Ladder
 pub mod Allowed
+pub mod ReferenceLaws
+pub mod OperationLaws
+pub mod LadderLaws
+pub mod ConditionLaws

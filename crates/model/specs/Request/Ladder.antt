@@ -1,9 +1,12 @@
 -- Rule 7: the ladder of refusals, the answer, and rule 8: what is left afterwards.
 use mathlib.Core.Bool.{Bool, _&&_, _||_, false, not, true}
 use mathlib.Core.List.{List, [], _∷_}
+use mathlib.Core.Logic.{_≢_}
 use mathlib.Core.Option.{none, some}
-use Prim.Native.Nat.{suc, zero, ℕ}
+use mathlib.Core.Path.{_≡_}
+use Prim.Native.Nat.{_<_, suc, zero, ℕ}
 use lib.Dec.{eqb, leb, ltb}
+use Rattle.model.specs.Basics.Choice.{below}
 use Rattle.model.specs.Basics.Tests.{every, imp}
 use Rattle.model.specs.Effect.Words.{notice}
 use Rattle.model.specs.Level.{atMost, roleCount}
@@ -110,6 +113,26 @@ lowest n (r ∷ rs) d q = elim (r d q) [ true ↦ n | false ↦ lowest (suc n) r
 -- Rule 7.0: the answer is the lowest rung that applies, or 0, accepted.
 unfoldable pub answer : Tables → Request → ℕ
 answer d q = lowest 2 ladder d q
+
+-- a rung that never applies
+unfoldable pub never : Rung
+never d q = false
+
+-- the rung at place k of a list, counted from 0
+unfoldable pub rungAt : ℕ → List Rung → Rung
+rungAt k [] = never
+rungAt zero (r ∷ rs) = r
+rungAt (suc k) (r ∷ rs) = rungAt k rs
+
+-- whether rung n applies: 2 to 16 are the ladder's
+unfoldable pub applies : ℕ → Rung
+applies n = rungAt n (never ∷ never ∷ ladder)
+
+-- Rule 7.0 as a statement: a is 0 and no rung applies, or rung a applies and none below it.
+pub record IsAnswer (d : Tables) (q : Request) (a : ℕ) : Type 0 where
+  pub below : (n : ℕ) → n < a → applies n d q ≡ false
+  pub applied : a ≢ 0 → applies a d q ≡ true
+  pub accepted : a ≡ 0 → (n : ℕ) → applies n d q ≡ false
 
 -- Rule 8.4: the effect of an accepted request.
 unfoldable pub effect : Tables → Request → Tables

@@ -1,0 +1,115 @@
+-- The answer is the lowest rung that applies, and nothing else is (rule 7.0); what the rungs over operands and operations say.
+use mathlib.Core.Bool.{Bool, false, not, true}
+use mathlib.Core.List.{List, [], _∷_}
+use mathlib.Core.Logic.{_⊎_, inl, inr}
+use mathlib.Core.Option.{Option, none, some}
+use mathlib.Core.Path.{_∙_, _≡_, ap, refl, subst, sym}
+use Prim.Native.Nat.{_+_, _<_, _≤_, suc, zero, ℕ}
+use native.Mathlib.Omega.{arith}
+use lib.Dec.{T, eqb}
+use lib.ListN.{length}
+use Rattle.model.specs.Basics.Choice.{Same, it, other, same}
+use Rattle.model.specs.Request.Conditions.{Kind}
+use Rattle.model.specs.Request.Ladder.{IsAnswer, Rung, answer, applies, ladder, lowest, never, ofOp, rungAt, someOperand}
+use Rattle.model.specs.Request.Operations.{Op, opOf}
+use Rattle.model.specs.Request.Words.{Request}
+use Rattle.model.specs.Tables.Words.{Tables}
+
+module _ (d : Tables) (q : Request) where
+  Found : ℕ → List Rung → ℕ → Type 0
+  Found n rs a = ((a ≡ 0) × ((k : ℕ) → rungAt k rs d q ≡ false))
+      ⊎ ((k : ℕ) × (a ≡ n + k) × (rungAt k rs d q ≡ true) × ((j : ℕ) → j < k → rungAt j rs d q ≡ false))
+
+  found : (n : ℕ) (rs : List Rung) → Found n rs (lowest n rs d q)
+  unfolding Found lowest rungAt never
+  found n [] = inl (refl, λ k. refl)
+  found n (r ∷ rs) = go (r d q) refl (found (suc n) rs)
+    where
+      first : r d q ≡ false → ((k : ℕ) → rungAt k rs d q ≡ false) → (k : ℕ) → rungAt k (r ∷ rs) d q ≡ false
+      first e f zero = e
+      first e f (suc k) = f k
+
+      firsts : r d q ≡ false → (m : ℕ) → ((j : ℕ) → j < m → rungAt j rs d q ≡ false) → (j : ℕ) → j < suc m → rungAt j (r ∷ rs) d q ≡ false
+      firsts e m f zero h = e
+      firsts e m f (suc j) h = f j (omega arith)
+
+      go : (b : Bool) → r d q ≡ b → Found (suc n) rs (lowest (suc n) rs d q) → Found n (r ∷ rs) (elim b [ true ↦ n | false ↦ lowest (suc n) rs d q ])
+      go true e s = inr (0, omega arith, e, λ j h. absurd (omega arith))
+      go false e (inl s) = inl (s .0, first e (s .1))
+      go false e (inr s) = inr (suc (s .0), omega (arith, s .1), s .2, firsts e (s .0) (s .3))
+
+  -- The answer is the lowest rung that applies.
+  pub answer-is : IsAnswer d q (answer d q)
+  unfolding Found answer applies rungAt never
+  answer-is = go (answer d q) (found 2 ladder)
+    where
+      low : (k : ℕ) → ((j : ℕ) → j < k → rungAt j ladder d q ≡ false) → (n : ℕ) → n < suc (suc k) → applies n d q ≡ false
+      low k f zero h = refl
+      low k f (suc zero) h = refl
+      low k f (suc (suc n)) h = f n (omega arith)
+
+      all : ((k : ℕ) → rungAt k ladder d q ≡ false) → (n : ℕ) → applies n d q ≡ false
+      all f zero = refl
+      all f (suc zero) = refl
+      all f (suc (suc n)) = f n
+
+      go : (a : ℕ) → Found 2 ladder a → IsAnswer d q a
+      go a (inl s) = record { below = λ n h. all (s .1) n; applied = λ h. absurd (h (s .0)); accepted = λ h. all (s .1) }
+      go a (inr s) =
+          let e : a ≡ suc (suc (s .0)) = omega (arith, s .1) in
+          rw e record { below = low (s .0) (s .3); applied = λ h. s .2; accepted = λ h. absurd (omega arith) }
+
+  -- No second answer says the same.
+  pub answer-unique : (a b : ℕ) → IsAnswer d q a → IsAnswer d q b → a ≡ b
+  answer-unique a b p r =
+      let h : ¬ (a < b) = λ l. less a b l p r in
+      let k : ¬ (b < a) = λ l. less b a l r p in
+      omega arith
+    where
+      clash : (x : Bool) → x ≡ true → x ≡ false → ⊥
+      clash x e f = let z : _≡_ {A = ℕ} 0 1 = ap (λ (b : Bool). elim b [ true ↦ 0 | false ↦ 1 ]) (sym e ∙ f) in omega arith
+
+      less : (a b : ℕ) → a < b → IsAnswer d q a → IsAnswer d q b → ⊥
+      less zero b l p r = clash (applies b d q) (r .applied (omega arith)) (p .accepted refl b)
+      less (suc a) b l p r = clash (applies (suc a) d q) (p .applied (omega arith)) (r .below (suc a) l)
+
+-- A question put to the operation that a request names.
+pub ofOp-some : (q : Request) (o : Op) → opOf (q .operation) ≡ some o → (p : Op → Bool) → ofOp q p ≡ p o
+unfolding ofOp
+ofOp-some q o e p = subst (λ (m : Option Op). elim m [ none ↦ false | some o ↦ p o ] ≡ p o) (sym e) refl
+
+-- A question that is answered yes was put to some operation.
+pub ofOp-asked : (q : Request) (p : Op → Bool) → T (ofOp q p) → (o : Op) × (opOf (q .operation) ≡ some o) × T (p o)
+unfolding ofOp
+ofOp-asked q p = go (opOf (q .operation)) refl
+  where
+    go : (m : Option Op) → opOf (q .operation) ≡ m → T (elim m [ none ↦ false | some o ↦ p o ]) → (o : Op) × (opOf (q .operation) ≡ some o) × T (p o)
+    go none e t = absurd t
+    go (some o) e t = (o, e, t)
+
+-- Something holds of every operand, by position and kind.
+abbrev pub AllOperands : ℕ → List Kind → (ℕ → Kind → Type 0) → Type 0
+AllOperands k [] P = Unit {0}
+AllOperands k (x ∷ xs) P = P k x × AllOperands (suc k) xs P
+
+pub someOperand-none : (k : ℕ) (xs : List Kind) (p : ℕ → Kind → Bool) → someOperand k xs p ≡ false → AllOperands k xs (λ j x. T (not (p j x)))
+unfolding someOperand
+someOperand-none k [] p e = tt
+someOperand-none k (x ∷ xs) p e = go (p k x) e (someOperand-none (suc k) xs p)
+  where
+    go : (b : Bool) → elim b [ true ↦ true | false ↦ someOperand (suc k) xs p ] ≡ false → (someOperand (suc k) xs p ≡ false → AllOperands (suc k) xs (λ j x. T (not (p j x))))
+        → T (not b) × AllOperands (suc k) xs (λ j x. T (not (p j x)))
+    go true e ih = absurd (subst T e tt)
+    go false e ih = (tt, ih e)
+
+pub operands-at : (k : ℕ) (xs : List Kind) (P : ℕ → Type 0) → AllOperands k xs (λ j x. P j) → (j : ℕ) → k ≤ j → j < k + length xs → P j
+operands-at k [] P a j l h = absurd (omega arith)
+operands-at k (x ∷ xs) P a j l h = go (eqb j k) (same j k) (operands-at (suc k) xs P (a .1) j)
+  where
+    go : (b : Bool) → Same j k b → (suc k ≤ j → j < suc k + length xs → P j) → P j
+    go true (it e) ih = rw e (a .0)
+    go false (other e) ih = ih (omega arith) (omega arith)
+
+pub operands-map : (k : ℕ) (xs : List Kind) (P Q : ℕ → Kind → Type 0) → ((j : ℕ) (x : Kind) → P j x → Q j x) → AllOperands k xs P → AllOperands k xs Q
+operands-map k [] P Q f a = tt
+operands-map k (x ∷ xs) P Q f a = (f k x (a .0), operands-map (suc k) xs P Q f (a .1))
