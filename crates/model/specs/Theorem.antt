@@ -1,2 +1,3 @@
 pub mod Definitions
 pub mod MayChange
+pub mod Clear

@@ -65,7 +65,7 @@ module _ (d : Tables) (w : WellFormed d) (v : ℕ) where
       shows x i k false l = o .valueLabelled x i k l
 
 -- 12 login, 13 logout
-module _ (d : Tables) (w : WellFormed d) (s : Secure d) (u v : ℕ) (p : d .user u present ≡ 1) where
+module _ (d : Tables) (w : WellFormed d) (s : Secure d) (u v : ℕ) (p : d .user u present ≢ 0) where
   login-ok : 1 ≤ v → d .user u device ≡ 0 → UserOk (d .user u) → UserOk (written (userWord device v) (d .user u))
   login-ok h off o = search arith
 
@@ -91,7 +91,7 @@ module _ (d : Tables) (w : WellFormed d) (s : Secure d) (u v : ℕ) (p : d .user
     ceiling = s .ceiling;
   }
 
-module _ (d : Tables) (w : WellFormed d) (s : Secure d) (u : ℕ) (p : d .user u present ≡ 1) where
+module _ (d : Tables) (w : WellFormed d) (s : Secure d) (u : ℕ) (p : d .user u present ≢ 0) where
   off-ok : UserOk (d .user u) → UserOk (written (userWord device 0 and userWord current 0) (d .user u))
   off-ok o = search arith
 
@@ -113,7 +113,7 @@ module _ (d : Tables) (w : WellFormed d) (s : Secure d) (u : ℕ) (p : d .user u
     ceiling = s .ceiling;
   }
 
-module _ (d : Tables) (w : WellFormed d) (s : Secure d) (u : ℕ) (p : d .user u present ≡ 1) (on : devices d u ≢ 0) where
+module _ (d : Tables) (w : WellFormed d) (s : Secure d) (u : ℕ) (p : d .user u present ≢ 0) (on : devices d u ≢ 0) where
   none-left : counts (clear (devices d u) d) (devices d u) ≡ 0
   none-left = case (λ (y : ℕ). y ≡ 0) (devices d u) (devices d u) 0 (counts d (devices d u)) (λ q. refl) (λ q. absurd (q refl))
 

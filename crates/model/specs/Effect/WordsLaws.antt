@@ -1,6 +1,6 @@
 -- The effects on single words, and the notice, keep tables well-formed and secure: everything but those words is as it was, by computation.
 use mathlib.Core.Bool.{Bool, false, true}
-use mathlib.Core.Logic.{inl, inr}
+use mathlib.Core.Logic.{_≢_, inl, inr}
 use mathlib.Core.Path.{_≡_}
 use Prim.Native.Nat.{_<_, _≤_, suc, ℕ}
 use native.Mathlib.Omega.{arith}
@@ -13,18 +13,15 @@ use Rattle.model.specs.State.Secure.{Secure}
 use Rattle.model.specs.State.WellFormed.{EntityOk, Notice, Thing, UserOk, WellFormed}
 use Rattle.model.specs.Tables.EditLaws.{case, each}
 use Rattle.model.specs.Tables.Edits.{Edit, _and_, userWord, word, written}
-use Rattle.model.specs.Tables.Words.{Tables, UserWord, authorised, clearance, current, device, held, heldOp, kind, level, mark, maximum, missed, present, releaser, type, value}
+use Rattle.model.specs.Tables.Words.{Tables, UserWord, authorised, clearance, current, device, firstNoticed, held, heldOp, kind, lastNoticed, level, mark, maximum, missed, operationCount, present, releaser, type, value}
 
-module _ (d : Tables) (w : WellFormed d) (s : Secure d) where
+module _ (d : Tables) (w : WellFormed d) where
   -- 4 edit
   edit-ok : (e v : ℕ) → Thing d e → EntityOk (d .entity e) → EntityOk (written (word value v) (d .entity e))
   edit-ok e v t o = search arith
 
   pub edit-wellFormed : (e v : ℕ) → Thing d e → WellFormed (edit e v d)
   edit-wellFormed e v t = let n = each EntityOk (word value v) e (d .entity) (w .entities) (edit-ok e v t (w .entities e)) in search
-
-  pub edit-secure : (e v : ℕ) → Secure (edit e v d)
-  edit-secure e v = search
 
   -- 6 and 18 level: the new state is tested
   level-ok : (e v : ℕ) → 1 ≤ d .entity e kind → v < levelCount → EntityOk (d .entity e) → EntityOk (written (word level v) (d .entity e))
@@ -40,21 +37,12 @@ module _ (d : Tables) (w : WellFormed d) (s : Secure d) where
   pub mark-wellFormed : (e v : ℕ) → d .entity e kind ≡ 2 → v ≤ 1 → WellFormed (setMark e v d)
   mark-wellFormed e v t h = let n = each EntityOk (word mark v) e (d .entity) (w .entities) (mark-ok e v t h (w .entities e)) in search
 
-  pub mark-secure : (e v : ℕ) → Secure (setMark e v d)
-  mark-secure e v = search
-
   -- 17 maximum
   maximum-ok : (e v : ℕ) → d .entity e kind ≡ 3 → v < levelCount → EntityOk (d .entity e) → EntityOk (written (word maximum v) (d .entity e))
   maximum-ok e v t h o = search arith
 
   pub maximum-wellFormed : (e v : ℕ) → d .entity e kind ≡ 3 → v < levelCount → WellFormed (setMaximum e v d)
   maximum-wellFormed e v t h = let n = each EntityOk (word maximum v) e (d .entity) (w .entities) (maximum-ok e v t h (w .entities e)) in search
-
-  pub maximum-secure : (e v : ℕ) → AtMost (d .entity e level) v → Secure (setMaximum e v d)
-  maximum-secure e v h =
-      let n : (x : ℕ) → d .entity x kind ≡ 3 → AtMost (d .entity x level) (pick (eqb x e) v (d .entity x maximum))
-      = λ x k. case (λ (y : ℕ). AtMost (d .entity x level) y) x e v (d .entity x maximum) (λ q. rw q h) (λ q. s .ceiling x k) in
-      search
 
   -- 19 release
   release-ok : (u e : ℕ) → d .entity e kind ≡ 2 → (1 ≤ u) × (u ≤ 16) → EntityOk (d .entity e) → EntityOk (written (word type 2 and word releaser u) (d .entity e))
@@ -63,15 +51,49 @@ module _ (d : Tables) (w : WellFormed d) (s : Secure d) where
   pub release-wellFormed : (u e : ℕ) → d .entity e kind ≡ 2 → (1 ≤ u) × (u ≤ 16) → WellFormed (release u e d)
   release-wellFormed u e t h = let n = each EntityOk (word type 2 and word releaser u) e (d .entity) (w .entities) (release-ok u e t h (w .entities e)) in search
 
-  pub release-secure : (u e : ℕ) → Secure (release u e d)
-  release-secure u e = search
-
   -- 14 current roles
-  current-ok : (u v : ℕ) → d .user u present ≡ 1 → v < roleSets → (d .user u device ≡ 0 → v ≡ 0) → UserOk (d .user u) → UserOk (written (userWord current v) (d .user u))
+  current-ok : (u v : ℕ) → d .user u present ≢ 0 → v < roleSets → (d .user u device ≡ 0 → v ≡ 0) → UserOk (d .user u) → UserOk (written (userWord current v) (d .user u))
   current-ok u v p h off o = search arith
 
-  pub current-wellFormed : (u v : ℕ) → d .user u present ≡ 1 → v < roleSets → (d .user u device ≡ 0 → v ≡ 0) → WellFormed (setCurrent u v d)
+  pub current-wellFormed : (u v : ℕ) → d .user u present ≢ 0 → v < roleSets → (d .user u device ≡ 0 → v ≡ 0) → WellFormed (setCurrent u v d)
   current-wellFormed u v p h off = let n = each UserOk (userWord current v) u (d .user) (w .users) (current-ok u v p h off (w .users u)) in search
+
+  -- 15 clearance: the new state is tested
+  clearance-ok : (u v : ℕ) → d .user u present ≢ 0 → v < levelCount → UserOk (d .user u) → UserOk (written (userWord clearance v) (d .user u))
+  clearance-ok u v p h o = search arith
+
+  pub clearance-wellFormed : (u v : ℕ) → d .user u present ≢ 0 → v < levelCount → WellFormed (setClearance u v d)
+  clearance-wellFormed u v p h = let n = each UserOk (userWord clearance v) u (d .user) (w .users) (clearance-ok u v p h (w .users u)) in search
+
+  -- 16 authorised roles
+  authorised-ok : (u v : ℕ) → d .user u present ≢ 0 → v < roleSets → UserOk (d .user u) → UserOk (written (userWord authorised v) (d .user u))
+  authorised-ok u v p h o = search arith
+
+  pub authorised-wellFormed : (u v : ℕ) → d .user u present ≢ 0 → v < roleSets → WellFormed (setAuthorised u v d)
+  authorised-wellFormed u v p h = let n = each UserOk (userWord authorised v) u (d .user) (w .users) (authorised-ok u v p h (w .users u)) in search
+
+  -- 20 acknowledge
+  quiet-ok : (u : ℕ) → d .user u present ≢ 0 → UserOk (d .user u) → UserOk (written (userWord held 0 and userWord heldOp 0 and userWord missed 0) (d .user u))
+  quiet-ok u p o = search (arith, inl)
+
+  pub acknowledge-wellFormed : (u : ℕ) → d .user u present ≢ 0 → WellFormed (acknowledge u d)
+  acknowledge-wellFormed u p = let n = each UserOk (userWord held 0 and userWord heldOp 0 and userWord missed 0) u (d .user) (w .users) (quiet-ok u p (w .users u)) in search
+
+module _ (d : Tables) (s : Secure d) where
+  pub edit-secure : (e v : ℕ) → Secure (edit e v d)
+  edit-secure e v = search
+
+  pub mark-secure : (e v : ℕ) → Secure (setMark e v d)
+  mark-secure e v = search
+
+  pub maximum-secure : (e v : ℕ) → AtMost (d .entity e level) v → Secure (setMaximum e v d)
+  maximum-secure e v h =
+      let n : (x : ℕ) → d .entity x kind ≡ 3 → AtMost (d .entity x level) (pick (eqb x e) v (d .entity x maximum))
+      = λ x k. case (λ (y : ℕ). AtMost (d .entity x level) y) x e v (d .entity x maximum) (λ q. rw q h) (λ q. s .ceiling x k) in
+      search
+
+  pub release-secure : (u e : ℕ) → Secure (release u e d)
+  release-secure u e = search
 
   pub current-secure : (u v : ℕ) → Subset roleCount v (d .user u authorised) → Secure (setCurrent u v d)
   current-secure u v h =
@@ -79,38 +101,17 @@ module _ (d : Tables) (w : WellFormed d) (s : Secure d) where
       = λ x. case (λ (y : ℕ). Subset roleCount y (d .user x authorised)) x u v (d .user x current) (λ q. rw q h) (λ q. s .roles x) in
       search
 
-  -- 15 clearance: the new state is tested
-  clearance-ok : (u v : ℕ) → d .user u present ≡ 1 → v < levelCount → UserOk (d .user u) → UserOk (written (userWord clearance v) (d .user u))
-  clearance-ok u v p h o = search arith
-
-  pub clearance-wellFormed : (u v : ℕ) → d .user u present ≡ 1 → v < levelCount → WellFormed (setClearance u v d)
-  clearance-wellFormed u v p h = let n = each UserOk (userWord clearance v) u (d .user) (w .users) (clearance-ok u v p h (w .users u)) in search
-
-  -- 16 authorised roles
-  authorised-ok : (u v : ℕ) → d .user u present ≡ 1 → v < roleSets → UserOk (d .user u) → UserOk (written (userWord authorised v) (d .user u))
-  authorised-ok u v p h o = search arith
-
-  pub authorised-wellFormed : (u v : ℕ) → d .user u present ≡ 1 → v < roleSets → WellFormed (setAuthorised u v d)
-  authorised-wellFormed u v p h = let n = each UserOk (userWord authorised v) u (d .user) (w .users) (authorised-ok u v p h (w .users u)) in search
-
   pub authorised-secure : (u v : ℕ) → Subset roleCount (d .user u current) v → Secure (setAuthorised u v d)
   authorised-secure u v h =
       let n : (x : ℕ) → Subset roleCount (d .user x current) (pick (eqb x u) v (d .user x authorised))
       = λ x. case (λ (y : ℕ). Subset roleCount (d .user x current) y) x u v (d .user x authorised) (λ q. rw q h) (λ q. s .roles x) in
       search
 
-  -- 20 acknowledge
-  quiet-ok : (u : ℕ) → d .user u present ≡ 1 → UserOk (d .user u) → UserOk (written (userWord held 0 and userWord heldOp 0 and userWord missed 0) (d .user u))
-  quiet-ok u p o = search (arith, inl)
-
-  pub acknowledge-wellFormed : (u : ℕ) → d .user u present ≡ 1 → WellFormed (acknowledge u d)
-  acknowledge-wellFormed u p = let n = each UserOk (userWord held 0 and userWord heldOp 0 and userWord missed 0) u (d .user) (w .users) (quiet-ok u p (w .users u)) in search
-
   pub acknowledge-secure : (u : ℕ) → Secure (acknowledge u d)
   acknowledge-secure u = search
 
 -- the notice of a refusal r of an operation o
-next : (h p m r o : ℕ) → (5 ≤ r) × (r ≤ 16) → o ≤ 20 → Notice h p m → Notice (pick (eqb h 0) r h) (pick (eqb h 0) o p) (pick (ltb m 65535) (suc m) 65535)
+next : (h p m r o : ℕ) → (firstNoticed ≤ r) × (r ≤ lastNoticed) → o ≤ operationCount → Notice h p m → Notice (pick (eqb h 0) r h) (pick (eqb h 0) o p) (pick (ltb m 65535) (suc m) 65535)
 next h p m r o hr ho a = go (eqb h 0) (ltb m 65535) (same h 0) (below m 65535)
   where
     go : (x y : Bool) → Same h 0 x → Below m 65535 y → Notice (pick x r h) (pick x o p) (pick y (suc m) 65535)
@@ -119,7 +120,7 @@ next h p m r o hr ho a = go (eqb h 0) (ltb m 65535) (same h 0) (below m 65535)
     go false true (other q) (under l) = search arith
     go false false (other q) (over l) = search arith
 
-module _ (d : Tables) (w : WellFormed d) (s : Secure d) (u r o : ℕ) (p : d .user u present ≡ 1) (hr : (5 ≤ r) × (r ≤ 16)) (ho : o ≤ 20) where
+module _ (d : Tables) (w : WellFormed d) (s : Secure d) (u r o : ℕ) (p : d .user u present ≢ 0) (hr : (firstNoticed ≤ r) × (r ≤ lastNoticed)) (ho : o ≤ operationCount) where
   noticed : Edit UserWord
   noticed = userWord held (pick (eqb (d .user u held) 0) r (d .user u held))
       and userWord heldOp (pick (eqb (d .user u held) 0) o (d .user u heldOp))
