@@ -1,3 +1,5 @@
 pub mod Definitions
 pub mod MayChange
 pub mod Clear
+pub mod Acceptance
+pub mod Kept

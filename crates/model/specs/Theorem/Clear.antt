@@ -35,7 +35,12 @@ pub record Clear (o : Op) (s : Asked) (d : Tables) : Type 0 where
   pub c : T (rangeAt 2 (rowOf o .arguments) (s .c))
   pub on : On o d (s .user)
   pub kinds : AllOperands 1 (rowOf o .operands) (λ k x. T (x d (operand s k)))
-  pub no : (n : ℕ) → T (not (refused n (rowOf o .conditions) d s))
+  pub no11 : T (not (refused 11 (rowOf o .conditions) d s))
+  pub no12 : T (not (refused 12 (rowOf o .conditions) d s))
+  pub no13 : T (not (refused 13 (rowOf o .conditions) d s))
+  pub no14 : T (not (refused 14 (rowOf o .conditions) d s))
+  pub no15 : T (not (refused 15 (rowOf o .conditions) d s))
+  pub no16 : T (not (refused 16 (rowOf o .conditions) d s))
 
 -- a triple made of three numbers in their ranges is a good one
 triple-good : (w o p : ℕ) → (1 ≤ w) × (w ≤ whoLimit) → (1 ≤ o) × (o ≤ operationCount) → (1 ≤ p) × (p ≤ positionCount) → GoodTriple (tripleOf w o p)
@@ -68,16 +73,16 @@ module _ (d : Tables) (w : WellFormed d) (s : Asked) where
     box = eqb→eq (kinds d (s .first)) containerKind (h .kinds .0);
     sort = between-agrees objectSort draftSort (s .a) .to (h .a);
     levelIn = ltb→lt (s .b) levelCount (h .b);
-    low = not-not (atMost (s .b) (levelOf d (s .first))) (h .no 13);
-    number = leb→le (vacant d) entityCount (not-not (leb (vacant d) entityCount) (nor-l (not (leb (vacant d) entityCount)) (leb placeCount (counts d (s .first))) (h .no 14)));
-    room = nleb→lt placeCount (counts d (s .first)) (nor-r (not (leb (vacant d) entityCount)) (leb placeCount (counts d (s .first))) (h .no 14));
+    low = not-not (atMost (s .b) (levelOf d (s .first))) (h .no13);
+    number = leb→le (vacant d) entityCount (not-not (leb (vacant d) entityCount) (nor-l (not (leb (vacant d) entityCount)) (leb placeCount (counts d (s .first))) (h .no14)));
+    room = nleb→lt placeCount (counts d (s .first)) (nor-r (not (leb (vacant d) entityCount)) (leb placeCount (counts d (s .first))) (h .no14));
   }
 
   may-delete : Clear toDelete s d → MayDelete s d
   unfolding refused deleteForbidden
   may-delete h =
-      let a = nor-l (not (eqb (counts d (s .first)) 0)) (onScreen d (s .first) || eqb (d .entity (s .first) type) releasedType) (h .no 15) in
-      let b = nor-r (not (eqb (counts d (s .first)) 0)) (onScreen d (s .first) || eqb (d .entity (s .first) type) releasedType) (h .no 15) in
+      let a = nor-l (not (eqb (counts d (s .first)) 0)) (onScreen d (s .first) || eqb (d .entity (s .first) type) releasedType) (h .no15) in
+      let b = nor-r (not (eqb (counts d (s .first)) 0)) (onScreen d (s .first) || eqb (d .entity (s .first) type) releasedType) (h .no15) in
       record {
         thing = thing-agrees d (s .first) .to (h .kinds .0);
         empty = eqb→eq (counts d (s .first)) 0 (not-not (eqb (counts d (s .first)) 0) a);
@@ -90,9 +95,9 @@ module _ (d : Tables) (w : WellFormed d) (s : Asked) where
   may-move h = record {
     thing = thing-agrees d (s .first) .to (h .kinds .0);
     box = eqb→eq (kinds d (s .second)) containerKind (h .kinds .1 .0);
-    low = not-not (atMost (levelOf d (s .first)) (levelOf d (s .second))) (h .no 13);
-    room = nleb→lt placeCount (counts (leave (s .first) d) (s .second)) (h .no 14);
-    apart = agrees-not (inside-agrees d w (s .second) (s .first)) .to (h .no 15);
+    low = not-not (atMost (levelOf d (s .first)) (levelOf d (s .second))) (h .no13);
+    room = nleb→lt placeCount (counts (leave (s .first) d) (s .second)) (h .no14);
+    apart = agrees-not (inside-agrees d w (s .second) (s .first)) .to (h .no15);
   }
 
   may-copy : Clear toCopy s d → MayCopy s d
@@ -100,7 +105,7 @@ module _ (d : Tables) (w : WellFormed d) (s : Asked) where
   may-copy h = record {
     thing = thing-agrees d (s .first) .to (h .kinds .0);
     thing₂ = thing-agrees d (s .second) .to (h .kinds .1 .0);
-    low = not-not (atMost (levelOf d (s .first)) (levelOf d (s .second))) (h .no 13);
+    low = not-not (atMost (levelOf d (s .first)) (levelOf d (s .second))) (h .no13);
   }
 
   -- a level that is set: strictly lower wants the downgrader
@@ -115,8 +120,8 @@ module _ (d : Tables) (w : WellFormed d) (s : Asked) where
       record {
         thing = t;
         levelIn = l;
-        downgrade = lowered (lacks downgrader d s) (h .no 12) (lacks-agrees d s downgrader .to);
-        secure = secure-agrees (levelEffect s d) (level-wellFormed d w (s .first) (s .a) (t .0) l) .to (not-not (secureTest (levelEffect s d)) (h .no 13));
+        downgrade = lowered (lacks downgrader d s) (h .no12) (lacks-agrees d s downgrader .to);
+        secure = secure-agrees (levelEffect s d) (level-wellFormed d w (s .first) (s .a) (t .0) l) .to (not-not (secureTest (levelEffect s d)) (h .no13));
       }
 
   may-device-level : Clear toDeviceLevel s d → MayDeviceLevel s d
@@ -127,9 +132,9 @@ module _ (d : Tables) (w : WellFormed d) (s : Asked) where
       record {
         screen = t;
         levelIn = l;
-        downgrade = λ z n. lowered (not (eqb (s .first) (own d s)) && lacks downgrader d s) (h .no 12)
+        downgrade = λ z n. lowered (not (eqb (s .first) (own d s)) && lacks downgrader d s) (h .no12)
             (λ y. lacks-agrees d s downgrader .to (nand (not (eqb (s .first) (own d s))) (lacks downgrader d s) y (agrees-not (agrees-eq (s .first) (own d s)) .from n))) z;
-        secure = secure-agrees (levelEffect s d) (level-wellFormed d w (s .first) (s .a) (omega arith) l) .to (not-not (secureTest (levelEffect s d)) (h .no 13));
+        secure = secure-agrees (levelEffect s d) (level-wellFormed d w (s .first) (s .a) (omega arith) l) .to (not-not (secureTest (levelEffect s d)) (h .no13));
       }
 
   may-mark : Clear toMark s d → MayMark s d
@@ -146,7 +151,7 @@ module _ (d : Tables) (w : WellFormed d) (s : Asked) where
     here = leb→le objectKind (kinds d (s .first)) (h .kinds .0);
     good = named-good (h .a) (h .b) (h .c);
     room = λ e. nleb→lt placeCount (seek 0 (triples d (s .first)) placeCount)
-        (nand (leb placeCount (seek (namedTriple s) (triples d (s .first)) placeCount)) (leb placeCount (seek 0 (triples d (s .first)) placeCount)) (h .no 14) (le→leb placeCount (seek (namedTriple s) (triples d (s .first)) placeCount) (omega arith)));
+        (nand (leb placeCount (seek (namedTriple s) (triples d (s .first)) placeCount)) (leb placeCount (seek 0 (triples d (s .first)) placeCount)) (h .no14) (le→leb placeCount (seek (namedTriple s) (triples d (s .first)) placeCount) (omega arith)));
   }
 
   may-revoke : Clear toRevoke s d → MayRevoke s d
@@ -162,10 +167,10 @@ module _ (d : Tables) (w : WellFormed d) (s : Asked) where
         on = h .on tt;
         thing = thing-agrees d (s .first) .to (h .kinds .0);
         sum = between-agrees 1 sumLimit (s .a) .to (h .a);
-        low = not-not b (nor-r (not a) (not b) (h .no 13));
-        clear = not-not a (nor-l (not a) (not b) (h .no 13));
-        label = not-not (labelled (s .a)) (h .no 15);
-        room = λ l. nleb→lt placeCount (counts d (own d s)) (nand (leb (counts d (own d s)) (spot (own d s) (s .first) d)) (leb placeCount (counts d (own d s))) (h .no 14) (le→leb (counts d (own d s)) (spot (own d s) (s .first) d) l));
+        low = not-not b (nor-r (not a) (not b) (h .no13));
+        clear = not-not a (nor-l (not a) (not b) (h .no13));
+        label = not-not (labelled (s .a)) (h .no15);
+        room = λ l. nleb→lt placeCount (counts d (own d s)) (nand (leb (counts d (own d s)) (spot (own d s) (s .first) d)) (leb placeCount (counts d (own d s))) (h .no14) (le→leb (counts d (own d s)) (spot (own d s) (s .first) d) l));
       }
 
   may-login : Clear toLogin s d → MayLogin s d
@@ -177,8 +182,8 @@ module _ (d : Tables) (w : WellFormed d) (s : Asked) where
       let n = w .entityNumbers (s .first) (λ q. omega arith) in
       record {
         screen = k;
-        off = eqb→eq (own d s) 0 (not-not (eqb (own d s) 0) (nor-l a (not b) (h .no 15)));
-        free = nobody-agrees d w (s .first) (n .0) .to (not-not b (nor-r a (not b) (h .no 15)));
+        off = eqb→eq (own d s) 0 (not-not (eqb (own d s) 0) (nor-l a (not b) (h .no15)));
+        free = nobody-agrees d w (s .first) (n .0) .to (not-not b (nor-r a (not b) (h .no15)));
       }
 
   there : (u : ℕ) → T (not (eqb (d .user u present) 0)) → d .user u present ≢ 0
@@ -190,32 +195,32 @@ module _ (d : Tables) (w : WellFormed d) (s : Asked) where
       let a = eqb (d .user (s .a) present) 0 in
       let b = eqb (devices d (s .a)) 0 in
       record {
-        present = there (s .a) (nor-l a (b && not (eqb (s .b) 0)) (h .no 11));
+        present = there (s .a) (nor-l a (b && not (eqb (s .b) 0)) (h .no11));
         rolesIn = ltb→lt (s .b) roleSets (h .b);
-        off = λ q. eqb→eq (s .b) 0 (not-not (eqb (s .b) 0) (nand b (not (eqb (s .b) 0)) (nor-r a (b && not (eqb (s .b) 0)) (h .no 11)) (agrees-eq (devices d (s .a)) 0 .from q)));
-        officer = λ q. lacks-agrees d s officer .to (nand (not (eqb (s .a) (s .user))) (lacks officer d s) (h .no 12) (agrees-not (agrees-eq (s .a) (s .user)) .from q));
-        authorised = not-not (subset roleCount (s .b) (d .user (s .a) authorised)) (h .no 13);
+        off = λ q. eqb→eq (s .b) 0 (not-not (eqb (s .b) 0) (nand b (not (eqb (s .b) 0)) (nor-r a (b && not (eqb (s .b) 0)) (h .no11)) (agrees-eq (devices d (s .a)) 0 .from q)));
+        officer = λ q. lacks-agrees d s officer .to (nand (not (eqb (s .a) (s .user))) (lacks officer d s) (h .no12) (agrees-not (agrees-eq (s .a) (s .user)) .from q));
+        authorised = not-not (subset roleCount (s .b) (d .user (s .a) authorised)) (h .no13);
       }
 
   may-clearance : Clear toClearance s d → MayClearance s d
   unfolding refused rangeAt aLevel userAbsent insecure
   may-clearance h =
-      let p = there (s .a) (h .no 11) in
+      let p = there (s .a) (h .no11) in
       let l = ltb→lt (s .b) levelCount (h .b) in
       record {
         present = p;
         levelIn = l;
-        officer = lacks-agrees d s officer .to (h .no 12);
-        secure = secure-agrees (clearanceEffect s d) (clearance-wellFormed d w (s .a) (s .b) p l) .to (not-not (secureTest (clearanceEffect s d)) (h .no 13));
+        officer = lacks-agrees d s officer .to (h .no12);
+        secure = secure-agrees (clearanceEffect s d) (clearance-wellFormed d w (s .a) (s .b) p l) .to (not-not (secureTest (clearanceEffect s d)) (h .no13));
       }
 
   may-authorise : Clear toAuthorised s d → MayAuthorise s d
   unfolding refused rangeAt someRoles userAbsent currentOutside
   may-authorise h = record {
-    present = there (s .a) (h .no 11);
+    present = there (s .a) (h .no11);
     rolesIn = ltb→lt (s .b) roleSets (h .b);
-    officer = lacks-agrees d s officer .to (h .no 12);
-    within = not-not (subset roleCount (d .user (s .a) current) (s .b)) (h .no 13);
+    officer = lacks-agrees d s officer .to (h .no12);
+    within = not-not (subset roleCount (d .user (s .a) current) (s .b)) (h .no13);
   }
 
   may-maximum : Clear toMaximum s d → MayMaximum s d
@@ -223,15 +228,15 @@ module _ (d : Tables) (w : WellFormed d) (s : Asked) where
   may-maximum h = record {
     screen = eqb→eq (kinds d (s .first)) deviceKind (h .kinds .0);
     levelIn = ltb→lt (s .a) levelCount (h .a);
-    officer = lacks-agrees d s officer .to (h .no 12);
-    low = not-not (atMost (levelOf d (s .first)) (s .a)) (h .no 13);
+    officer = lacks-agrees d s officer .to (h .no12);
+    low = not-not (atMost (levelOf d (s .first)) (s .a)) (h .no13);
   }
 
   may-release : Clear toRelease s d → MayRelease s d
   unfolding refused isDraft
   may-release h =
       let k = agrees-and (agrees-eq (kinds d (s .first)) containerKind) (agrees-eq (d .entity (s .first) type) draftType) .to (h .kinds .0) in
-      record { box = k .0; draft = k .1; releaser = lacks-agrees d s releasing .to (h .no 12) }
+      record { box = k .0; draft = k .1; releaser = lacks-agrees d s releasing .to (h .no12) }
 
   may-acknowledge : Clear toAcknowledge s d → MayAcknowledge s d
   unfolding refused notAcknowledged
@@ -239,9 +244,9 @@ module _ (d : Tables) (w : WellFormed d) (s : Asked) where
       let a = eqb (d .user (s .user) held) 0 in
       let b = eqb (s .a) (d .user (s .user) held) in
       let c = eqb (s .b) (d .user (s .user) missed) in
-      let r = nor-r a (not b || not c) (h .no 16) in
+      let r = nor-r a (not b || not c) (h .no16) in
       record {
-        holding = agrees-not (agrees-eq (d .user (s .user) held) 0) .to (nor-l a (not b || not c) (h .no 16));
+        holding = agrees-not (agrees-eq (d .user (s .user) held) 0) .to (nor-l a (not b || not c) (h .no16));
         refusal = eqb→eq (s .a) (d .user (s .user) held) (not-not b (nor-l (not b) (not c) r));
         count = eqb→eq (s .b) (d .user (s .user) missed) (not-not c (nor-r (not b) (not c) r));
       }

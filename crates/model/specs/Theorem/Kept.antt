@@ -1,0 +1,124 @@
+-- Every request, accepted, refused or not understood, takes well-formed, secure tables to well-formed, secure tables.
+use mathlib.Core.Bool.{Bool, false, true}
+use mathlib.Core.Logic.{_≢_, _⊎_, inl, inr}
+use mathlib.Core.Option.{Option, none, some}
+use mathlib.Core.Path.{_≡_, refl, subst, sym}
+use Prim.Native.Nat.{_<_, _≤_, suc, ℕ}
+use native.Mathlib.Omega.{arith}
+use lib.Dec.{T, eqb, ltb, lt→ltb}
+use Rattle.model.specs.Basics.Choice.{Below, Same, below, it, other, pick, same, under}
+use Rattle.model.specs.Effect.Places.{draftSort, objectSort, sortKind, sortType, vacant}
+use Rattle.model.specs.Effect.PlacesLaws.{create-secure, create-wellFormed, delete-secure, delete-wellFormed, move-secure, move-wellFormed}
+use Rattle.model.specs.Effect.ScreensLaws.{clear-secure, clear-wellFormed, login-secure, login-wellFormed, logout-secure, logout-wellFormed}
+use Rattle.model.specs.Effect.ShowLaws.{show-both}
+use Rattle.model.specs.Effect.TriplesLaws.{grant-secure, grant-wellFormed, revoke-secure, revoke-wellFormed}
+use Rattle.model.specs.Effect.Words.{notice}
+use Rattle.model.specs.Effect.WordsLaws.{acknowledge-secure, acknowledge-wellFormed, authorised-secure, authorised-wellFormed, clearance-wellFormed, current-secure, current-wellFormed, edit-secure, edit-wellFormed, level-wellFormed, mark-secure, mark-wellFormed, maximum-secure, maximum-wellFormed, release-secure, release-wellFormed}
+use Rattle.model.specs.Request.Allowed.{Allowed, MayCreate}
+use Rattle.model.specs.Request.Asked.{Asked, asked, namedTriple, own}
+use Rattle.model.specs.Request.Ladder.{after, answer, effect, leaves, noticedOp}
+use Rattle.model.specs.Request.OperationLaws.{number-range}
+use Rattle.model.specs.Request.Operations.{Op, numberOf, opOf, rowOf, toAcknowledge, toAuthorised, toClear, toClearance, toCopy, toCreate, toCurrent, toDelete, toDeviceLevel, toEdit, toGrant, toLevel, toLogin, toLogout, toMark, toMaximum, toMove, toRelease, toRevoke, toShow}
+use Rattle.model.specs.Request.Words.{Request}
+use Rattle.model.specs.State.Secure.{Good, Secure}
+use Rattle.model.specs.State.WellFormed.{WellFormed}
+use Rattle.model.specs.Tables.RowLaws.{sought}
+use Rattle.model.specs.Tables.Rows.{Sought, seek}
+use Rattle.model.specs.Tables.Words.{Tables, absentKind, containerKind, deviceKind, draftType, entityCount, firstNoticed, kinds, objectKind, operationCount, plainType, present, value}
+
+-- the sort of a new entity gives its kind and type
+sort-kind : (s : ℕ) → (objectKind ≤ sortKind s) × (sortKind s ≤ containerKind)
+sort-kind s = go (eqb s objectSort)
+  where
+    go : (b : Bool) → (1 ≤ pick b 1 2) × (pick b 1 2 ≤ 2)
+    go true = search arith
+    go false = search arith
+
+sort-type : (s : ℕ) → (sortType s ≡ plainType) ⊎ ((sortKind s ≡ containerKind) × (sortType s ≡ draftType))
+sort-type s = go (eqb s draftSort) (eqb s objectSort) (same s draftSort) (same s objectSort)
+  where
+    go : (x y : Bool) → Same s draftSort x → Same s objectSort y → (pick {A = ℕ} x 1 0 ≡ 0) ⊎ ((pick {A = ℕ} y 1 2 ≡ 2) × (pick {A = ℕ} x 1 0 ≡ 1))
+    go true true (it e) (it f) = absurd (omega arith)
+    go true false (it e) (other f) = inr (refl, refl)
+    go false true (other e) (it f) = inl refl
+    go false false (other e) (other f) = inl refl
+
+-- the lowest absent number is absent
+pub vacant-absent : (d : Tables) → vacant d ≤ entityCount → kinds d (vacant d) ≡ absentKind
+vacant-absent d h = go (sought 0 (λ i. kinds d (suc i)) entityCount)
+  where
+    go : Sought 0 (λ i. kinds d (suc i)) entityCount (seek 0 (λ i. kinds d (suc i)) entityCount) → kinds d (vacant d) ≡ 0
+    go (inl s) = s .1
+    go (inr s) = absurd (omega (arith, s .0))
+
+-- Each operation's effect keeps them.
+module _ (d : Tables) (w : WellFormed d) (g : Secure d) (s : Asked) (p : d .user (s .user) present ≢ 0) where
+  on-screen : own d s ≢ 0 → kinds d (own d s) ≡ deviceKind
+  on-screen = w .links .deviceIs (s .user)
+
+  create-good : MayCreate s d → Good (rowOf toCreate .effect s d)
+  create-good h = (
+    create-wellFormed d w g (vacant d) (s .first) (sortKind (s .a)) (sortType (s .a)) (s .b) (vacant-absent d (h .number)) (omega arith, h .number) (sort-kind (s .a)) (sort-type (s .a)) (h .levelIn) (h .box) (h .room) (h .low),
+    create-secure d w g (vacant d) (s .first) (sortKind (s .a)) (sortType (s .a)) (s .b) (vacant-absent d (h .number)) (omega arith, h .number) (sort-kind (s .a)) (sort-type (s .a)) (h .levelIn) (h .box) (h .room) (h .low),
+  )
+
+  pub effect-good : (o : Op) → Allowed o s d → Good (rowOf o .effect s d)
+  effect-good toCreate h = create-good h
+  effect-good toDelete h = (delete-wellFormed d w g (s .first) (h .thing .1) (h .empty) (h .unseen), delete-secure d w g (s .first) (h .thing .1) (h .empty) (h .unseen))
+  effect-good toMove h = (move-wellFormed d w g (s .first) (s .second) (h .thing) (h .box) (h .room) (h .apart) (h .low), move-secure d w g (s .first) (s .second) (h .thing) (h .box) (h .room) (h .apart) (h .low))
+  effect-good toEdit h = (edit-wellFormed d w (s .first) (s .a) h, edit-secure d g (s .first) (s .a))
+  effect-good toCopy h = (edit-wellFormed d w (s .second) (d .entity (s .first) value) (h .thing₂), edit-secure d g (s .second) (d .entity (s .first) value))
+  effect-good toLevel h = (level-wellFormed d w (s .first) (s .a) (h .thing .0) (h .levelIn), h .secure)
+  effect-good toMark h = (mark-wellFormed d w (s .first) (s .a) (h .box) (h .flag), mark-secure d g (s .first) (s .a))
+  effect-good toGrant h = (grant-wellFormed d w g (s .first) (namedTriple s) (h .here) (h .good) (h .room), grant-secure d w g (s .first) (namedTriple s) (h .here) (h .good))
+  effect-good toRevoke h = (revoke-wellFormed d w g (s .first) (namedTriple s) (h .here) (h .good), revoke-secure d w g (s .first) (namedTriple s) (h .here) (h .good))
+  effect-good toShow h = show-both d w g (s .user) (own d s) (s .first) (s .a) refl (on-screen (h .on)) (h .thing) (h .sum) (h .label) (h .low) (h .clear) (h .room)
+  effect-good toClear h = (clear-wellFormed d w (own d s) (omega (arith, on-screen h)), clear-secure d w (own d s) g)
+  effect-good toLogin h = (login-wellFormed d w g (s .user) (s .first) p (h .off) (h .screen) (h .free), login-secure d w g (s .user) (s .first) p (h .screen) (h .free))
+  effect-good toLogout h = (logout-wellFormed d w g (s .user) p h, logout-secure d w g (s .user) p h)
+  effect-good toCurrent h = (current-wellFormed d w (s .a) (s .b) (h .present) (h .rolesIn) (h .off), current-secure d g (s .a) (s .b) (h .authorised))
+  effect-good toClearance h = (clearance-wellFormed d w (s .a) (s .b) (h .present) (h .levelIn), h .secure)
+  effect-good toAuthorised h = (authorised-wellFormed d w (s .a) (s .b) (h .present) (h .rolesIn), authorised-secure d g (s .a) (s .b) (h .within))
+  effect-good toMaximum h = (maximum-wellFormed d w (s .first) (s .a) (h .screen) (h .levelIn), maximum-secure d g (s .first) (s .a) (h .low))
+  effect-good toDeviceLevel h = (level-wellFormed d w (s .first) (s .a) (omega (arith, h .screen)) (h .levelIn), h .secure)
+  effect-good toRelease h = (release-wellFormed d w (s .user) (s .first) (h .box) (w .userNumbers (s .user) p), release-secure d g (s .user) (s .first))
+  effect-good toAcknowledge h = (acknowledge-wellFormed d w (s .user) p, acknowledge-secure d g (s .user))
+
+-- The operation that a notice keeps is 0 to 20.
+noticedOp-range : (q : Request) → noticedOp q ≤ operationCount
+unfolding noticedOp
+noticedOp-range q = go (opOf (q .operation))
+  where
+    go : (m : Option Op) → elim m [ none ↦ 0 | some o ↦ numberOf o ] ≤ operationCount
+    go none = omega arith
+    go (some o) = number-range o .1
+
+module _ (d : Tables) (q : Request) where
+  -- What an answer leaves, by its number.
+  pub after-accepted : answer d q ≡ 0 → after d q ≡ effect d q
+  unfolding after leaves
+  after-accepted e = subst (λ (n : ℕ). leaves n d q ≡ effect d q) (sym e) refl
+
+  pub after-unchanged : (n : ℕ) → answer d q ≡ n → 1 ≤ n → n < firstNoticed → after d q ≡ d
+  unfolding after leaves
+  after-unchanged n e l h = subst (λ (m : ℕ). leaves m d q ≡ d) (sym e) (go (eqb n 0) (ltb n firstNoticed) (same n 0) (lt→ltb n firstNoticed h))
+    where
+      go : (a b : Bool) → Same n 0 a → T b → elim a [ true ↦ effect d q | false ↦ elim b [ true ↦ d | false ↦ notice (q .user) n (noticedOp q) d ] ] ≡ d
+      go true b (it z) t = absurd (omega arith)
+      go false true z t = refl
+      go false false z t = absurd t
+
+  pub after-noticed : (n : ℕ) → answer d q ≡ n → firstNoticed ≤ n → after d q ≡ notice (q .user) n (noticedOp q) d
+  unfolding after leaves
+  after-noticed n e h = subst (λ (m : ℕ). leaves m d q ≡ notice (q .user) n (noticedOp q) d) (sym e) (go (eqb n 0) (ltb n firstNoticed) (same n 0) (below n firstNoticed))
+    where
+      go : (a b : Bool) → Same n 0 a → Below n firstNoticed b
+          → elim a [ true ↦ effect d q | false ↦ elim b [ true ↦ d | false ↦ notice (q .user) n (noticedOp q) d ] ] ≡ notice (q .user) n (noticedOp q) d
+      go true b (it z) t = absurd (omega arith)
+      go false true z (under t) = absurd (omega arith)
+      go false false z t = refl
+
+  -- The effect of a request by the operation o.
+  pub effect-by : (o : Op) → opOf (q .operation) ≡ some o → effect d q ≡ rowOf o .effect (asked d q) d
+  unfolding effect
+  effect-by o e = subst (λ (m : Option Op). elim m [ none ↦ d | some o ↦ rowOf o .effect (asked d q) d ] ≡ rowOf o .effect (asked d q) d) (sym e) refl
