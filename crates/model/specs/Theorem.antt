@@ -3,3 +3,14 @@ pub mod MayChange
 pub mod Clear
 pub mod Acceptance
 pub mod Kept
+pub mod Histories
+pub mod LawfulSame
+pub mod LawfulShow
+pub mod Lawful
+pub mod LawfulNotice
+pub mod Unchanged
+pub mod Words
+pub mod Untouched
+pub mod FramedPlaces
+pub mod Framed
+pub mod Fixed

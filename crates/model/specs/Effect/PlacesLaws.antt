@@ -2,12 +2,12 @@
 use mathlib.Core.Bool.{Bool, false, true}
 use mathlib.Core.Logic.{_≢_, _⊎_, inl, inr}
 use mathlib.Core.Path.{_≡_, ap, refl, subst}
-use Prim.Native.Nat.{_<_, _≤_, ℕ}
+use Prim.Native.Nat.{_<_, _≤_, suc, ℕ}
 use native.Mathlib.Nat.{not-suc-le-zero}
 use native.Mathlib.Omega.{arith}
 use lib.Dec.{T, eqb}
 use Rattle.model.specs.Basics.Choice.{pick}
-use Rattle.model.specs.Effect.Places.{create, delete, erase, fresh, leave, move}
+use Rattle.model.specs.Effect.Places.{create, delete, erase, fresh, leave, move, vacant}
 use Rattle.model.specs.Effect.PutLaws.{Takes, fewer-there, leave-secure, leave-wellFormed, put-secure, put-wellFormed, stayed}
 use Rattle.model.specs.Level.{AtMost, levelCount}
 use Rattle.model.specs.State.Agree.{zero-ok}
@@ -18,7 +18,9 @@ use Rattle.model.specs.State.Secure.{Secure, labelled}
 use Rattle.model.specs.State.WellFormed.{EntityOk, Holds, In, Thing, WellFormed}
 use Rattle.model.specs.Tables.EditLaws.{case, each}
 use Rattle.model.specs.Tables.Edits.{Edit, _and_, blank, row, word, written}
-use Rattle.model.specs.Tables.Words.{EntityWord, Tables, clearance, count, counts, devices, kind, kinds, level, mark, maximum, places, releaser, shown, sums, triple, triples, type, value}
+use Rattle.model.specs.Tables.RowLaws.{sought}
+use Rattle.model.specs.Tables.Rows.{Sought, seek}
+use Rattle.model.specs.Tables.Words.{EntityWord, Tables, absentKind, clearance, count, counts, devices, entityCount, kind, kinds, level, mark, maximum, places, releaser, shown, sums, triple, triples, type, value}
 
 -- the level of e changes, and e neither holds anything nor is held
 module _ (d : Tables) (s : Secure d) (e l : ℕ) (nothing : (c : ℕ) → Holds d e c → ⊥) (nowhere : (x : ℕ) → Holds d x e → ⊥) where
@@ -215,3 +217,11 @@ module _ (d : Tables) (w : WellFormed d) (s : Secure d) (e c k t l : ℕ) (gone 
   pub create-secure : Secure (create e c k t l d)
   create-secure = put-secure with-it new-wellFormed c e 0 takes-new (fresh-secure d w e c k t l gone range sort draft lev s)
       (rw (← level-e, ← level-c) low) (λ u q. absurd (on-none with-it new-wellFormed c u box-now q)) (λ q. absurd (omega (arith, box-now)))
+
+-- the lowest absent number is absent
+pub vacant-absent : (d : Tables) → vacant d ≤ entityCount → kinds d (vacant d) ≡ absentKind
+vacant-absent d h = go (sought 0 (λ i. kinds d (suc i)) entityCount)
+  where
+    go : Sought 0 (λ i. kinds d (suc i)) entityCount (seek 0 (λ i. kinds d (suc i)) entityCount) → kinds d (vacant d) ≡ 0
+    go (inl s) = s .1
+    go (inr s) = absurd (omega (arith, s .0))

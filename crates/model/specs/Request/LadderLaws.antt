@@ -13,7 +13,7 @@ use Rattle.model.specs.Request.Conditions.{Kind}
 use Rattle.model.specs.Request.Ladder.{IsAnswer, Rung, answer, applies, ladder, lowest, never, ofOp, rungAt, someOperand}
 use Rattle.model.specs.Request.Operations.{Op, opOf}
 use Rattle.model.specs.Request.Words.{Request}
-use Rattle.model.specs.Tables.Words.{Tables}
+use Rattle.model.specs.Tables.Words.{Tables, lastNoticed}
 
 module _ (d : Tables) (q : Request) where
   Found : ℕ → List Rung → ℕ → Type 0
@@ -72,6 +72,20 @@ module _ (d : Tables) (q : Request) where
       less : (a b : ℕ) → a < b → IsAnswer d q a → IsAnswer d q b → ⊥
       less zero b l p r = clash (applies b d q) (r .applied (omega arith)) (p .accepted refl b)
       less (suc a) b l p r = clash (applies (suc a) d q) (p .applied (omega arith)) (r .below (suc a) l)
+
+-- a rung that applies is one of the list
+rungAt-range : (k : ℕ) (rs : List Rung) (d : Tables) (q : Request) → rungAt k rs d q ≡ true → k < length rs
+unfolding rungAt never
+rungAt-range k [] d q e = absurd (subst T (sym e) tt)
+rungAt-range zero (r ∷ rs) d q e = omega arith
+rungAt-range (suc k) (r ∷ rs) d q e = omega (arith, rungAt-range k rs d q e)
+
+-- Answers are 0 to 16.
+pub answer-range : (d : Tables) (q : Request) → answer d q ≤ lastNoticed
+unfolding applies ladder
+answer-range d q =
+    let h : ¬ (lastNoticed < answer d q) = λ l. omega (arith, rungAt-range (answer d q) (never ∷ never ∷ ladder) d q (answer-is d q .applied (omega arith))) in
+    omega arith
 
 -- A question put to the operation that a request names.
 pub ofOp-some : (q : Request) (o : Op) → opOf (q .operation) ≡ some o → (p : Op → Bool) → ofOp q p ≡ p o

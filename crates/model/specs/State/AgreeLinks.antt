@@ -28,7 +28,7 @@ member-agrees r n c = go (ltb (seek c r n) n) (below (seek c r n) n) (sought c r
     go false (over h) (inl s) = absurd (omega (arith, s .0))
     go false (over h) (inr s) = record { to = λ t. absurd t; from = λ m. s .1 (m .0) (m .1) (m .2) }
 
-in-agrees : (k n : ℕ → ℕ) (at : ℕ → ℕ → ℕ) (b a : ℕ) → Agrees (inTest k n at b a) (In k n at b a)
+pub in-agrees : (k n : ℕ → ℕ) (at : ℕ → ℕ → ℕ) (b a : ℕ) → Agrees (inTest k n at b a) (In k n at b a)
 unfolding inTest
 in-agrees k n at b a = agrees-and (agrees-eq (k b) 2) (member-agrees (at b) (n b) a)
 

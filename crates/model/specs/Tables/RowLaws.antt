@@ -164,3 +164,12 @@ replace-same row k v e = fun-ext λ i. go i (eqb i k) (same i k)
     go : (i : ℕ) (b : Bool) → Same i k b → pick b v (row i) ≡ row i
     go i true (it q) = sym (ap row q ∙ e)
     go i false (other q) = refl
+
+-- a row in which v does not stand is the same without v, and so is its count
+pub without-none : (v : ℕ) (row : ℕ → ℕ) (n : ℕ) → Packed row n → (Member row n v → ⊥) → (left v row n ≡ n) × (without v row n ≡ row)
+without-none v row n p none = go (ltb (seek v row n) n) (below (seek v row n) n) (sought v row n)
+  where
+    go : (b : Bool) → Below (seek v row n) n b → Sought v row n (seek v row n) → (pick b (pred n) n ≡ n) × (without v row n ≡ row)
+    go true (under h) (inl s) = absurd (none (seek v row n, s .0, s .1))
+    go true (under h) (inr s) = absurd (omega (arith, s .0))
+    go false (over h) s = (refl, close-idle row n (seek v row n) p h)

@@ -35,25 +35,29 @@ fits-ranges o q t =
     (agrees-and (agrees-T (rangeAt 2 (rowOf o .arguments) (q .c))) (agrees-T (eqb (q .last) 0)))))))) .to t in
     (z .1 .1 .1 .1 .0, (z .1 .1 .1 .1 .1 .0, z .1 .1 .1 .1 .1 .1 .0))
 
+-- Rules 7.2 and 7.3: where rungs 2 and 3 do not apply the tables are well-formed and secure.
+pub judged : (d : Tables) (q : Request) → Bounded d → applies 2 d q ≡ false → applies 3 d q ≡ false → Good d
+unfolding applies rungAt ladder notWellFormed notSecure
+judged d q b e f =
+    let w = wellFormed-agrees d b .to (not-not (wellFormedTest d) (is-false (not (wellFormedTest d)) e)) in
+    (w, secure-agrees d w .to (not-not (secureTest d) (is-false (not (secureTest d)) f)))
+
+-- Rule 7.4: where rung 4 does not apply the requester is known.
+pub requester-known : (d : Tables) (q : Request) → applies 4 d q ≡ false → Known d (q .user)
+unfolding applies rungAt ladder unknownUser
+requester-known d q e =
+    let t = is-false (not ((leb 1 (q .user) && leb (q .user) userCount) && not (eqb (d .user (q .user) present) 0))) e in
+    let z = agrees-and (agrees-and (agrees-le 1 (q .user)) (agrees-le (q .user) userCount)) (agrees-not (agrees-eq (d .user (q .user) present) 0))
+        .to (not-not ((leb 1 (q .user) && leb (q .user) userCount) && not (eqb (d .user (q .user) present) 0)) t) in
+    record { low = z .0 .0; high = z .0 .1; there = z .1 }
+
 module _ (d : Tables) (q : Request) (e : answer d q ≡ 0) where
   no : (n : ℕ) → applies n d q ≡ false
   no = answer-is d q .accepted e
 
   -- Rules 7.2 and 7.3.
   pub accepted-good : Bounded d → Good d
-  unfolding applies rungAt ladder notWellFormed notSecure
-  accepted-good b =
-      let w = wellFormed-agrees d b .to (not-not (wellFormedTest d) (is-false (not (wellFormedTest d)) (no 2))) in
-      (w, secure-agrees d w .to (not-not (secureTest d) (is-false (not (secureTest d)) (no 3))))
-
-  -- Rule 7.4.
-  known : Known d (q .user)
-  unfolding applies rungAt ladder unknownUser
-  known =
-      let t = is-false (not ((leb 1 (q .user) && leb (q .user) userCount) && not (eqb (d .user (q .user) present) 0))) (no 4) in
-      let z = agrees-and (agrees-and (agrees-le 1 (q .user)) (agrees-le (q .user) userCount)) (agrees-not (agrees-eq (d .user (q .user) present) 0))
-          .to (not-not ((leb 1 (q .user) && leb (q .user) userCount) && not (eqb (d .user (q .user) present) 0)) t) in
-      record { low = z .0 .0; high = z .0 .1; there = z .1 }
+  accepted-good b = judged d q b (no 2) (no 3)
 
   -- Rule 7.5.
   understood : (o : Op) × (opOf (q .operation) ≡ some o) × T (fits o q)
@@ -130,7 +134,7 @@ module _ (d : Tables) (q : Request) (e : answer d q ≡ 0) where
 
     accepted-by : WellFormed d → T (fits o q) → Accepted o d q
     accepted-by w t = record {
-      meant = record { known = known; named = named; fitting = t; leading = leading };
+      meant = record { known = requester-known d q (no 4); named = named; fitting = t; leading = leading };
       on = logged-on;
       permitted = permitted;
       cleared = cleared;

@@ -2,29 +2,29 @@
 use mathlib.Core.Bool.{Bool, false, true}
 use mathlib.Core.Logic.{_≢_, _⊎_, inl, inr}
 use mathlib.Core.Option.{Option, none, some}
-use mathlib.Core.Path.{_≡_, refl, subst, sym}
-use Prim.Native.Nat.{_<_, _≤_, suc, ℕ}
+use mathlib.Core.Path.{_∙_, _≡_, refl, subst, sym}
+use Prim.Native.Nat.{_<_, _≤_, ℕ}
 use native.Mathlib.Omega.{arith}
 use lib.Dec.{T, eqb, ltb, lt→ltb}
-use Rattle.model.specs.Basics.Choice.{Below, Same, below, it, other, pick, same, under}
+use Rattle.model.specs.Basics.Choice.{Below, Same, below, it, other, over, pick, same, under}
 use Rattle.model.specs.Effect.Places.{draftSort, objectSort, sortKind, sortType, vacant}
-use Rattle.model.specs.Effect.PlacesLaws.{create-secure, create-wellFormed, delete-secure, delete-wellFormed, move-secure, move-wellFormed}
+use Rattle.model.specs.Effect.PlacesLaws.{create-secure, create-wellFormed, delete-secure, delete-wellFormed, move-secure, move-wellFormed, vacant-absent}
 use Rattle.model.specs.Effect.ScreensLaws.{clear-secure, clear-wellFormed, login-secure, login-wellFormed, logout-secure, logout-wellFormed}
 use Rattle.model.specs.Effect.ShowLaws.{show-both}
 use Rattle.model.specs.Effect.TriplesLaws.{grant-secure, grant-wellFormed, revoke-secure, revoke-wellFormed}
 use Rattle.model.specs.Effect.Words.{notice}
-use Rattle.model.specs.Effect.WordsLaws.{acknowledge-secure, acknowledge-wellFormed, authorised-secure, authorised-wellFormed, clearance-wellFormed, current-secure, current-wellFormed, edit-secure, edit-wellFormed, level-wellFormed, mark-secure, mark-wellFormed, maximum-secure, maximum-wellFormed, release-secure, release-wellFormed}
+use Rattle.model.specs.Effect.WordsLaws.{acknowledge-secure, acknowledge-wellFormed, authorised-secure, authorised-wellFormed, clearance-wellFormed, current-secure, current-wellFormed, edit-secure, edit-wellFormed, level-wellFormed, mark-secure, mark-wellFormed, maximum-secure, maximum-wellFormed, notice-secure, notice-wellFormed, release-secure, release-wellFormed}
 use Rattle.model.specs.Request.Allowed.{Allowed, MayCreate}
 use Rattle.model.specs.Request.Asked.{Asked, asked, namedTriple, own}
 use Rattle.model.specs.Request.Ladder.{after, answer, effect, leaves, noticedOp}
+use Rattle.model.specs.Request.LadderLaws.{answer-is, answer-range}
 use Rattle.model.specs.Request.OperationLaws.{number-range}
 use Rattle.model.specs.Request.Operations.{Op, numberOf, opOf, rowOf, toAcknowledge, toAuthorised, toClear, toClearance, toCopy, toCreate, toCurrent, toDelete, toDeviceLevel, toEdit, toGrant, toLevel, toLogin, toLogout, toMark, toMaximum, toMove, toRelease, toRevoke, toShow}
 use Rattle.model.specs.Request.Words.{Request}
 use Rattle.model.specs.State.Secure.{Good, Secure}
 use Rattle.model.specs.State.WellFormed.{WellFormed}
-use Rattle.model.specs.Tables.RowLaws.{sought}
-use Rattle.model.specs.Tables.Rows.{Sought, seek}
-use Rattle.model.specs.Tables.Words.{Tables, absentKind, containerKind, deviceKind, draftType, entityCount, firstNoticed, kinds, objectKind, operationCount, plainType, present, value}
+use Rattle.model.specs.Tables.Words.{Tables, containerKind, deviceKind, draftType, firstNoticed, kinds, objectKind, operationCount, plainType, present, value}
+use Rattle.model.specs.Theorem.Acceptance.{accepted, requester-known}
 
 -- the sort of a new entity gives its kind and type
 sort-kind : (s : ℕ) → (objectKind ≤ sortKind s) × (sortKind s ≤ containerKind)
@@ -42,14 +42,6 @@ sort-type s = go (eqb s draftSort) (eqb s objectSort) (same s draftSort) (same s
     go true false (it e) (other f) = inr (refl, refl)
     go false true (other e) (it f) = inl refl
     go false false (other e) (other f) = inl refl
-
--- the lowest absent number is absent
-pub vacant-absent : (d : Tables) → vacant d ≤ entityCount → kinds d (vacant d) ≡ absentKind
-vacant-absent d h = go (sought 0 (λ i. kinds d (suc i)) entityCount)
-  where
-    go : Sought 0 (λ i. kinds d (suc i)) entityCount (seek 0 (λ i. kinds d (suc i)) entityCount) → kinds d (vacant d) ≡ 0
-    go (inl s) = s .1
-    go (inr s) = absurd (omega (arith, s .0))
 
 -- Each operation's effect keeps them.
 module _ (d : Tables) (w : WellFormed d) (g : Secure d) (s : Asked) (p : d .user (s .user) present ≢ 0) where
@@ -122,3 +114,24 @@ module _ (d : Tables) (q : Request) where
   pub effect-by : (o : Op) → opOf (q .operation) ≡ some o → effect d q ≡ rowOf o .effect (asked d q) d
   unfolding effect
   effect-by o e = subst (λ (m : Option Op). elim m [ none ↦ d | some o ↦ rowOf o .effect (asked d q) d ] ≡ rowOf o .effect (asked d q) d) (sym e) refl
+
+-- The theorem: for any request at all.
+pub request-good : (d : Tables) → Good d → (q : Request) → Good (after d q)
+unfolding asked
+request-good d g q = go (answer d q) refl (eqb (answer d q) 0) (ltb (answer d q) firstNoticed) (same (answer d q) 0) (below (answer d q) firstNoticed)
+  where
+    settled : answer d q ≡ 0 → Good (effect d q)
+    settled e =
+        let a = accepted d q e (g .0) in
+        rw (effect-by d q (a .0) (a .1 .meant .named)) (effect-good d (g .0) (g .1) (asked d q) (a .1 .meant .known .there) (a .0) (a .1 .allowed))
+
+    go : (n : ℕ) → answer d q ≡ n → (a b : Bool) → Same n 0 a → Below n firstNoticed b → Good (after d q)
+    go n e true b (it z) l = rw (after-accepted d q (e ∙ z)) (settled (e ∙ z))
+    go n e false true (other z) (under l) = rw (after-unchanged d q n e (omega arith) l) g
+    go n e false false (other z) (over l) =
+        let k = requester-known d q (answer-is d q .below 4 (omega arith)) in
+        let r = answer-range d q in
+        rw (after-noticed d q n e l) (
+          notice-wellFormed d (g .0) (g .1) (q .user) n (noticedOp q) (k .there) (l, omega arith) (noticedOp-range q),
+          notice-secure d (g .0) (g .1) (q .user) n (noticedOp q) (k .there) (l, omega arith) (noticedOp-range q),
+        )

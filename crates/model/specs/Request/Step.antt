@@ -1,0 +1,21 @@
+-- The step on words: rule 7.1, then the ladder. Any two lists of words have an answer, and words that stand afterwards.
+use mathlib.Core.Bool.{Bool, _&&_}
+use mathlib.Core.List.{List}
+use Prim.Native.Nat.{ℕ}
+use lib.Dec.{eqb}
+use lib.ListN.{length}
+use Rattle.model.specs.Basics.Choice.{pick}
+use Rattle.model.specs.Request.Ladder.{after, answer}
+use Rattle.model.specs.Request.Words.{requestOf, requestWords}
+use Rattle.model.specs.Tables.Layout.{tablesOf, wordCount}
+use Rattle.model.specs.Tables.WordsOf.{wordsOf}
+
+-- Rule 7.1: 2,304 words of tables and sixteen of a request.
+unfoldable pub sized : List ℕ → List ℕ → Bool
+sized t q = eqb (length t) wordCount && eqb (length q) requestWords
+
+unfoldable pub answerOf : List ℕ → List ℕ → ℕ
+answerOf t q = pick (sized t q) (answer (tablesOf t) (requestOf q)) 1
+
+unfoldable pub afterOf : List ℕ → List ℕ → List ℕ
+afterOf t q = pick (sized t q) (wordsOf (after (tablesOf t) (requestOf q))) t

@@ -1,0 +1,92 @@
+-- The same over words: for any two lists of words the answer and the words afterwards are fixed, and what was well-formed and secure stays so.
+use mathlib.Core.Bool.{Bool, false, not, true}
+use mathlib.Core.List.{List}
+use mathlib.Core.Path.{_∙_, _≡_, ap, refl, sym}
+use Prim.Native.Nat.{_<_, _≤_, ℕ}
+use native.Mathlib.Omega.{arith}
+use lib.Dec.{T, eqb, ltb}
+use lib.ListN.{length}
+use Rattle.model.specs.Basics.Agree.{Agrees, agrees-and, agrees-eq}
+use Rattle.model.specs.Basics.Choice.{Below, Same, below, it, other, over, pick, same, under}
+use Rattle.model.specs.Basics.Reading.{is-false, is-true}
+use Rattle.model.specs.Request.Ladder.{after, answer}
+use Rattle.model.specs.Request.LadderLaws.{answer-is}
+use Rattle.model.specs.Request.Step.{afterOf, answerOf, sized}
+use Rattle.model.specs.Request.Words.{Request, requestOf, requestWords}
+use Rattle.model.specs.State.Agree.{wellFormed-bounded}
+use Rattle.model.specs.Tables.Layout.{Bounded, tablesOf, wordCount}
+use Rattle.model.specs.Tables.LayoutLaws.{bounded}
+use Rattle.model.specs.Tables.Words.{Tables, firstNoticed}
+use Rattle.model.specs.Tables.WordsOf.{wordsOf}
+use Rattle.model.specs.Tables.WordsOfLaws.{tablesOf-injective, tablesOf-wordsOf, wordsOf-length, wordsOf-tablesOf}
+use Rattle.model.specs.Theorem.Acceptance.{accepted-good, judged}
+use Rattle.model.specs.Theorem.Kept.{request-good}
+use Rattle.model.specs.Theorem.Unchanged.{low-refusal}
+
+-- Rule 7.1: what a step on lists of the right sizes is.
+pub sized-agrees : (t q : List ℕ) → Agrees (sized t q) ((length t ≡ wordCount) × (length q ≡ requestWords))
+unfolding sized
+sized-agrees t q = agrees-and (agrees-eq (length t) wordCount) (agrees-eq (length q) requestWords)
+
+-- Other sizes are answered 1, and nothing changes.
+pub unsized : (t q : List ℕ) → T (not (sized t q)) → (answerOf t q ≡ 1) × (afterOf t q ≡ t)
+unfolding answerOf afterOf
+unsized t q n = go (sized t q) n
+  where
+    go : (b : Bool) → T (not b) → (pick b (answer (tablesOf t) (requestOf q)) 1 ≡ 1) × (pick b (wordsOf (after (tablesOf t) (requestOf q))) t ≡ t)
+    go true n = absurd n
+    go false n = (refl, refl)
+
+-- On lists of the right sizes the step is the ladder's.
+pub answerOf-sized : (t q : List ℕ) → T (sized t q) → answerOf t q ≡ answer (tablesOf t) (requestOf q)
+unfolding answerOf
+answerOf-sized t q h = go (sized t q) h
+  where
+    go : (b : Bool) → T b → pick b (answer (tablesOf t) (requestOf q)) 1 ≡ answer (tablesOf t) (requestOf q)
+    go true h = refl
+    go false h = absurd h
+
+pub afterOf-sized : (t q : List ℕ) → T (sized t q) → afterOf t q ≡ wordsOf (after (tablesOf t) (requestOf q))
+unfolding afterOf
+afterOf-sized t q h = go (sized t q) h
+  where
+    go : (b : Bool) → T b → pick b (wordsOf (after (tablesOf t) (requestOf q))) t ≡ wordsOf (after (tablesOf t) (requestOf q))
+    go true h = refl
+    go false h = absurd h
+
+-- A request leaves tables of words.
+pub after-bounded : (d : Tables) → Bounded d → (q : Request) → Bounded (after d q)
+after-bounded d b q = go (eqb (answer d q) 0) (ltb (answer d q) firstNoticed) (same (answer d q) 0) (below (answer d q) firstNoticed)
+  where
+    -- past rungs 2 and 3 the tables are good
+    go : (x y : Bool) → Same (answer d q) 0 x → Below (answer d q) firstNoticed y → Bounded (after d q)
+    go true y (it z) l = wellFormed-bounded (after d q) (request-good d (accepted-good d q z b) q .0)
+    go false true (other z) (under l) = rw (low-refusal d q (omega arith) l) b
+    go false false (other z) (over l) = wellFormed-bounded (after d q) (request-good d (judged d q b (answer-is d q .below 2 (omega arith)) (answer-is d q .below 3 (omega arith))) q .0)
+
+-- The words afterwards are the tables afterwards.
+pub afterOf-tables : (t q : List ℕ) → T (sized t q) → tablesOf (afterOf t q) ≡ after (tablesOf t) (requestOf q)
+afterOf-tables t q h = ap tablesOf (afterOf-sized t q h) ∙ tablesOf-wordsOf (after (tablesOf t) (requestOf q)) (after-bounded (tablesOf t) (bounded t) (requestOf q))
+
+pub afterOf-length : (t q : List ℕ) → length (afterOf t q) ≡ length t
+unfolding afterOf
+afterOf-length t q = go (sized t q) (sized-agrees t q .to)
+  where
+    go : (b : Bool) → (T b → (length t ≡ wordCount) × (length q ≡ requestWords)) → length (pick b (wordsOf (after (tablesOf t) (requestOf q))) t) ≡ length t
+    go true f = wordsOf-length (after (tablesOf t) (requestOf q)) ∙ sym (f tt .0)
+    go false f = refl
+
+-- No other words give those tables.
+pub afterOf-unique : (t q r : List ℕ) → T (sized t q) → length r ≡ wordCount → tablesOf r ≡ after (tablesOf t) (requestOf q) → r ≡ afterOf t q
+afterOf-unique t q r h l e = tablesOf-injective r (afterOf t q) l (afterOf-length t q ∙ sized-agrees t q .to h .0) (e ∙ sym (afterOf-tables t q h))
+
+-- Refusals 1 to 4 leave every word.
+pub low-refusal-words : (t q : List ℕ) → 1 ≤ answerOf t q → answerOf t q < firstNoticed → afterOf t q ≡ t
+low-refusal-words t q l h = go (sized t q) refl
+  where
+    go : (b : Bool) → sized t q ≡ b → afterOf t q ≡ t
+    go true e =
+        let s = is-true (sized t q) e in
+        let a = answerOf-sized t q s in
+        afterOf-sized t q s ∙ ap wordsOf (low-refusal (tablesOf t) (requestOf q) (omega arith) (omega arith)) ∙ wordsOf-tablesOf t (sized-agrees t q .to s .0)
+    go false e = unsized t q (is-false (sized t q) e) .1
