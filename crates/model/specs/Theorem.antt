@@ -8,9 +8,11 @@ pub mod LawfulSame
 pub mod LawfulShow
 pub mod Lawful
 pub mod LawfulNotice
-pub mod Unchanged
-pub mod Words
+pub mod System
 pub mod Untouched
 pub mod FramedPlaces
 pub mod Framed
 pub mod Fixed
+pub mod Unchanged
+pub mod Notices
+pub mod Words

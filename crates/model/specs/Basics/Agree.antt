@@ -31,6 +31,14 @@ agrees-not {b} a = record { to = go b (a .from); from = back b (a .to) }
     back true f n = n (f tt)
     back false f n = tt
 
+-- not not
+pub agrees-twice : {b : Bool} {P : Type 0} → Agrees b P → Agrees (not (not b)) P
+agrees-twice {b} a = go b (a .to) (a .from)
+  where
+    go : {P : Type 0} (b : Bool) → (T b → P) → (P → T b) → Agrees (not (not b)) P
+    go true f g = record { to = f; from = g }
+    go false f g = record { to = f; from = g }
+
 pub agrees-and : {a b : Bool} {P Q : Type 0} → Agrees a P → Agrees b Q → Agrees (a && b) (P × Q)
 agrees-and {a} {b} p q = record { to = go a b (p .to) (q .to); from = λ z. back a b (p .from (z .0)) (q .from (z .1)) }
   where

@@ -7,7 +7,7 @@ use native.Mathlib.Nat.{not-suc-le-zero}
 use native.Mathlib.Omega.{arith}
 use lib.Dec.{T, eqb}
 use Rattle.model.specs.Basics.Choice.{pick}
-use Rattle.model.specs.Effect.Places.{create, delete, erase, fresh, leave, move, vacant}
+use Rattle.model.specs.Effect.Places.{create, delete, erase, fresh, leave, move, objectSort, sortKind, vacant}
 use Rattle.model.specs.Effect.PutLaws.{Takes, fewer-there, leave-secure, leave-wellFormed, put-secure, put-wellFormed, stayed}
 use Rattle.model.specs.Level.{AtMost, levelCount}
 use Rattle.model.specs.State.Agree.{zero-ok}
@@ -20,7 +20,7 @@ use Rattle.model.specs.Tables.EditLaws.{case, each}
 use Rattle.model.specs.Tables.Edits.{Edit, _and_, blank, row, word, written}
 use Rattle.model.specs.Tables.RowLaws.{sought}
 use Rattle.model.specs.Tables.Rows.{Sought, seek}
-use Rattle.model.specs.Tables.Words.{EntityWord, Tables, absentKind, clearance, count, counts, devices, entityCount, kind, kinds, level, mark, maximum, places, releaser, shown, sums, triple, triples, type, value}
+use Rattle.model.specs.Tables.Words.{EntityWord, Tables, absentKind, clearance, containerKind, count, counts, deviceKind, devices, entityCount, kind, kinds, level, mark, maximum, objectKind, places, releaser, shown, sums, triple, triples, type, value}
 
 -- the level of e changes, and e neither holds anything nor is held
 module _ (d : Tables) (s : Secure d) (e l : ℕ) (nothing : (c : ℕ) → Holds d e c → ⊥) (nowhere : (x : ℕ) → Holds d x e → ⊥) where
@@ -225,3 +225,11 @@ vacant-absent d h = go (sought 0 (λ i. kinds d (suc i)) entityCount)
     go : Sought 0 (λ i. kinds d (suc i)) entityCount (seek 0 (λ i. kinds d (suc i)) entityCount) → kinds d (vacant d) ≡ 0
     go (inl s) = s .1
     go (inr s) = absurd (omega (arith, s .0))
+
+-- A sort is an object or a container, and no device.
+pub sort-plain : (s : ℕ) → sortKind s ≢ deviceKind
+sort-plain s = go (eqb s objectSort)
+  where
+    go : (b : Bool) → pick b objectKind containerKind ≢ deviceKind
+    go true z = let y : _≡_ {A = ℕ} 1 3 = z in omega arith
+    go false z = let y : _≡_ {A = ℕ} 2 3 = z in omega arith

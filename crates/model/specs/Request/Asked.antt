@@ -2,9 +2,9 @@
 use mathlib.Core.Bool.{Bool}
 use mathlib.Core.List.{List}
 use Prim.Native.Nat.{ℕ}
-use lib.Dec.{T, eqb}
+use lib.Dec.{eqb}
 use Rattle.model.specs.Basics.Choice.{pick}
-use Rattle.model.specs.Level.{bit}
+use Rattle.model.specs.Level.{Bit, bit}
 use Rattle.model.specs.Request.Reference.{basis, resolve}
 use Rattle.model.specs.Request.Words.{Request, names}
 use Rattle.model.specs.Tables.Words.{Tables, current, devices, tripleOf}
@@ -43,12 +43,12 @@ basisOf s k = pick (eqb k 1) (s .firstBasis) (s .secondBasis)
 abbrev pub own : Tables → Asked → ℕ
 own d s = devices d (s .user)
 
--- Rule 5.6: the requester has a role, by its bit, among the current ones.
+-- Rule 5.6: a user has a role, by its bit, among the current ones.
+abbrev pub HasRole : Tables → ℕ → ℕ → Type 0
+HasRole d u r = Bit r (d .user u current)
+
 unfoldable pub hasRole : Tables → ℕ → ℕ → Bool
 hasRole d u r = bit r (d .user u current)
-
-abbrev pub HasRole : Tables → ℕ → ℕ → Type 0
-HasRole d u r = T (hasRole d u r)
 
 -- the triple that operations 8 and 9 name
 abbrev pub namedTriple : Asked → ℕ

@@ -7,10 +7,10 @@ use Prim.Native.Nat.{_<_, _≤_, suc, zero, ℕ}
 use native.Mathlib.Nat.{eq-or-lt-of-le, le-of-suc-le-suc}
 use native.Mathlib.Omega.{arith}
 use lib.Dec.{T, eqb, ltb}
-use Rattle.model.specs.Basics.Agree.{Agrees, agrees-T, agrees-and, agrees-as, agrees-eq, agrees-imp, agrees-not, agrees-or, agrees-range}
+use Rattle.model.specs.Basics.Agree.{Agrees, agrees-T, agrees-and, agrees-as, agrees-eq, agrees-imp, agrees-not, agrees-or, agrees-range, agrees-twice}
 use Rattle.model.specs.Basics.Reading.{is-true}
 use Rattle.model.specs.Basics.Tests.{every, imp}
-use Rattle.model.specs.Level.{AtMost, atMost, roleCount}
+use Rattle.model.specs.Level.{AtMost, atMost, bit, roleCount}
 use Rattle.model.specs.Request.Allowed.{Open, Permitted}
 use Rattle.model.specs.Request.Asked.{HasRole, hasRole}
 use Rattle.model.specs.Request.Conditions.{onScreen}
@@ -24,7 +24,7 @@ use Rattle.model.specs.State.Depth.{Within}
 use Rattle.model.specs.State.WellFormed.{Holds, InTables, WellFormed}
 use Rattle.model.specs.Tables.Layout.{Bounded}
 use Rattle.model.specs.Tables.Rows.{Member, seek}
-use Rattle.model.specs.Tables.Words.{Tables, clearance, count, counts, device, deviceKind, devices, entityCount, kind, kinds, level, mark, placeCount, places, tripleOf, triples, userCount, whoRole}
+use Rattle.model.specs.Tables.Words.{Tables, clearance, count, counts, current, device, deviceKind, devices, entityCount, kind, kinds, level, mark, placeCount, places, tripleOf, triples, userCount, whoRole}
 
 -- some number below n passes
 agrees-some : (n : ℕ) (p : ℕ → Bool) (P : ℕ → Type 0) → ((i : ℕ) → Agrees (p i) (P i)) → Agrees (not (every n (λ i. not (p i)))) ((i : ℕ) × (i < n) × P i)
@@ -40,6 +40,11 @@ agrees-some (suc n) p P a = go (p n) (every n (λ i. not (p i))) (a n) (agrees-s
         lower-one z (inl e) = absurd (x .from (subst P e (z .2)))
         lower-one z (inr l) = (z .0, l, z .2)
 
+-- Rule 5.6: the test is of current roles.
+pub role-agrees : (d : Tables) (u r : ℕ) → Agrees (hasRole d u r) (HasRole d u r)
+unfolding hasRole
+role-agrees d u r = agrees-T (bit r (d .user u current))
+
 -- Rule 7.8.
 pub permits-agrees : (d : Tables) (u o k e : ℕ) → Agrees (permits d u o k e) (Permitted d u o k e)
 unfolding permits
@@ -48,7 +53,7 @@ permits-agrees d u o k e = agrees-or (member-agrees (triples d e) placeCount (tr
     (λ z. (z .0, z .1, z .2 .0, z .2 .1)) (λ z. (z .0, z .1, (z .2, z .3)))
     (agrees-some roleCount (λ r. hasRole d u r && ltb (seek (tripleOf (whoRole r) o k) (triples d e) placeCount) placeCount)
     (λ r. HasRole d u r × Member (triples d e) placeCount (tripleOf (whoRole r) o k))
-    (λ r. agrees-and (agrees-T (hasRole d u r)) (member-agrees (triples d e) placeCount (tripleOf (whoRole r) o k)))))
+    (λ r. agrees-and (role-agrees d u r) (member-agrees (triples d e) placeCount (tripleOf (whoRole r) o k)))))
 
 -- one more entity on the way
 open-first : (d : Tables) (u e : ℕ) (es : List ℕ) → (d .entity e mark ≢ 0 → AtMost (d .entity e level) (d .user u clearance)) → Open d u es → Open d u (e ∷ es)
@@ -78,17 +83,10 @@ module _ (d : Tables) (w : WellFormed d) where
   -- Rule 6.2: e stands on no device.
   pub screen-agrees : (e : ℕ) → Agrees (not (onScreen d e)) ((x : ℕ) → kinds d x ≡ deviceKind → Holds d x e → ⊥)
   unfolding onScreen
-  screen-agrees e = agrees-as {P = ((x : ℕ) → kinds d x ≡ deviceKind → Holds d x e → ⊥)} (λ f. f) (λ f. f) (twice (agrees-range entityCount (λ v. imp (eqb (kinds d v) deviceKind) (not (ltb (seek e (places d v) (counts d v)) (counts d v))))
+  screen-agrees e = agrees-twice (agrees-range entityCount (λ v. imp (eqb (kinds d v) deviceKind) (not (ltb (seek e (places d v) (counts d v)) (counts d v))))
       (λ x. kinds d x ≡ deviceKind → Holds d x e → ⊥)
       (λ v. agrees-imp (agrees-eq (kinds d v) deviceKind) (agrees-not (member-agrees (places d v) (counts d v) e)))
-      (λ k. absurd (omega (arith, bound .entityOut 0 (inl refl) kind))) (λ x r k. absurd (omega (arith, bound .entityOut x (inr r) kind)))))
-    where
-      twice : {b : Bool} {P : Type 0} → Agrees b P → Agrees (not (not b)) P
-      twice {b} a = go b (a .to) (a .from)
-        where
-          go : {P : Type 0} (b : Bool) → (T b → P) → (P → T b) → Agrees (not (not b)) P
-          go true f g = record { to = f; from = g }
-          go false f g = record { to = f; from = g }
+      (λ k. absurd (omega (arith, bound .entityOut 0 (inl refl) kind))) (λ x r k. absurd (omega (arith, bound .entityOut x (inr r) kind))))
 
   -- Rule 6.12: nobody is on the device v.
   pub nobody-agrees : (v : ℕ) → 1 ≤ v → Agrees (every userCount (λ u. not (eqb (devices d (suc u)) v))) ((x : ℕ) → devices d x ≢ v)

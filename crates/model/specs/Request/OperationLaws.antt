@@ -52,6 +52,10 @@ number-opOf toDeviceLevel = refl
 number-opOf toRelease = refl
 number-opOf toAcknowledge = refl
 
+-- two operations of one number are one
+pub number-injective : (o p : Op) → numberOf o ≡ numberOf p → o ≡ p
+number-injective o p e = let z : some o ≡ some p = sym (number-opOf o) ∙ ap opOf e ∙ number-opOf p in cc
+
 -- the numbers are 1 to 20
 pub number-range : (o : Op) → (1 ≤ numberOf o) × (numberOf o ≤ operationCount)
 number-range o = agrees-and (agrees-le 1 (numberOf o)) (agrees-le (numberOf o) operationCount) .to (go o)

@@ -48,7 +48,7 @@ unfolding applies rungAt ladder unknownUser
 requester-known d q e =
     let t = is-false (not ((leb 1 (q .user) && leb (q .user) userCount) && not (eqb (d .user (q .user) present) 0))) e in
     let z = agrees-and (agrees-and (agrees-le 1 (q .user)) (agrees-le (q .user) userCount)) (agrees-not (agrees-eq (d .user (q .user) present) 0))
-        .to (not-not ((leb 1 (q .user) && leb (q .user) userCount) && not (eqb (d .user (q .user) present) 0)) t) in
+    .to (not-not ((leb 1 (q .user) && leb (q .user) userCount) && not (eqb (d .user (q .user) present) 0)) t) in
     record { low = z .0 .0; high = z .0 .1; there = z .1 }
 
 module _ (d : Tables) (q : Request) (e : answer d q ≡ 0) where

@@ -1,11 +1,11 @@
 -- An operation whose own rungs do not apply, on operands of the right kinds and arguments in their ranges, is allowed (rungs 5 and 10 to 16).
-use mathlib.Core.Bool.{Bool, _&&_, _||_, false, not, true}
+use mathlib.Core.Bool.{Bool, _&&_, _||_, not}
 use mathlib.Core.Logic.{_≢_}
 use mathlib.Core.Path.{_≡_}
 use Prim.Native.Nat.{_≤_, suc, ℕ}
 use native.Mathlib.Omega.{arith}
 use lib.Dec.{T, eqb, eqb→eq, leb, leb→le, le→leb, ltb→lt, nleb→lt}
-use Rattle.model.specs.Basics.Agree.{Agrees, agrees-and, agrees-eq, agrees-le, agrees-not}
+use Rattle.model.specs.Basics.Agree.{Agrees, agrees-and, agrees-eq, agrees-le, agrees-not, agrees-twice}
 use Rattle.model.specs.Basics.Reading.{nand, nor-l, nor-r, not-not}
 use Rattle.model.specs.Basics.Tests.{every}
 use Rattle.model.specs.Effect.Places.{draftSort, leave, objectSort, vacant}
@@ -14,8 +14,8 @@ use Rattle.model.specs.Effect.WordsLaws.{clearance-wellFormed, level-wel
 use Rattle.model.specs.Level.{Lower, atMost, downgrader, levelCount, lower, officer, releasing, roleCount, roleSets, subset}
 use Rattle.model.specs.LevelLaws.{lower-agrees}
 use Rattle.model.specs.Request.Allowed.{Allowed, MayAcknowledge, MayAuthorise, MayClearance, MayCopy, MayCreate, MayCurrent, MayDelete, MayDeviceLevel, MayGrant, MayLevel, MayLogin, MayMark, MayMaximum, MayMove, MayRelease, MayRevoke, MayShow, On}
-use Rattle.model.specs.Request.Asked.{Asked, HasRole, hasRole, namedTriple, operand, own}
-use Rattle.model.specs.Request.ConditionLaws.{inside-agrees, nobody-agrees, screen-agrees}
+use Rattle.model.specs.Request.Asked.{Asked, HasRole, namedTriple, operand, own}
+use Rattle.model.specs.Request.ConditionLaws.{inside-agrees, nobody-agrees, role-agrees, screen-agrees}
 use Rattle.model.specs.Request.Conditions.{aFlag, aLevel, aPosition, aSort, aSum, aWho, anOperation, between, createAbove, createNoRoom, currentOutside, deleteForbidden, deviceAbove, deviceLowered, firstAbove, free, grantNoRoom, insecure, isAny, isContainer, isDevice, isDraft, isEntity, lacks, levelLowered, levelOf, loginTaken, moveInside, moveNoRoom, notAcknowledged, onScreen, rolesOfAnother, rolesOff, rolesUnauthorised, showAbove, showNoRoom, showUnlabelled, someRoles, userAbsent}
 use Rattle.model.specs.Request.Ladder.{rangeAt, refused}
 use Rattle.model.specs.Request.LadderLaws.{AllOperands}
@@ -60,11 +60,7 @@ thing-agrees d e = agrees-and (agrees-le objectKind (kinds d e)) (agrees-le (kin
 
 lacks-agrees : (d : Tables) (s : Asked) (r : ℕ) → Agrees (not (lacks r d s)) (HasRole d (s .user) r)
 unfolding lacks
-lacks-agrees d s r = record { to = not-not (hasRole d (s .user) r); from = λ t. go (hasRole d (s .user) r) t }
-  where
-    go : (b : Bool) → T b → T (not (not b))
-    go true t = tt
-    go false t = t
+lacks-agrees d s r = agrees-twice (role-agrees d (s .user) r)
 
 module _ (d : Tables) (w : WellFormed d) (s : Asked) where
   may-create : Clear toCreate s d → MayCreate s d

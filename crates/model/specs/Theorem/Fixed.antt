@@ -1,19 +1,16 @@
 -- What no accepted operation changes: who the users are, which entities are devices, and, but for acknowledge, the notices.
-use mathlib.Core.Bool.{Bool, false, true}
 use mathlib.Core.Logic.{Iff·rfl, _↔_, _≢_}
 use mathlib.Core.Path.{_≡_, ap, refl}
 use Prim.Native.Nat.{ℕ}
 use native.Mathlib.Omega.{arith}
-use lib.Dec.{eqb}
-use Rattle.model.specs.Basics.Choice.{pick}
-use Rattle.model.specs.Effect.Places.{objectSort, sortKind, vacant}
-use Rattle.model.specs.Effect.PlacesLaws.{vacant-absent}
+use Rattle.model.specs.Effect.Places.{sortKind, vacant}
+use Rattle.model.specs.Effect.PlacesLaws.{sort-plain, vacant-absent}
 use Rattle.model.specs.Request.Allowed.{Allowed}
 use Rattle.model.specs.Request.Asked.{Asked}
 use Rattle.model.specs.Request.Operations.{Op, rowOf, toAcknowledge, toAuthorised, toClear, toClearance, toCopy, toCreate, toCurrent, toDelete, toDeviceLevel, toEdit, toGrant, toLevel, toLogin, toLogout, toMark, toMaximum, toMove, toRelease, toRevoke, toShow}
 use Rattle.model.specs.State.WellFormed.{WellFormed}
 use Rattle.model.specs.Tables.EditLaws.{case}
-use Rattle.model.specs.Tables.Words.{Tables, containerKind, deviceKind, held, heldOp, kinds, missed, objectKind, present}
+use Rattle.model.specs.Tables.Words.{Tables, deviceKind, held, heldOp, kinds, missed, present}
 
 -- Every user that was there is there, and no other (rule 8.4).
 pub users-fixed : (o : Op) (d : Tables) → WellFormed d → (s : Asked) → Allowed o s d → (u : ℕ) → rowOf o .effect s d .user u present ≡ d .user u present
@@ -38,15 +35,10 @@ users-fixed toDeviceLevel d w s a u = refl
 users-fixed toRelease d w s a u = refl
 users-fixed toAcknowledge d w s a u = refl
 
--- what create makes is no device
-sort-no-device : (b : Bool) → pick b objectKind containerKind ≢ deviceKind
-sort-no-device true q = let z : _≡_ {A = ℕ} 1 3 = q in omega arith
-sort-no-device false q = let z : _≡_ {A = ℕ} 2 3 = q in omega arith
-
 -- Every device stays a device, and nothing else becomes one (rule 8.4).
 pub devices-fixed : (o : Op) (d : Tables) → WellFormed d → (s : Asked) → Allowed o s d → (x : ℕ) → (kinds (rowOf o .effect s d) x ≡ deviceKind) ↔ (kinds d x ≡ deviceKind)
 devices-fixed toCreate d w s a x = case (λ (k : ℕ). (k ≡ deviceKind) ↔ (kinds d x ≡ deviceKind)) x (vacant d) (sortKind (s .a)) (kinds d x)
-    (λ q. (λ h. absurd (sort-no-device (eqb (s .a) objectSort) h), λ h. absurd (omega (arith, h, ap (kinds d) q, vacant-absent d (a .number)))))
+    (λ q. (λ h. absurd (sort-plain (s .a) h), λ h. absurd (omega (arith, h, ap (kinds d) q, vacant-absent d (a .number)))))
     (λ q. Iff·rfl)
 devices-fixed toDelete d w s a x = case (λ (k : ℕ). (k ≡ deviceKind) ↔ (kinds d x ≡ deviceKind)) x (s .first) 0 (kinds d x)
     (λ q. (λ h. absurd (omega (arith, h)), λ h. absurd (omega (arith, h, ap (kinds d) q, a .thing))))

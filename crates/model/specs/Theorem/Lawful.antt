@@ -1,12 +1,13 @@
 -- Every accepted request obeys Definitions 5 to 11, in well-formed tables, whatever its operation.
 use mathlib.Core.Bool.{Bool, false, true}
-use mathlib.Core.Logic.{_≢_, inl, inr}
+use mathlib.Core.Logic.{_≢_, inr}
 use mathlib.Core.Path.{_∙_, _≡_, ap, refl, sym}
-use Prim.Native.Nat.{_≤_, suc, ℕ}
+use Prim.Native.Nat.{ℕ}
 use native.Mathlib.Omega.{arith}
 use lib.Dec.{eqb}
 use Rattle.model.specs.Basics.Choice.{Same, it, other, pick, same}
-use Rattle.model.specs.Effect.Places.{create, delete, fresh, leave, objectSort, sortKind, sortType, vacant}
+use Rattle.model.specs.Effect.Places.{create, delete, fresh, leave, sortKind, sortType, vacant}
+use Rattle.model.specs.Effect.PlacesLaws.{sort-plain, vacant-absent}
 use Rattle.model.specs.Effect.Words.{copy, release}
 use Rattle.model.specs.Request.Allowed.{Accepted, Allowed, MayCopy, MayShow}
 use Rattle.model.specs.Request.Asked.{Asked, asked, operand, own}
@@ -15,9 +16,7 @@ use Rattle.model.specs.Request.Operations.{Op, rowOf, toAcknowledge, toA
 use Rattle.model.specs.Request.Words.{Request}
 use Rattle.model.specs.State.WellFormed.{WellFormed}
 use Rattle.model.specs.Tables.EditLaws.{case}
-use Rattle.model.specs.Tables.RowLaws.{sought}
-use Rattle.model.specs.Tables.Rows.{Sought, seek}
-use Rattle.model.specs.Tables.Words.{Tables, absentKind, containerKind, deviceKind, devices, entityCount, kinds, maximum, objectKind, releasedType, releaser, shown, type}
+use Rattle.model.specs.Tables.Words.{Tables, absentKind, containerKind, devices, kinds, maximum, releasedType, releaser, shown, type}
 use Rattle.model.specs.Theorem.Definitions.{Both, Flows, Obeys, ReleaseSecure, Released, ShowsId}
 use Rattle.model.specs.Theorem.LawfulSame.{Changes, Ids, downgrade-one, downgrade-same, erased, ids-same, release-same, sames, set-current, set-officer, set-same, unborn}
 use Rattle.model.specs.Theorem.LawfulShow.{clear-ids, erase-ids, fresh-ids, leave-ids, put-ids, show-ids, show-named}
@@ -31,22 +30,6 @@ flows-upward o s d d′ h = record { copied = λ e b c. (copy-allowed e) .low; s
 
     show-allowed : o ≡ toShow → MayShow s d
     show-allowed e = rw e at h
-
--- The lowest vacant number, where there is one, is absent.
-vacant-absent : (d : Tables) → vacant d ≤ entityCount → kinds d (vacant d) ≡ absentKind
-vacant-absent d h = go (sought absentKind (λ i. kinds d (suc i)) entityCount)
-  where
-    go : Sought absentKind (λ i. kinds d (suc i)) entityCount (seek absentKind (λ i. kinds d (suc i)) entityCount) → kinds d (vacant d) ≡ absentKind
-    go (inl s) = s .1
-    go (inr s) = absurd (omega (arith, s .0))
-
--- A sort is an object or a container, and no device.
-sort-plain : (s : ℕ) → sortKind s ≢ deviceKind
-sort-plain s = go (eqb s objectSort)
-  where
-    go : (b : Bool) → pick b objectKind containerKind ≢ deviceKind
-    go true z = let y : _≡_ {A = ℕ} 1 3 = z in omega arith
-    go false z = let y : _≡_ {A = ℕ} 2 3 = z in omega arith
 
 module _ (d : Tables) (q : Request) where
   -- what an accepted request by an operation changes, by rules 9.8 to 9.11

@@ -1,0 +1,89 @@
+-- A notice is kept until it is acknowledged (rules 8.2 and 8.3): nobody's request, accepted or refused, takes it away otherwise.
+use mathlib.Core.Bool.{Bool, false, true}
+use mathlib.Core.Logic.{_≢_}
+use mathlib.Core.Option.{some}
+use mathlib.Core.Path.{_∙_, _≡_, ap, refl, subst, sym}
+use Prim.Native.Nat.{_≤_, suc, ℕ}
+use native.Mathlib.Omega.{arith}
+use lib.Dec.{eqb, ltb}
+use Rattle.model.specs.Basics.Choice.{Below, Same, below, it, other, over, pick, same, under}
+use Rattle.model.specs.Effect.Words.{acknowledge, notice}
+use Rattle.model.specs.Request.Allowed.{Allowed}
+use Rattle.model.specs.Request.Asked.{asked}
+use Rattle.model.specs.Request.Ladder.{after, answer, noticedOp}
+use Rattle.model.specs.Request.OperationLaws.{number-injective}
+use Rattle.model.specs.Request.Operations.{Op, numberOf, opOf, rowOf, toAcknowledge}
+use Rattle.model.specs.Request.Words.{Request}
+use Rattle.model.specs.State.WellFormed.{WellFormed}
+use Rattle.model.specs.Tables.Words.{Tables, count, firstNoticed, held, heldOp, missed, missedLimit}
+use Rattle.model.specs.Theorem.Acceptance.{accepted}
+use Rattle.model.specs.Theorem.Fixed.{SameNotice, notices-left}
+use Rattle.model.specs.Theorem.Kept.{after-accepted, after-noticed, after-unchanged, effect-by}
+
+-- A refusal that is held stays held through every notice.
+notice-keeps : (d : Tables) (u r o x : ℕ) → d .user x held ≢ 0 → (notice u r o d .user x held ≡ d .user x held) × (notice u r o d .user x heldOp ≡ d .user x heldOp)
+notice-keeps d u r o x h = go (eqb x u) (same x u)
+  where
+    inner : x ≡ u → (c : Bool) → Same (d .user u held) 0 c → (pick c r (d .user u held) ≡ d .user x held) × (pick c o (d .user u heldOp) ≡ d .user x heldOp)
+    inner e true (it z) = absurd (h (ap (λ (v : ℕ). d .user v held) e ∙ z))
+    inner e false (other z) = (sym (ap (λ (v : ℕ). d .user v held) e), sym (ap (λ (v : ℕ). d .user v heldOp) e))
+
+    go : (b : Bool) → Same x u b → (pick b (pick (eqb (d .user u held) 0) r (d .user u held)) (d .user x held) ≡ d .user x held)
+        × (pick b (pick (eqb (d .user u held) 0) o (d .user u heldOp)) (d .user x heldOp) ≡ d .user x heldOp)
+    go true (it e) = inner e (eqb (d .user u held) 0) (same (d .user u held) 0)
+    go false (other e) = (refl, refl)
+
+-- the count never falls by a notice
+notice-counts : (d : Tables) (u r o x : ℕ) → d .user x missed ≤ missedLimit → d .user x missed ≤ notice u r o d .user x missed
+notice-counts d u r o x h = go (eqb x u) (same x u)
+  where
+    inner : x ≡ u → (c : Bool) → Below (d .user u missed) missedLimit c → d .user x missed ≤ pick c (suc (d .user u missed)) missedLimit
+    inner e true l = let z : d .user x missed ≤ suc (d .user u missed) = omega (arith, ap (λ (v : ℕ). d .user v missed) e) in z
+    inner e false l = let z : d .user x missed ≤ missedLimit = h in z
+
+    go : (b : Bool) → Same x u b → d .user x missed ≤ pick b (pick (ltb (d .user u missed) missedLimit) (suc (d .user u missed)) missedLimit) (d .user x missed)
+    go true (it e) = inner e (ltb (d .user u missed) missedLimit) (below (d .user u missed) missedLimit)
+    go false (other e) = omega arith
+
+-- an acknowledgement of another's is none
+acknowledge-other : (d : Tables) (u x : ℕ) → x ≢ u → SameNotice d (acknowledge u d) x
+acknowledge-other d u x n = go (eqb x u) (same x u)
+  where
+    go : (b : Bool) → Same x u b → (pick b 0 (d .user x held) ≡ d .user x held) × (pick b 0 (d .user x heldOp) ≡ d .user x heldOp) × (pick b 0 (d .user x missed) ≡ d .user x missed)
+    go true (it e) = absurd (n e)
+    go false (other e) = (refl, refl, refl)
+
+-- Rule 8.3: an accepted request that is no acknowledgement leaves every notice; an acknowledgement leaves every other user's.
+pub accepted-notices : (d : Tables) → WellFormed d → (q : Request) → answer d q ≡ 0 → (x : ℕ) → (opOf (q .operation) ≡ some toAcknowledge → x ≢ q .user) → SameNotice d (after d q) x
+unfolding asked
+accepted-notices d w q e x n =
+    let a = accepted d q e w in
+    subst (λ (d′ : Tables). SameNotice d d′ x) (sym (after-accepted d q e ∙ effect-by d q (a .0) (a .1 .meant .named))) (each-op (a .0) (a .1 .meant .named) (a .1 .allowed))
+  where
+    each-op : (o : Op) → opOf (q .operation) ≡ some o → Allowed o (asked d q) d → SameNotice d (rowOf o .effect (asked d q) d) x
+    each-op o m h = go (eqb (numberOf o) (numberOf toAcknowledge)) (same (numberOf o) (numberOf toAcknowledge))
+      where
+        go : (b : Bool) → Same (numberOf o) (numberOf toAcknowledge) b → SameNotice d (rowOf o .effect (asked d q) d) x
+        go true (it z) =
+            let k = number-injective o toAcknowledge z in
+            subst (λ (p : Op). SameNotice d (rowOf p .effect (asked d q) d) x) (sym k) (acknowledge-other d (q .user) x (n (m ∙ ap some k)))
+        go false (other z) = notices-left o d w (asked d q) h (λ k. z (ap numberOf k)) x
+
+-- Rule 8.2: what is held stays held, with its operation, and the count does not fall, until its user's acknowledgement is accepted.
+pub record StillHeld (d d′ : Tables) (x : ℕ) : Type 0 where
+  pub refusal : d′ .user x held ≡ d .user x held
+  pub operation : d′ .user x heldOp ≡ d .user x heldOp
+  pub count : d .user x missed ≤ d′ .user x missed
+
+pub held-kept : (d : Tables) → WellFormed d → (q : Request) (x : ℕ) → d .user x held ≢ 0
+    → (answer d q ≡ 0 → opOf (q .operation) ≡ some toAcknowledge → x ≢ q .user) → StillHeld d (after d q) x
+held-kept d w q x h n = go (answer d q) refl (eqb (answer d q) 0) (ltb (answer d q) firstNoticed) (same (answer d q) 0) (below (answer d q) firstNoticed)
+  where
+    go : (m : ℕ) → answer d q ≡ m → (a b : Bool) → Same m 0 a → Below m firstNoticed b → StillHeld d (after d q) x
+    go m e true b (it z) l =
+        let k = accepted-notices d w q (e ∙ z) x (n (e ∙ z)) in
+        record { refusal = k .0; operation = k .1; count = omega (arith, k .2) }
+    go m e false true (other z) (under l) = rw (after-unchanged d q m e (omega arith) l) record { refusal = refl; operation = refl; count = omega arith }
+    go m e false false (other z) (over l) =
+        let k = notice-keeps d (q .user) m (noticedOp q) x h in
+        rw (after-noticed d q m e l) record { refusal = k .0; operation = k .1; count = notice-counts d (q .user) m (noticedOp q) x (w .users x .notice .countIn) }
