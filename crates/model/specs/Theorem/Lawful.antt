@@ -1,6 +1,6 @@
 -- Every accepted request obeys Definitions 5 to 11, in well-formed tables, whatever its operation.
 use mathlib.Core.Bool.{Bool, false, true}
-use mathlib.Core.Logic.{_≢_, inr}
+use mathlib.Core.Logic.{_≢_, _⊎_, inl, inr}
 use mathlib.Core.Path.{_∙_, _≡_, ap, refl, sym}
 use Prim.Native.Nat.{ℕ}
 use native.Mathlib.Omega.{arith}
@@ -17,7 +17,7 @@ use Rattle.model.specs.Request.Words.{Request}
 use Rattle.model.specs.State.WellFormed.{WellFormed}
 use Rattle.model.specs.Tables.EditLaws.{case}
 use Rattle.model.specs.Tables.Words.{Tables, absentKind, containerKind, devices, kinds, maximum, releasedType, releaser, shown, type}
-use Rattle.model.specs.Theorem.Definitions.{Both, Flows, Obeys, ReleaseSecure, Released, ShowsId}
+use Rattle.model.specs.Theorem.Definitions.{Both, Flows, NamedOpenly, Obeys, ReleaseSecure, Released, ShowsId, TranslationSecure}
 use Rattle.model.specs.Theorem.LawfulSame.{Changes, Ids, downgrade-one, downgrade-same, erased, ids-same, release-same, sames, set-current, set-officer, set-same, unborn}
 use Rattle.model.specs.Theorem.LawfulShow.{clear-ids, erase-ids, fresh-ids, leave-ids, put-ids, show-ids, show-named}
 
@@ -111,10 +111,15 @@ module _ (d : Tables) (q : Request) where
       let f = downgrade-one q d (rowOf toDeviceLevel .effect (asked d q) d) (asked d q .first) (q .a) (λ x. refl) (a .allowed .downgrade) in
       search sames
 
+  -- the requester's device, by the request
+  own-is : own d (asked d q) ≡ devices d (q .user)
+  unfolding asked
+  own-is = refl
+
   -- Rules 9.8 to 9.11 of show: the entity shown is named openly.
   show-changes : ChangedBy toShow
   show-changes a =
-      let i = show-ids (own d (asked d q)) (asked d q .first) (asked d q .a) d q (show-named d q a) in
+      let i = show-ids (own d (asked d q)) (asked d q .first) (asked d q .a) d q own-is (show-named d q a) in
       search sames
 
   -- Rules 9.8 to 9.11 of clear: an empty screen shows no ID.
@@ -204,13 +209,21 @@ module _ (d : Tables) (q : Request) where
 pub ids-lawful : (o : Op) (d : Tables) → WellFormed d → (q : Request) → Accepted o d q → Ids d q (rowOf o .effect (asked d q) d)
 ids-lawful o d w q a = changes d q o a .ids
 
+-- Rule 9.8 on the requester's device, where the paper asks it.
+translation-lawful : (d d′ : Tables) (q : Request) → Ids d q d′ → TranslationSecure d q d′
+translation-lawful d d′ q f x b h = go (f (devices d′ (q .user)) x b h)
+  where
+    go : ShowsId d (devices d′ (q .user)) x ⊎ ((devices d′ (q .user) ≡ devices d (q .user)) × NamedOpenly d q x) → ShowsId d (devices d′ (q .user)) x ⊎ NamedOpenly d q x
+    go (inl z) = inl z
+    go (inr z) = inr (z .1)
+
 -- Rules 9.5 to 9.11: every accepted request obeys all seven definitions.
 pub lawful : (o : Op) (d : Tables) → WellFormed d → (q : Request) → Accepted o d q → Obeys d q (rowOf o .effect (asked d q) d)
 lawful o d w q a = record {
   access = inr (o, a .meant, a .permitted);
   copy = inr (o, a .meant, flows-upward o (asked d q) d (rowOf o .effect (asked d q) d) (a .allowed));
   ccr = inr (o, a .meant, a .cleared);
-  translation = ids-lawful o d w q a (devices (rowOf o .effect (asked d q) d) (q .user));
+  translation = translation-lawful d (rowOf o .effect (asked d q) d) q (ids-lawful o d w q a);
   setting = changes d q o a .setting;
   downgrade = changes d q o a .downgrade;
   release = changes d q o a .release;

@@ -1,7 +1,7 @@
 -- Rule 9.8, what each effect does to the IDs on devices: the one that can be new is that of the entity which a show names.
 use mathlib.Core.Bool.{Bool, false, true}
 use mathlib.Core.Logic.{_≢_, _⊎_, inl, inr}
-use mathlib.Core.Path.{_≡_, ap, refl, subst, sym}
+use mathlib.Core.Path.{_∙_, _≡_, ap, refl, subst, sym}
 use Prim.Native.Nat.{_<_, _≤_, suc, ℕ}
 use native.Mathlib.Nat.{not-suc-le-zero}
 use native.Mathlib.Omega.{arith}
@@ -17,7 +17,7 @@ use Rattle.model.specs.Request.Words.{Request}
 use Rattle.model.specs.Tables.EditLaws.{case}
 use Rattle.model.specs.Tables.RowLaws.{sought}
 use Rattle.model.specs.Tables.Rows.{Sought, left, replace, without}
-use Rattle.model.specs.Tables.Words.{Tables, containerKind, counts, deviceKind, idBit, kinds, places, sums}
+use Rattle.model.specs.Tables.Words.{Tables, containerKind, counts, deviceKind, devices, idBit, kinds, places, sums}
 use Rattle.model.specs.Theorem.Definitions.{NamedOpenly, ShowsId}
 use Rattle.model.specs.Theorem.LawfulSame.{Ids}
 
@@ -78,8 +78,8 @@ pub show-named : (d : Tables) (q : Request) → Accepted toShow d q → NamedOpe
 show-named d q a = (toShow, a .meant, (1, (omega arith, omega arith), refl, a .cleared 1 (omega arith, omega arith)))
 
 -- Rule 9.8 of every device: show of an entity that is named openly puts no other new ID on any device.
-pub show-ids : (v e s : ℕ) (d : Tables) (q : Request) → NamedOpenly d q e → Ids d q (show v e s d)
-show-ids v e s d q named a x b m = mine (eqb a v) (same a v) (m .1)
+pub show-ids : (v e s : ℕ) (d : Tables) (q : Request) → v ≡ devices d (q .user) → NamedOpenly d q e → Ids d q (show v e s d)
+show-ids v e s d q mine-is named a x b m = mine (eqb a v) (same a v) (m .1)
   where
     k : ℕ
     k = spot v e d
@@ -91,13 +91,13 @@ show-ids v e s d q named a x b m = mine (eqb a v) (same a v) (m .1)
     found (inl z) = omega (arith, z .0)
     found (inr z) = omega (arith, z .0)
 
-    placed : (i : ℕ) (t : Bool) → Same i k t → a ≡ v → i < pick (ltb k n) n (suc n) → pick t e (places d v i) ≡ x → T (bit idBit (pick t s (sums d v i))) → ShowsId d a x ⊎ NamedOpenly d q x
-    placed i true (it z) r l p id = inr (subst (NamedOpenly d q) p named)
+    placed : (i : ℕ) (t : Bool) → Same i k t → a ≡ v → i < pick (ltb k n) n (suc n) → pick t e (places d v i) ≡ x → T (bit idBit (pick t s (sums d v i))) → ShowsId d a x ⊎ ((a ≡ devices d (q .user)) × NamedOpenly d q x)
+    placed i true (it z) r l p id = inr (r ∙ mine-is, subst (NamedOpenly d q) p named)
     placed i false (other z) r l p id =
         inl (m .0, subst (λ (y : ℕ). ShownOn d y x) (sym r) (i, used-before k n i (ltb k n) (below k n) (found (sought e (places d v) n)) z l, p, id))
 
     mine : (t : Bool) → Same a v t
         → Shown (pick t (pick (ltb k n) n (suc n)) (counts d a)) (λ i. pick t (replace k e (places d v) i) (places d a i)) (λ i. pick t (replace k s (sums d v) i) (sums d a i)) x
-        → ShowsId d a x ⊎ NamedOpenly d q x
+        → ShowsId d a x ⊎ ((a ≡ devices d (q .user)) × NamedOpenly d q x)
     mine true (it r) h = placed (h .0) (eqb (h .0) k) (same (h .0) k) r (h .1) (h .2) (h .3)
     mine false (other r) h = inl (m .0, h)
