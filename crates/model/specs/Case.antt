@@ -1,4 +1,5 @@
 pub mod Cases
+pub mod Opened
 pub mod S1
 pub mod S1Holds
-pub mod Opened
+pub mod S1Words

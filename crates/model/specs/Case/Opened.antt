@@ -1,10 +1,10 @@
--- One name that opens every definition that a case computes with: a case says `unfolding opened`.
+-- Names that open every definition that a case computes with, room by room: a case says `unfolding opened`.
 use Rattle.model.specs.Basics.Tests.{imp, every}
 use Rattle.model.specs.Case.Cases.{item, gone, asking, ask, raw, stand, passesAt, allPass}
 use Rattle.model.specs.Level.{bit, subset, rank, atMostOver, atMost, lower}
 use Rattle.model.specs.Request.Asked.{asked, hasRole}
 use Rattle.model.specs.Request.Conditions.{isAny, isEntity, isContainer, isDevice, isDraft, between, free, unused, aLevel, someRoles, aUser, aSort, aFlag, aSum, aWho, anOperation, aPosition, lacks, createAbove, createNoRoom, onScreen, deleteForbidden, firstAbove, moveNoRoom, moveInside, levelLowered, insecure, grantNoRoom, showAbove, showNoRoom, showUnlabelled, loginTaken, userAbsent, rolesOff, rolesOfAnother, rolesUnauthorised, currentOutside, deviceAbove, deviceLowered, notAcknowledged}
-use Rattle.model.specs.Request.Ladder.{ofOp, someOperand, notWellFormed, notSecure, unknownUser, lengthFits, namesFit, rangeAt, fits, notUnderstood, notLoggedOn, leadsNowhere, permits, noAccess, bars, notCleared, wrongKind, refused, ownRung, ladder, lowest, answer, effect, noticedOp, leaves, after}
+use Rattle.model.specs.Request.Ladder.{ofOp, someOperand, notWellFormed, notSecure, unknownUser, lengthFits, namesFit, rangeAt, fits, notUnderstood, notLoggedOn, leadsNowhere, permits, noAccess, bars, notCleared, wrongKind, refused, ownRung, ladder, lowest, answer, never, rungAt, applies, effect, noticedOp, leaves, after}
 use Rattle.model.specs.Request.Operations.{operations, withNumber, opOf}
 use Rattle.model.specs.Request.Reference.{presentTest, placeTest, follow, resolve, passed, basis}
 use Rattle.model.specs.Request.Words.{referenceAt, requestOf, names, operandOf}
@@ -15,8 +15,31 @@ use Rattle.model.specs.State.Tests.{packedTest, shapeTest, filledTest, g
 use Rattle.model.specs.Tables.Layout.{tablesOf}
 use Rattle.model.specs.Tables.Rows.{seek}
 use Rattle.model.specs.Tables.Sheet.{sheetTables, padded, paddedRecords, sheetWords}
-use Rattle.model.specs.Tables.WordAt.{userWordOf, entityWordOf, userWordAt, entityWordAt}
+
+unfoldable pub openedBasics : Unit {0}
+unfolding imp every
+openedBasics = tt
+
+unfoldable pub openedLevel : Unit {0}
+unfolding bit subset rank atMostOver atMost lower
+openedLevel = tt
+
+unfoldable pub openedTables : Unit {0}
+unfolding tablesOf seek sheetTables padded paddedRecords sheetWords
+openedTables = tt
+
+unfoldable pub openedState : Unit {0}
+unfolding inTest spotOf parent contentsTest oneTest loopTest deviceTest aloneTest idleTest linksTest wellFormedTest containedTest seenTest labelledTest rolesTest ceilingTest secureTest judge check up climb labelled packedTest shapeTest filledTest goodTest accessTest noneTest entityTest noticeTest nobodyTest userTest
+openedState = tt
+
+unfoldable pub openedRequest : Unit {0}
+unfolding asked hasRole isAny isEntity isContainer isDevice isDraft between free unused aLevel someRoles aUser aSort aFlag aSum aWho anOperation aPosition lacks createAbove createNoRoom onScreen deleteForbidden firstAbove moveNoRoom moveInside levelLowered insecure grantNoRoom showAbove showNoRoom showUnlabelled loginTaken userAbsent rolesOff rolesOfAnother rolesUnauthorised currentOutside deviceAbove deviceLowered notAcknowledged ofOp someOperand notWellFormed notSecure unknownUser lengthFits namesFit rangeAt fits notUnderstood notLoggedOn leadsNowhere permits noAccess bars notCleared wrongKind refused ownRung ladder lowest answer never rungAt applies effect noticedOp leaves after operations withNumber opOf presentTest placeTest follow resolve passed basis referenceAt requestOf names operandOf
+openedRequest = tt
+
+unfoldable pub openedCase : Unit {0}
+unfolding item gone asking ask raw stand passesAt allPass
+openedCase = tt
 
 unfoldable pub opened : Unit {0}
-unfolding imp every item gone asking ask raw stand passesAt allPass bit subset rank atMostOver atMost lower asked hasRole isAny isEntity isContainer isDevice isDraft between free unused aLevel someRoles aUser aSort aFlag aSum aWho anOperation aPosition lacks createAbove createNoRoom onScreen deleteForbidden firstAbove moveNoRoom moveInside levelLowered insecure grantNoRoom showAbove showNoRoom showUnlabelled loginTaken userAbsent rolesOff rolesOfAnother rolesUnauthorised currentOutside deviceAbove deviceLowered notAcknowledged ofOp someOperand notWellFormed notSecure unknownUser lengthFits namesFit rangeAt fits notUnderstood notLoggedOn leadsNowhere permits noAccess bars notCleared wrongKind refused ownRung ladder lowest answer effect noticedOp leaves after operations withNumber opOf presentTest placeTest follow resolve passed basis referenceAt requestOf names operandOf inTest spotOf parent contentsTest oneTest loopTest deviceTest aloneTest idleTest linksTest wellFormedTest containedTest seenTest labelledTest rolesTest ceilingTest secureTest judge check up climb labelled packedTest shapeTest filledTest goodTest accessTest noneTest entityTest noticeTest nobodyTest userTest tablesOf seek sheetTables padded paddedRecords sheetWords userWordOf entityWordOf userWordAt entityWordAt
+unfolding openedBasics openedLevel openedTables openedState openedRequest openedCase
 opened = tt

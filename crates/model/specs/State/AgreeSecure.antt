@@ -1,19 +1,22 @@
 -- The test of secure tables agrees with the statement of rule 4, on tables that are well-formed; what the state check's answer says.
 use mathlib.Core.Bool.{Bool, false, true}
+use mathlib.Core.List.{List}
 use mathlib.Core.Logic.{_≢_, _⊎_, inl, inr}
 use mathlib.Core.Path.{_≡_, refl, subst}
 use Prim.Native.Nat.{_<_, _≤_, ℕ}
 use native.Mathlib.Omega.{arith}
-use lib.Dec.{T}
-use Rattle.model.specs.Basics.Agree.{Agrees, agreement, agrees-T, agrees-and, agrees-as, agrees-range}
+use lib.Dec.{T, eqb, eqb→eq}
+use lib.ListN.{length}
+use Rattle.model.specs.Basics.Agree.{Agrees, agreement, agrees-T, agrees-and, agrees-as, agrees-eq, agrees-range}
 use Rattle.model.specs.Basics.Choice.{pick}
 use Rattle.model.specs.BitLaws.{subset-zero}
 use Rattle.model.specs.Level.{AtMost, Subset, roleCount, subset}
 use Rattle.model.specs.State.Agree.{wellFormed-agrees, wellFormed-bounded}
-use Rattle.model.specs.State.Check.{ceilingTest, containedTest, judge, labelledTest, rolesTest, secureTest, seenTest, wellFormedTest}
+use Rattle.model.specs.State.Check.{ceilingTest, check, containedTest, judge, labelledTest, rolesTest, secureTest, seenTest, wellFormedTest}
 use Rattle.model.specs.State.Secure.{Good, Secure, labelled}
 use Rattle.model.specs.State.WellFormed.{Holds, WellFormed}
-use Rattle.model.specs.Tables.Layout.{Bounded}
+use Rattle.model.specs.Tables.Layout.{Bounded, tablesOf, wordCount}
+use Rattle.model.specs.Tables.LayoutLaws.{bounded}
 use Rattle.model.specs.Tables.Words.{Tables, authorised, clearance, count, counts, current, device, deviceKind, devices, entityCount, kind, kinds, level, maximum, placeCount, places, sums, userCount}
 
 module _ (d : Tables) (w : WellFormed d) where
@@ -88,3 +91,25 @@ judge-good d o e = go (wellFormedTest d) (secureTest d) (wellFormed-agrees d o .
     go true true f g e = (f tt, g (f tt) tt)
     go true false f g e = absurd (let z : _≡_ {A = ℕ} 3 0 = e in omega arith)
     go false b f g e = absurd (let z : _≡_ {A = ℕ} 2 0 = e in omega arith)
+
+-- and well-formed, secure tables are answered 0
+pub good-judged : (d : Tables) → Good d → judge d ≡ 0
+unfolding judge
+good-judged d g = go (wellFormedTest d) (secureTest d) (wellFormed-agrees d (wellFormed-bounded d (g .0)) .from (g .0)) (secure-agrees d (g .0) .from (g .1))
+  where
+    go : (a b : Bool) → T a → T b → _≡_ {A = ℕ} (pick a (pick b 0 3) 2) 0
+    go true true s t = refl
+    go true false s t = absurd t
+    go false b s t = absurd s
+
+-- Rule 8.5 of words: the answer 0 says 2,304 words that give well-formed, secure tables.
+pub check-agrees : (t : List ℕ) → Agrees (eqb (check t) 0) ((length t ≡ wordCount) × Good (tablesOf t))
+unfolding check
+check-agrees t = go (eqb (length t) wordCount) (agrees-eq (length t) wordCount)
+  where
+    go : (b : Bool) → Agrees b (length t ≡ wordCount) → Agrees (eqb (pick b (judge (tablesOf t)) 1) 0) ((length t ≡ wordCount) × Good (tablesOf t))
+    go true a = record {
+      to = λ z. (a .to tt, judge-good (tablesOf t) (bounded t) (eqb→eq (judge (tablesOf t)) 0 z));
+      from = λ z. agrees-eq (judge (tablesOf t)) 0 .from (good-judged (tablesOf t) (z .1));
+    }
+    go false a = record { to = λ z. absurd z; from = λ z. absurd (a .from (z .0)) }

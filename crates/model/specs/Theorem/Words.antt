@@ -1,10 +1,10 @@
 -- The same over words: for any two lists of words the answer and the words afterwards are fixed, and what was well-formed and secure stays so.
 use mathlib.Core.Bool.{Bool, false, not, true}
-use mathlib.Core.List.{List}
-use mathlib.Core.Path.{_∙_, _≡_, ap, refl, sym}
+use mathlib.Core.List.{List, [], _∷_}
+use mathlib.Core.Path.{_∙_, _≡_, ap, refl, subst, sym}
 use Prim.Native.Nat.{_<_, _≤_, ℕ}
 use native.Mathlib.Omega.{arith}
-use lib.Dec.{T, eqb, ltb}
+use lib.Dec.{T, eqb, eqb→eq, ltb}
 use lib.ListN.{length}
 use Rattle.model.specs.Basics.Agree.{Agrees, agrees-and, agrees-eq}
 use Rattle.model.specs.Basics.Choice.{Below, Same, below, it, other, over, pick, same, under}
@@ -14,13 +14,18 @@ use Rattle.model.specs.Request.LadderLaws.{answer-is}
 use Rattle.model.specs.Request.Step.{afterOf, answerOf, sized}
 use Rattle.model.specs.Request.Words.{Request, requestOf, requestWords}
 use Rattle.model.specs.State.Agree.{wellFormed-bounded}
+use Rattle.model.specs.State.AgreeSecure.{check-agrees}
+use Rattle.model.specs.State.Check.{check}
+use Rattle.model.specs.State.Secure.{Good}
 use Rattle.model.specs.Tables.Layout.{Bounded, tablesOf, wordCount}
 use Rattle.model.specs.Tables.LayoutLaws.{bounded}
 use Rattle.model.specs.Tables.Words.{Tables, firstNoticed}
 use Rattle.model.specs.Tables.WordsOf.{wordsOf}
 use Rattle.model.specs.Tables.WordsOfLaws.{tablesOf-injective, tablesOf-wordsOf, wordsOf-length, wordsOf-tablesOf}
 use Rattle.model.specs.Theorem.Acceptance.{accepted-good, judged}
+use Rattle.model.specs.Theorem.Definitions.{Obeys}
 use Rattle.model.specs.Theorem.Kept.{request-good}
+use Rattle.model.specs.Theorem.System.{request-obeys}
 use Rattle.model.specs.Theorem.Unchanged.{low-refusal}
 
 -- Rule 7.1: what a step on lists of the right sizes is.
@@ -90,3 +95,34 @@ low-refusal-words t q l h = go (sized t q) refl
         let a = answerOf-sized t q s in
         afterOf-sized t q s ∙ ap wordsOf (low-refusal (tablesOf t) (requestOf q) (omega arith) (omega arith)) ∙ wordsOf-tablesOf t (sized-agrees t q .to s .0)
     go false e = unsized t q (is-false (sized t q) e) .1
+
+-- Words that pass the state check pass it again after any request at all.
+pub check-kept : (t q : List ℕ) → check t ≡ 0 → check (afterOf t q) ≡ 0
+check-kept t q e = go (sized t q) refl
+  where
+    now : (length t ≡ wordCount) × Good (tablesOf t)
+    now = check-agrees t .to (agrees-eq (check t) 0 .from e)
+
+    go : (b : Bool) → sized t q ≡ b → check (afterOf t q) ≡ 0
+    go true z =
+        let s = is-true (sized t q) z in
+        eqb→eq (check (afterOf t q)) 0 (check-agrees (afterOf t q) .from (
+          afterOf-length t q ∙ now .0,
+          subst Good (sym (afterOf-tables t q s)) (request-good (tablesOf t) (now .1) (requestOf q)),
+        ))
+    go false z = ap check (unsized t q (is-false (sized t q) z) .1) ∙ e
+
+-- the words after a list of requests, each any words
+unfoldable pub afterWords : List ℕ → List (List ℕ) → List ℕ
+afterWords t [] = t
+afterWords t (q ∷ qs) = afterWords (afterOf t q) qs
+
+-- and so after every finite history of requests.
+pub history-checked : (t : List ℕ) (qs : List (List ℕ)) → check t ≡ 0 → check (afterWords t qs) ≡ 0
+unfolding afterWords
+history-checked t [] e = e
+history-checked t (q ∷ qs) e = history-checked (afterOf t q) qs (check-kept t q e)
+
+-- Definitions 5 to 11 of words: whatever the words of tables and request, the step obeys them.
+pub words-obey : (t q : List ℕ) → T (sized t q) → Obeys (tablesOf t) (requestOf q) (tablesOf (afterOf t q))
+words-obey t q h = subst (Obeys (tablesOf t) (requestOf q)) (sym (afterOf-tables t q h)) (request-obeys (tablesOf t) (bounded t) (requestOf q))

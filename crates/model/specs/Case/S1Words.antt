@@ -1,0 +1,64 @@
+-- Case state S1 as the 2,304 words that a program reads, and that they give the same tables.
+use mathlib.Core.List.{List, [], _++_, _∷_}
+use mathlib.Core.Path.{_∙_, _≡_, ap, refl, subst, sym}
+use Prim.Native.Nat.{_*_, ℕ}
+use lib.Dec.{eqb→eq}
+use lib.ListN.{length, replicate}
+use Rattle.model.specs.Case.Cases.{item}
+use Rattle.model.specs.Case.S1.{s1, s1Sheet}
+use Rattle.model.specs.Case.S1Holds.{s1-good}
+use Rattle.model.specs.State.AgreeSecure.{check-agrees}
+use Rattle.model.specs.State.Check.{check}
+use Rattle.model.specs.State.Secure.{Good}
+use Rattle.model.specs.Tables.Layout.{entityWidth, tablesOf, userWidth, wordCount}
+use Rattle.model.specs.Tables.Sheet.{padded, paddedRecords, sheetWords}
+use Rattle.model.specs.Tables.SheetLaws.{sheet-tables, sheetWords-length}
+
+-- n words of zero
+abbrev zeros : ℕ → List ℕ
+zeros n = replicate n 0
+
+-- a record of a user, and of an entity, in full
+unfoldable pub s1Users : List ℕ
+s1Users =
+    1 ∷ 1023 ∷ 7 ∷ 1 ∷ 1 ∷ 0 ∷ 0 ∷ 0 ∷ 0 ∷ 0 ∷ 0 ∷ 0 ∷ 0 ∷ 0 ∷ 0 ∷ 0
+    ∷ 1 ∷ 256 ∷ 0 ∷ 0 ∷ 2 ∷ 0 ∷ 0 ∷ 0 ∷ 0 ∷ 0 ∷ 0 ∷ 0 ∷ 0 ∷ 0 ∷ 0 ∷ 0
+    ∷ 1 ∷ 513 ∷ 6 ∷ 0 ∷ 0 ∷ 0 ∷ 0 ∷ 0 ∷ 0 ∷ 0 ∷ 0 ∷ 0 ∷ 0 ∷ 0 ∷ 0 ∷ 0
+    ∷ []
+
+unfoldable pub s1Entities : List ℕ
+s1Entities =
+    -- 1
+    3 ∷ 0 ∷ 1023 ∷ 0 ∷ 0 ∷ 0 ∷ 1023 ∷ 0 ∷ 0 ∷ 0 ∷ 0 ∷ 0 ∷ 0 ∷ 0 ∷ 0 ∷ 0 ∷ 0 ∷ 0 ∷ 0 ∷ 0 ∷ 0 ∷ 0 ∷ 0 ∷ 0 ∷ 0 ∷ 0 ∷ 0 ∷ 0 ∷ 0 ∷ 0 ∷ 0 ∷ 0
+    -- 2
+    ∷ 3 ∷ 0 ∷ 512 ∷ 0 ∷ 0 ∷ 0 ∷ 512 ∷ 0 ∷ 0 ∷ 0 ∷ 0 ∷ 0 ∷ 0 ∷ 0 ∷ 0 ∷ 0 ∷ 0 ∷ 0 ∷ 0 ∷ 0 ∷ 0 ∷ 0 ∷ 0 ∷ 0 ∷ 0 ∷ 0 ∷ 0 ∷ 0 ∷ 0 ∷ 0 ∷ 0 ∷ 0
+    -- 3
+    ∷ 3 ∷ 0 ∷ 0 ∷ 0 ∷ 0 ∷ 0 ∷ 1023 ∷ 0 ∷ 0 ∷ 0 ∷ 0 ∷ 0 ∷ 0 ∷ 0 ∷ 0 ∷ 0 ∷ 0 ∷ 0 ∷ 0 ∷ 0 ∷ 0 ∷ 0 ∷ 0 ∷ 0 ∷ 199681 ∷ 0 ∷ 0 ∷ 0 ∷ 0 ∷ 0 ∷ 0 ∷ 0
+    -- 4
+    ∷ 2 ∷ 0 ∷ 513 ∷ 1 ∷ 0 ∷ 0 ∷ 0 ∷ 2 ∷ 5 ∷ 6 ∷ 0 ∷ 0 ∷ 0 ∷ 0 ∷ 0 ∷ 0 ∷ 0 ∷ 0 ∷ 0 ∷ 0 ∷ 0 ∷ 0 ∷ 0 ∷ 0 ∷ 0 ∷ 0 ∷ 0 ∷ 0 ∷ 0 ∷ 0 ∷ 0 ∷ 0
+    -- 5
+    ∷ 1 ∷ 0 ∷ 256 ∷ 0 ∷ 40 ∷ 0 ∷ 0 ∷ 0 ∷ 0 ∷ 0 ∷ 0 ∷ 0 ∷ 0 ∷ 0 ∷ 0 ∷ 0 ∷ 0 ∷ 0 ∷ 0 ∷ 0 ∷ 0 ∷ 0 ∷ 0 ∷ 0 ∷ 133633 ∷ 132353 ∷ 0 ∷ 0 ∷ 0 ∷ 0 ∷ 0 ∷ 0
+    -- 6
+    ∷ 2 ∷ 1 ∷ 513 ∷ 0 ∷ 41 ∷ 0 ∷ 0 ∷ 0 ∷ 0 ∷ 0 ∷ 0 ∷ 0 ∷ 0 ∷ 0 ∷ 0 ∷ 0 ∷ 0 ∷ 0 ∷ 0 ∷ 0 ∷ 0 ∷ 0 ∷ 0 ∷ 0 ∷ 70401 ∷ 0 ∷ 0 ∷ 0 ∷ 0 ∷ 0 ∷ 0 ∷ 0
+    -- 7
+    ∷ 2 ∷ 0 ∷ 256 ∷ 0 ∷ 0 ∷ 0 ∷ 0 ∷ 0 ∷ 0 ∷ 0 ∷ 0 ∷ 0 ∷ 0 ∷ 0 ∷ 0 ∷ 0 ∷ 0 ∷ 0 ∷ 0 ∷ 0 ∷ 0 ∷ 0 ∷ 0 ∷ 0 ∷ 132354 ∷ 131329 ∷ 67073 ∷ 0 ∷ 0 ∷ 0 ∷ 0 ∷ 0
+    ∷ []
+
+-- thirteen users and fifty-seven entities are absent
+unfoldable pub s1Words : List ℕ
+s1Words = s1Users ++ (zeros (13 * userWidth) ++ (s1Entities ++ zeros (57 * entityWidth)))
+
+pub s1Words-sheet : s1Words ≡ sheetWords s1Sheet
+unfolding s1Words s1Users s1Entities sheetWords paddedRecords padded s1Sheet item
+s1Words-sheet = refl
+
+pub s1Words-tables : tablesOf s1Words ≡ s1
+unfolding s1
+s1Words-tables = ap tablesOf s1Words-sheet ∙ sheet-tables s1Sheet
+
+pub s1Words-length : length s1Words ≡ wordCount
+s1Words-length = ap length s1Words-sheet ∙ sheetWords-length s1Sheet
+
+-- the state check passes them
+pub s1Words-checked : check s1Words ≡ 0
+s1Words-checked = eqb→eq (check s1Words) 0 (check-agrees s1Words .from (s1Words-length, subst Good (sym s1Words-tables) s1-good))
