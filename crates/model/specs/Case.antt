@@ -3,3 +3,8 @@ pub mod Opened
 pub mod S1
 pub mod S1Holds
 pub mod S1Words
+pub mod S2
+pub mod S2Cases
+pub mod S2Cases2
+pub mod S2Cases3
+pub mod S2Holds
