@@ -4,7 +4,8 @@ pub mod S1
 pub mod S1Holds
 pub mod S1Words
 pub mod S2
-pub mod S2Cases
-pub mod S2Cases2
-pub mod S2Cases3
+pub mod S2Cases1to5
+pub mod S2Cases6to13
+pub mod S2Cases14to20
+pub mod S3
 pub mod S2Holds

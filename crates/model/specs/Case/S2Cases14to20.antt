@@ -1,4 +1,4 @@
--- Cases on state S2, third part: current roles, clearance, authorised roles, maximum, device level, release, acknowledge, and the ladder.
+-- Cases on state S2: current roles, clearance, authorised roles, maximum, device level, release, acknowledge (rules 6.14 to 6.20), and the ladder (rule 7).
 use mathlib.Core.List.{List, [], _∷_}
 use Rattle.model.specs.Case.Cases.{Case, ask, entityIs, expect, raw, userIs}
 use Rattle.model.specs.Tables.Words.{authorised, clearance, containerKind, count, current, device, draftType, held, heldOp, kind, level, maximum, missed, place, plainType, present, releasedType, releaser, shown, spare, type, value}

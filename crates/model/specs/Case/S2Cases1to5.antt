@@ -1,4 +1,4 @@
--- Cases on state S2, first part: create, delete, move, edit, copy.
+-- Cases on state S2: create, delete, move, edit, copy (rules 6.1 to 6.5).
 use mathlib.Core.List.{List, [], _∷_}
 use Rattle.model.specs.Case.Cases.{Case, ask, entityIs, expect, userIs}
 use Rattle.model.specs.Tables.Words.{containerKind, count, deviceKind, draftType, held, heldOp, kind, level, mark, missed, objectKind, place, plainType, releasedType, releaser, triple, tripleOf, type, value}

@@ -1,4 +1,4 @@
--- Cases on state S2, second part: level, mark, grant, revoke, show, clear, login, logout.
+-- Cases on state S2: level, mark, grant, revoke, show, clear, login, logout (rules 6.6 to 6.13).
 use mathlib.Core.List.{List, [], _∷_}
 use Rattle.model.specs.Case.Cases.{Case, ask, entityIs, expect, raw, userIs}
 use Rattle.model.specs.Tables.Words.{authorised, clearance, count, current, device, draftType, held, heldOp, level, mark, missed, place, shown, triple, tripleOf, type, value}

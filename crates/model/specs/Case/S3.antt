@@ -1,0 +1,41 @@
+-- Case state S3: all sixty-four numbers are present, so that a create finds none free.
+use mathlib.Core.List.{List, [], _++_, _∷_}
+use Prim.Native.Nat.{ℕ}
+use lib.ListN.{replicate}
+use Rattle.model.specs.Case.Cases.{Case, ask, entityIs, expect, item, userIs}
+use Rattle.model.specs.Tables.Sheet.{Sheet, sheetTables}
+use Rattle.model.specs.Tables.Words.{Tables, containerKind, count, deviceKind, draftType, held, heldOp, kind, missed, objectKind, place, plainType, triple, tripleOf, type, value}
+
+-- an object with nothing in it
+abbrev bare : List ℕ
+bare = item objectKind plainType 0 0 0 0 0 [] [] []
+
+-- present, clearance, authorised, current, device
+unfoldable pub s3Sheet : Sheet
+s3Sheet = record {
+  users =
+      (1 ∷ 1023 ∷ 7 ∷ 7 ∷ 1 ∷ [])
+      ∷ [];
+  entities =
+      -- 1: user 1's device
+      item deviceKind plainType 1023 0 0 0 1023 [] [] []
+      -- 2: an empty container
+      ∷ item containerKind plainType 0 0 0 0 0 [] [] (tripleOf 1 1 1 ∷ [])
+      -- 3 to 39 and 41 to 64: objects; 40: one that user 1 may delete
+      ∷ (replicate 37 bare ++ (item objectKind plainType 0 0 9 0 0 [] [] (tripleOf 1 2 1 ∷ []) ∷ replicate 24 bare));
+}
+
+unfoldable pub s3 : Tables
+s3 = sheetTables s3Sheet
+
+-- every case: what was asked before (from S3 on), what is asked, the answer, and words that stand afterwards
+unfoldable pub fullCases : List Case
+fullCases =
+    -- 14: the container has room, and no number is free
+    expect [] (ask 1 1 (2 ∷ []) [] 1 0 0) 14 (userIs 1 held 14 ∷ userIs 1 heldOp 1 ∷ userIs 1 missed 1 ∷ entityIs 2 count 0 ∷ [])
+    -- 13 before 14
+    ∷ expect [] (ask 1 1 (2 ∷ []) [] 1 1 0) 13 (userIs 1 held 13 ∷ userIs 1 heldOp 1 ∷ userIs 1 missed 1 ∷ [])
+    -- the number of one that was deleted is free again, and nothing of the old record is left in it
+    ∷ expect (ask 1 2 (40 ∷ []) [] 0 0 0 ∷ []) (ask 1 1 (2 ∷ []) [] 3 0 0) 0 (entityIs 40 kind containerKind ∷ entityIs 40 type draftType ∷ entityIs 40 value 0 ∷
+    entityIs 40 (triple 0) (tripleOf 1 1 1) ∷ entityIs 40 (triple 1) 0 ∷ entityIs 2 count 1 ∷ entityIs 2 (place 0) 40 ∷ entityIs 64 kind objectKind ∷ [])
+    ∷ []
