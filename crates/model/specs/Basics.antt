@@ -1,4 +1,5 @@
 pub mod Choice
 pub mod Tests
 pub mod Agree
+pub mod Fails
 pub mod Reading

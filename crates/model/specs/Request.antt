@@ -10,3 +10,5 @@ pub mod ReferenceLaws
 pub mod OperationLaws
 pub mod LadderLaws
 pub mod ConditionLaws
+pub mod OwnLaws
+pub mod RungLaws

@@ -2,6 +2,8 @@ pub mod Definitions
 pub mod MayChange
 pub mod Clear
 pub mod Acceptance
+pub mod AllowedClear
+pub mod Exact
 pub mod Kept
 pub mod Histories
 pub mod LawfulSame

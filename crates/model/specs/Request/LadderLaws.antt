@@ -8,7 +8,10 @@ use Prim.Native.Nat.{_+_, _<_, _≤_, suc, zero, ℕ}
 use native.Mathlib.Omega.{arith}
 use lib.Dec.{T, eqb}
 use lib.ListN.{length}
+use Rattle.model.specs.Basics.Agree.{Agrees}
 use Rattle.model.specs.Basics.Choice.{Same, it, other, same}
+use Rattle.model.specs.Basics.Fails.{Fails, fails-as, fails-or}
+use Rattle.model.specs.Basics.Reading.{fails-false}
 use Rattle.model.specs.Request.Conditions.{Kind}
 use Rattle.model.specs.Request.Ladder.{IsAnswer, Rung, answer, applies, ladder, lowest, never, ofOp, rungAt, someOperand}
 use Rattle.model.specs.Request.Operations.{Op, opOf}
@@ -87,36 +90,54 @@ answer-range d q =
     let h : ¬ (lastNoticed < answer d q) = λ l. omega (arith, rungAt-range (answer d q) (never ∷ never ∷ ladder) d q (answer-is d q .applied (omega arith))) in
     omega arith
 
+-- No rung of a list applies.
+abbrev pub NoRung : List Rung → Tables → Request → Type 0
+NoRung [] d q = Unit {0}
+NoRung (r ∷ rs) d q = T (not (r d q)) × NoRung rs d q
+
+-- Where no rung of a list applies there is no lowest one.
+pub lowest-none : (n : ℕ) (rs : List Rung) (d : Tables) (q : Request) → NoRung rs d q → lowest n rs d q ≡ 0
+unfolding lowest
+lowest-none n [] d q z = refl
+lowest-none n (r ∷ rs) d q z = rw (fails-false (r d q) (z .0)) (lowest-none (suc n) rs d q (z .1))
+
 -- A question put to the operation that a request names.
 pub ofOp-some : (q : Request) (o : Op) → opOf (q .operation) ≡ some o → (p : Op → Bool) → ofOp q p ≡ p o
 unfolding ofOp
 ofOp-some q o e p = subst (λ (m : Option Op). elim m [ none ↦ false | some o ↦ p o ] ≡ p o) (sym e) refl
 
--- A question that is answered yes was put to some operation.
-pub ofOp-asked : (q : Request) (p : Op → Bool) → T (ofOp q p) → (o : Op) × (opOf (q .operation) ≡ some o) × T (p o)
+-- A question is answered yes exactly where it is put to an operation that says so.
+pub ofOp-agrees : (q : Request) (p : Op → Bool) → Agrees (ofOp q p) ((o : Op) × (opOf (q .operation) ≡ some o) × T (p o))
 unfolding ofOp
-ofOp-asked q p = go (opOf (q .operation)) refl
+ofOp-agrees q p = record { to = go (opOf (q .operation)) refl; from = λ z. subst T (sym (ofOp-some q (z .0) (z .1) p)) (z .2) }
   where
     go : (m : Option Op) → opOf (q .operation) ≡ m → T (elim m [ none ↦ false | some o ↦ p o ]) → (o : Op) × (opOf (q .operation) ≡ some o) × T (p o)
     go none e t = absurd t
     go (some o) e t = (o, e, t)
+
+-- A question put to the operation that is named fails where that operation fails it.
+pub ofOp-fails : (q : Request) (o : Op) → opOf (q .operation) ≡ some o → (p : Op → Bool) {P : Type 0} → Fails (p o) P → Fails (ofOp q p) P
+ofOp-fails q o e p {P} f = subst (λ (b : Bool). Fails b P) (sym (ofOp-some q o e p)) f
 
 -- Something holds of every operand, by position and kind.
 abbrev pub AllOperands : ℕ → List Kind → (ℕ → Kind → Type 0) → Type 0
 AllOperands k [] P = Unit {0}
 AllOperands k (x ∷ xs) P = P k x × AllOperands (suc k) xs P
 
-pub someOperand-none : (k : ℕ) (xs : List Kind) (p : ℕ → Kind → Bool) → someOperand k xs p ≡ false → AllOperands k xs (λ j x. T (not (p j x)))
+-- A question put to the operands fails where each of them fails it.
+pub someOperand-fails : (k : ℕ) (xs : List Kind) (p : ℕ → Kind → Bool) (P : ℕ → Kind → Type 0) → ((j : ℕ) (x : Kind) → Fails (p j x) (P j x))
+    → Fails (someOperand k xs p) (AllOperands k xs P)
 unfolding someOperand
-someOperand-none k [] p e = tt
-someOperand-none k (x ∷ xs) p e = go (p k x) e (someOperand-none (suc k) xs p)
+someOperand-fails k [] p P f = record { to = λ t. tt; from = λ z. tt }
+someOperand-fails k (x ∷ xs) p P f = go (p k x) (f k x) (someOperand-fails (suc k) xs p P f)
   where
-    go : (b : Bool) → elim b [ true ↦ true | false ↦ someOperand (suc k) xs p ] ≡ false → (someOperand (suc k) xs p ≡ false → AllOperands (suc k) xs (λ j x. T (not (p j x))))
-        → T (not b) × AllOperands (suc k) xs (λ j x. T (not (p j x)))
-    go true e ih = absurd (subst T e tt)
-    go false e ih = (tt, ih e)
+    go : (b : Bool) → Fails b (P k x) → Fails (someOperand (suc k) xs p) (AllOperands (suc k) xs P)
+        → Fails (elim b [ true ↦ true | false ↦ someOperand (suc k) xs p ]) (P k x × AllOperands (suc k) xs P)
+    go true a ih = fails-or a ih
+    go false a ih = fails-or a ih
 
-pub operands-at : (k : ℕ) (xs : List Kind) (P : ℕ → Type 0) → AllOperands k xs (λ j x. P j) → (j : ℕ) → k ≤ j → j < k + length xs → P j
+-- What holds of every operand holds at each position,
+operands-at : (k : ℕ) (xs : List Kind) (P : ℕ → Type 0) → AllOperands k xs (λ j x. P j) → (j : ℕ) → k ≤ j → j < k + length xs → P j
 operands-at k [] P a j l h = absurd (omega arith)
 operands-at k (x ∷ xs) P a j l h = go (eqb j k) (same j k) (operands-at (suc k) xs P (a .1) j)
   where
@@ -124,6 +145,12 @@ operands-at k (x ∷ xs) P a j l h = go (eqb j k) (same j k) (operands-at (suc k
     go true (it e) ih = rw e (a .0)
     go false (other e) ih = ih (omega arith) (omega arith)
 
-pub operands-map : (k : ℕ) (xs : List Kind) (P Q : ℕ → Kind → Type 0) → ((j : ℕ) (x : Kind) → P j x → Q j x) → AllOperands k xs P → AllOperands k xs Q
-operands-map k [] P Q f a = tt
-operands-map k (x ∷ xs) P Q f a = (f k x (a .0), operands-map (suc k) xs P Q f (a .1))
+-- and the other way round.
+operands-all : (k : ℕ) (xs : List Kind) (P : ℕ → Type 0) → ((j : ℕ) → k ≤ j → j < k + length xs → P j) → AllOperands k xs (λ j x. P j)
+operands-all k [] P f = tt
+operands-all k (x ∷ xs) P f = (f k (omega arith) (omega arith), operands-all (suc k) xs P (λ j l h. f j (omega arith) (omega arith)))
+
+-- A question that asks only for the position fails where each position fails it.
+pub positions-fail : (k : ℕ) (xs : List Kind) (p : ℕ → Bool) (P : ℕ → Type 0) → ((j : ℕ) → Fails (p j) (P j))
+    → Fails (someOperand k xs (λ j x. p j)) ((j : ℕ) → k ≤ j → j < k + length xs → P j)
+positions-fail k xs p P f = fails-as (operands-at k xs P) (operands-all k xs P) (someOperand-fails k xs (λ j x. p j) (λ j x. P j) (λ j x. f j))
