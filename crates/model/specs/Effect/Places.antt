@@ -7,12 +7,11 @@ use Rattle.model.specs.Tables.Rows.{left, replace, seek, without}
 use Rattle.model.specs.Tables.Words.{EntityWord, Tables, absentKind, containerKind, count, counts, draftType, entityCount, kind, kinds, level, objectKind, place, places, plainType, shown, sums, triple, triples, type}
 
 -- e is put last in c, with the sum s shown of it
+abbrev pub putting : ℕ → ℕ → ℕ → Tables → Edit EntityWord
+putting c e s d = word count (suc (counts d c)) and row place (replace (counts d c) e (places d c)) and row shown (replace (counts d c) s (sums d c))
+
 abbrev pub put : ℕ → ℕ → ℕ → Tables → Tables
-put c e s d = onEntity c
-    (word count (suc (d .entity c count))
-    and row place (replace (d .entity c count) e (places d c))
-    and row shown (replace (d .entity c count) s (sums d c)))
-    d
+put c e s d = onEntity c (putting c e s d) d
 
 -- e leaves the container that it is in, and later places close up
 abbrev pub leaving : ℕ → Tables → ℕ → Edit EntityWord
@@ -22,8 +21,11 @@ abbrev pub leave : ℕ → Tables → Tables
 leave e d = onEntities (λ x. eqb (kinds d x) containerKind) (leaving e d) d
 
 -- a record at the number e: kind k, type t, level l, and the access of c; all else is zero there
+abbrev pub bearing : ℕ → ℕ → ℕ → ℕ → Tables → Edit EntityWord
+bearing c k t l d = word kind k and word type t and word level l and row triple (triples d c)
+
 abbrev pub fresh : ℕ → ℕ → ℕ → ℕ → ℕ → Tables → Tables
-fresh e c k t l d = onEntity e (word kind k and word type t and word level l and row triple (triples d c)) d
+fresh e c k t l d = onEntity e (bearing c k t l d) d
 
 -- the lowest absent number; 65 where there is none
 abbrev pub vacant : Tables → ℕ

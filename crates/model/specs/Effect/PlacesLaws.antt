@@ -7,7 +7,7 @@ use native.Mathlib.Nat.{not-suc-le-zero}
 use native.Mathlib.Omega.{arith}
 use lib.Dec.{T, eqb}
 use Rattle.model.specs.Basics.Choice.{pick}
-use Rattle.model.specs.Effect.Places.{create, delete, erase, fresh, leave, move, objectSort, sortKind, vacant}
+use Rattle.model.specs.Effect.Places.{bearing, create, delete, erase, fresh, leave, move, objectSort, sortKind, vacant}
 use Rattle.model.specs.Effect.PutLaws.{Takes, fewer-there, leave-secure, leave-wellFormed, put-secure, put-wellFormed, stayed}
 use Rattle.model.specs.Level.{AtMost, levelCount}
 use Rattle.model.specs.State.Agree.{zero-ok}
@@ -17,10 +17,10 @@ use Rattle.model.specs.State.LinksLaws.{appear, still, vanish}
 use Rattle.model.specs.State.Secure.{Secure, labelled}
 use Rattle.model.specs.State.WellFormed.{EntityOk, Holds, In, Thing, WellFormed}
 use Rattle.model.specs.Tables.EditLaws.{case, each}
-use Rattle.model.specs.Tables.Edits.{Edit, _and_, blank, row, word, written}
+use Rattle.model.specs.Tables.Edits.{blank, written}
 use Rattle.model.specs.Tables.RowLaws.{sought}
 use Rattle.model.specs.Tables.Rows.{Sought, seek}
-use Rattle.model.specs.Tables.Words.{EntityWord, Tables, absentKind, clearance, containerKind, count, counts, deviceKind, devices, entityCount, kind, kinds, level, mark, maximum, objectKind, places, releaser, shown, sums, triple, triples, type, value}
+use Rattle.model.specs.Tables.Words.{EntityWord, Tables, absentKind, clearance, containerKind, count, counts, deviceKind, devices, entityCount, kinds, level, mark, maximum, objectKind, places, releaser, shown, sums, value}
 
 -- the level of e changes, and e neither holds anything nor is held
 module _ (d : Tables) (s : Secure d) (e l : ℕ) (nothing : (c : ℕ) → Holds d e c → ⊥) (nowhere : (x : ℕ) → Holds d x e → ⊥) where
@@ -34,14 +34,10 @@ module _ (d : Tables) (s : Secure d) (e l : ℕ) (nothing : (c : ℕ) → Holds 
 
 -- a record at an absent number
 module _ (d : Tables) (w : WellFormed d) (e c k t l : ℕ) (gone : kinds d e ≡ 0) (range : (1 ≤ e) × (e ≤ 64)) (sort : (1 ≤ k) × (k ≤ 2)) (draft : (t ≡ 0) ⊎ ((k ≡ 2) × (t ≡ 1))) (lev : l < levelCount) where
-  born : Edit EntityWord
-  born = word kind k and word type t and word level l and row triple (triples d c)
-
   zero-here : (f : EntityWord) → d .entity e f ≡ 0
   zero-here = w .entities e .absent gone
 
-  born-ok : EntityOk (d .entity e) → EntityOk (written born (d .entity e))
-  unfolding born
+  born-ok : EntityOk (d .entity e) → EntityOk (written (bearing c k t l d) (d .entity e))
   born-ok o =
       let a = zero-here mark in
       let b = zero-here value in
@@ -64,12 +60,11 @@ module _ (d : Tables) (w : WellFormed d) (e c k t l : ℕ) (gone : kinds d e ≡
   nowhere x h = omega (arith, w .links .contents x e h)
 
   pub fresh-wellFormed : WellFormed (fresh e c k t l d)
-  unfolding born
   fresh-wellFormed = record {
     userNumbers = w .userNumbers;
     entityNumbers = λ x. case (λ (y : ℕ). y ≢ 0 → (1 ≤ x) × (x ≤ 64)) x e k (kinds d x) (λ q z. rw q range) (λ q. w .entityNumbers x);
     users = w .users;
-    entities = each EntityOk born e (d .entity) (w .entities) (born-ok (w .entities e));
+    entities = each EntityOk (bearing c k t l d) e (d .entity) (w .entities) (born-ok (w .entities e));
     links = appear (kinds d) (counts d) (places d) (devices d) (w .links) e k gone (zero-here count) sort;
   }
 

@@ -6,7 +6,7 @@ use Prim.Native.Nat.{_<_, _≤_, suc, ℕ}
 use native.Mathlib.Omega.{arith}
 use lib.Dec.{T, eqb, eqb→eq}
 use Rattle.model.specs.Basics.Choice.{Same, it, other, pick, same}
-use Rattle.model.specs.Effect.Places.{leave, leaving, put}
+use Rattle.model.specs.Effect.Places.{leave, leaving, put, putting}
 use Rattle.model.specs.Effect.Screens.{clear, off}
 use Rattle.model.specs.Level.{AtMost}
 use Rattle.model.specs.State.Depth.{Within}
@@ -14,10 +14,10 @@ use Rattle.model.specs.State.LinksLaws.{attach, grown, shrink}
 use Rattle.model.specs.State.Secure.{Secure, labelled}
 use Rattle.model.specs.State.WellFormed.{EntityOk, Filled, Holds, In, Thing, WellFormed}
 use Rattle.model.specs.Tables.EditLaws.{all, case, each}
-use Rattle.model.specs.Tables.Edits.{Edit, _and_, row, word, written}
+use Rattle.model.specs.Tables.Edits.{written}
 use Rattle.model.specs.Tables.RowLaws.{append-packed, without-fewer, without-member, without-packed}
 use Rattle.model.specs.Tables.Rows.{Member, left, replace, without}
-use Rattle.model.specs.Tables.Words.{EntityWord, Tables, clearance, count, counts, devices, kinds, level, place, places, shown, sums}
+use Rattle.model.specs.Tables.Words.{Tables, clearance, counts, devices, kinds, level, places, sums}
 
 -- e is put last in c, with the sum s
 put-filled : (k n e s : ℕ) (at sum : ℕ → ℕ) → (2 ≤ k) → n < 8 → 1 ≤ e → ((i : ℕ) → i < n → at i ≢ e) → (k ≡ 3 → (1 ≤ s) × (s ≤ 7)) → (k ≢ 3 → s ≡ 0) → Filled k n at sum → Filled k (suc n) (replace n e at) (replace n s sum)
@@ -42,11 +42,7 @@ pub record Takes (d : Tables) (c e s : ℕ) : Type 0 where
   pub sumOff : kinds d c ≢ 3 → s ≡ 0
 
 module _ (d : Tables) (w : WellFormed d) (c e s : ℕ) (t : Takes d c e s) where
-  putting : Edit EntityWord
-  putting = word count (suc (counts d c)) and row place (replace (counts d c) e (places d c)) and row shown (replace (counts d c) s (sums d c))
-
-  put-ok : EntityOk (d .entity c) → EntityOk (written putting (d .entity c))
-  unfolding putting
+  put-ok : EntityOk (d .entity c) → EntityOk (written (putting c e s d) (d .entity c))
   put-ok o =
       let n = w .entityNumbers e (omega (arith, t .thing)) in
       let f = put-filled (kinds d c) (counts d c) e s (places d c) (sums d c) (t .holder) (t .room) (n .0) (t .new) (t .sumOn) (t .sumOff) (o .filled) in
@@ -54,12 +50,11 @@ module _ (d : Tables) (w : WellFormed d) (c e s : ℕ) (t : Takes d c e s) where
       search arith
 
   pub put-wellFormed : WellFormed (put c e s d)
-  unfolding putting
   put-wellFormed = record {
     userNumbers = w .userNumbers;
     entityNumbers = w .entityNumbers;
     users = w .users;
-    entities = each EntityOk putting c (d .entity) (w .entities) (put-ok (w .entities c));
+    entities = each EntityOk (putting c e s d) c (d .entity) (w .entities) (put-ok (w .entities c));
     links = attach (kinds d) (counts d) (places d) (devices d) (w .links) c e (t .thing) (t .free) (t .apart) (t .onIt);
   }
 

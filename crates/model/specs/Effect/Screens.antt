@@ -4,7 +4,7 @@ use lib.Dec.{ltb}
 use Rattle.model.specs.Basics.Choice.{pick}
 use Rattle.model.specs.Tables.Edits.{Edit, _and_, onEntity, onUser, row, userWord, word}
 use Rattle.model.specs.Tables.Rows.{replace, seek}
-use Rattle.model.specs.Tables.Words.{EntityWord, Tables, count, counts, current, device, devices, place, places, shown, sums}
+use Rattle.model.specs.Tables.Words.{EntityWord, Tables, UserWord, count, counts, current, device, devices, place, places, shown, sums}
 
 -- the place of e on the device v, or the next free one
 abbrev pub spot : ℕ → ℕ → Tables → ℕ
@@ -18,16 +18,22 @@ abbrev pub show : ℕ → ℕ → ℕ → Tables → Tables
 show v e s d = onEntity v (showing v e s d (spot v e d) (pick (ltb (spot v e d) (counts d v)) (counts d v) (suc (counts d v)))) d
 
 -- Rule 6.11: the device v shows nothing.
+abbrev pub clearing : Edit EntityWord
+clearing = word count 0 and row place (λ i. 0) and row shown (λ i. 0)
+
 abbrev pub clear : ℕ → Tables → Tables
-clear v = onEntity v (word count 0 and row place (λ i. 0) and row shown (λ i. 0))
+clear v = onEntity v clearing
 
 -- Rule 6.12: u is on the device v.
 abbrev pub login : ℕ → ℕ → Tables → Tables
 login u v = onUser u (userWord device v)
 
 -- u is on no device and has no current roles
+abbrev pub departing : Edit UserWord
+departing = userWord device 0 and userWord current 0
+
 abbrev pub off : ℕ → Tables → Tables
-off u = onUser u (userWord device 0 and userWord current 0)
+off u = onUser u departing
 
 -- Rule 6.13: the screen of u is emptied, and u is off.
 abbrev pub logout : ℕ → Tables → Tables

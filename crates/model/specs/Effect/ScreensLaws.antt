@@ -8,27 +8,23 @@ use native.Mathlib.Omega.{arith}
 use lib.Dec.{T, eqb}
 use Rattle.model.specs.Basics.Choice.{pick}
 use Rattle.model.specs.BitLaws.{subset-zero}
-use Rattle.model.specs.Effect.Screens.{clear, login, logout, off}
+use Rattle.model.specs.Effect.Screens.{clear, clearing, departing, login, logout, off}
 use Rattle.model.specs.Level.{AtMost, Subset, roleCount}
 use Rattle.model.specs.State.LinksLaws.{arrive, depart, shrink}
 use Rattle.model.specs.State.Secure.{Secure, labelled}
 use Rattle.model.specs.State.WellFormed.{EntityOk, Filled, Holds, UserOk, WellFormed}
 use Rattle.model.specs.Tables.EditLaws.{case, each, member-cases}
-use Rattle.model.specs.Tables.Edits.{Edit, _and_, row, userWord, word, written}
+use Rattle.model.specs.Tables.Edits.{userWord, written}
 use Rattle.model.specs.Tables.RowLaws.{packed-none}
 use Rattle.model.specs.Tables.Rows.{Member}
-use Rattle.model.specs.Tables.Words.{EntityWord, Tables, authorised, clearance, count, counts, current, device, devices, kinds, level, place, places, present, shown, sums}
+use Rattle.model.specs.Tables.Words.{Tables, authorised, clearance, counts, current, device, devices, kinds, level, places, present, sums}
 
 -- 11 clear
 empty-filled : (k : ℕ) → Filled k 0 (λ i. 0) (λ i. 0)
 empty-filled k = record { packed = packed-none; objectEmpty = λ q. refl; sums = λ q i l. omega arith; noSums = λ q i. refl; restSums = λ i l. refl }
 
 module _ (d : Tables) (w : WellFormed d) (v : ℕ) where
-  cleared : Edit EntityWord
-  cleared = word count 0 and row place (λ i. 0) and row shown (λ i. 0)
-
-  clear-ok : 1 ≤ kinds d v → EntityOk (d .entity v) → EntityOk (written cleared (d .entity v))
-  unfolding cleared
+  clear-ok : 1 ≤ kinds d v → EntityOk (d .entity v) → EntityOk (written clearing (d .entity v))
   clear-ok h o = let f = empty-filled (kinds d v) in search arith
 
   emptied : (x c : ℕ) → Holds (clear v d) x c → Holds d x c
@@ -42,12 +38,11 @@ module _ (d : Tables) (w : WellFormed d) (v : ℕ) where
   none-more x = case (λ (y : ℕ). y ≤ counts d x) x v 0 (counts d x) (λ q. omega arith) (λ q. omega arith)
 
   pub clear-wellFormed : 1 ≤ kinds d v → WellFormed (clear v d)
-  unfolding cleared
   clear-wellFormed h = record {
     userNumbers = w .userNumbers;
     entityNumbers = w .entityNumbers;
     users = w .users;
-    entities = each EntityOk cleared v (d .entity) (w .entities) (clear-ok h (w .entities v));
+    entities = each EntityOk clearing v (d .entity) (w .entities) (clear-ok h (w .entities v));
     links = shrink (kinds d) (counts d) (places d) (devices d) (w .links) (counts (clear v d)) (places (clear v d)) emptied none-more;
   }
 
@@ -92,14 +87,14 @@ module _ (d : Tables) (w : WellFormed d) (s : Secure d) (u v : ℕ) (p : d .user
   }
 
 module _ (d : Tables) (w : WellFormed d) (s : Secure d) (u : ℕ) (p : d .user u present ≢ 0) where
-  off-ok : UserOk (d .user u) → UserOk (written (userWord device 0 and userWord current 0) (d .user u))
+  off-ok : UserOk (d .user u) → UserOk (written departing (d .user u))
   off-ok o = search arith
 
   off-wellFormed : counts d (devices d u) ≡ 0 → WellFormed (off u d)
   off-wellFormed none = record {
     userNumbers = w .userNumbers;
     entityNumbers = w .entityNumbers;
-    users = each UserOk (userWord device 0 and userWord current 0) u (d .user) (w .users) (off-ok (w .users u));
+    users = each UserOk departing u (d .user) (w .users) (off-ok (w .users u));
     entities = w .entities;
     links = depart (kinds d) (counts d) (places d) (devices d) (w .links) u none;
   }

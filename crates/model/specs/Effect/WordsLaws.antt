@@ -2,18 +2,18 @@
 use mathlib.Core.Bool.{Bool, false, true}
 use mathlib.Core.Logic.{_≢_, inl, inr}
 use mathlib.Core.Path.{_≡_}
-use Prim.Native.Nat.{_<_, _≤_, suc, ℕ}
+use Prim.Native.Nat.{_<_, _≤_, ℕ}
 use native.Mathlib.Omega.{arith}
 use lib.Dec.{eqb, ltb}
 use Rattle.model.specs.Basics.Choice.{Below, Same, below, it, other, over, pick, same, under}
 use Rattle.model.specs.Effect.Screens.{off}
-use Rattle.model.specs.Effect.Words.{acknowledge, edit, notice, release, setAuthorised, setClearance, setCurrent, setLevel, setMark, setMaximum}
+use Rattle.model.specs.Effect.Words.{acknowledge, countOn, edit, keepFirst, notice, noticing, quieting, release, setAuthorised, setClearance, setCurrent, setLevel, setMark, setMaximum}
 use Rattle.model.specs.Level.{AtMost, Subset, levelCount, roleCount, roleSets}
 use Rattle.model.specs.State.Secure.{Secure}
 use Rattle.model.specs.State.WellFormed.{EntityOk, Notice, Thing, UserOk, WellFormed}
 use Rattle.model.specs.Tables.EditLaws.{case, each}
-use Rattle.model.specs.Tables.Edits.{Edit, _and_, userWord, word, written}
-use Rattle.model.specs.Tables.Words.{Tables, UserWord, authorised, clearance, current, device, firstNoticed, held, heldOp, kind, lastNoticed, level, mark, maximum, missed, operationCount, present, releaser, type, value}
+use Rattle.model.specs.Tables.Edits.{_and_, userWord, word, written}
+use Rattle.model.specs.Tables.Words.{Tables, authorised, clearance, current, device, firstNoticed, held, heldOp, kind, lastNoticed, level, mark, maximum, missed, missedLimit, operationCount, present, releaser, type, value}
 
 module _ (d : Tables) (w : WellFormed d) where
   -- 4 edit
@@ -73,11 +73,11 @@ module _ (d : Tables) (w : WellFormed d) where
   authorised-wellFormed u v p h = let n = each UserOk (userWord authorised v) u (d .user) (w .users) (authorised-ok u v p h (w .users u)) in search
 
   -- 20 acknowledge
-  quiet-ok : (u : ℕ) → d .user u present ≢ 0 → UserOk (d .user u) → UserOk (written (userWord held 0 and userWord heldOp 0 and userWord missed 0) (d .user u))
+  quiet-ok : (u : ℕ) → d .user u present ≢ 0 → UserOk (d .user u) → UserOk (written quieting (d .user u))
   quiet-ok u p o = search (arith, inl)
 
   pub acknowledge-wellFormed : (u : ℕ) → d .user u present ≢ 0 → WellFormed (acknowledge u d)
-  acknowledge-wellFormed u p = let n = each UserOk (userWord held 0 and userWord heldOp 0 and userWord missed 0) u (d .user) (w .users) (quiet-ok u p (w .users u)) in search
+  acknowledge-wellFormed u p = let n = each UserOk quieting u (d .user) (w .users) (quiet-ok u p (w .users u)) in search
 
 module _ (d : Tables) (s : Secure d) where
   pub edit-secure : (e v : ℕ) → Secure (edit e v d)
@@ -110,29 +110,23 @@ module _ (d : Tables) (s : Secure d) where
   pub acknowledge-secure : (u : ℕ) → Secure (acknowledge u d)
   acknowledge-secure u = search
 
--- the notice of a refusal r of an operation o
-next : (h p m r o : ℕ) → (firstNoticed ≤ r) × (r ≤ lastNoticed) → o ≤ operationCount → Notice h p m → Notice (pick (eqb h 0) r h) (pick (eqb h 0) o p) (pick (ltb m 65535) (suc m) 65535)
-next h p m r o hr ho a = go (eqb h 0) (ltb m 65535) (same h 0) (below m 65535)
+-- A notice goes on being one.
+next : (h p m r o : ℕ) → (firstNoticed ≤ r) × (r ≤ lastNoticed) → o ≤ operationCount → Notice h p m
+    → Notice (keepFirst (eqb h 0) r h) (keepFirst (eqb h 0) o p) (countOn (ltb m missedLimit) m)
+next h p m r o hr ho a = go (eqb h 0) (ltb m missedLimit) (same h 0) (below m missedLimit)
   where
-    go : (x y : Bool) → Same h 0 x → Below m 65535 y → Notice (pick x r h) (pick x o p) (pick y (suc m) 65535)
+    go : (x y : Bool) → Same h 0 x → Below m missedLimit y → Notice (keepFirst x r h) (keepFirst x o p) (countOn y m)
     go true true (it q) (under l) = search (arith, inr)
     go true false (it q) (over l) = absurd (omega (arith, a .none .0 q))
-    go false true (other q) (under l) = search arith
-    go false false (other q) (over l) = search arith
+    go false true (other q) (under l) = search (arith, inr)
+    go false false (other q) (over l) = search (arith, inr)
 
 module _ (d : Tables) (w : WellFormed d) (s : Secure d) (u r o : ℕ) (p : d .user u present ≢ 0) (hr : (firstNoticed ≤ r) × (r ≤ lastNoticed)) (ho : o ≤ operationCount) where
-  noticed : Edit UserWord
-  noticed = userWord held (pick (eqb (d .user u held) 0) r (d .user u held))
-      and userWord heldOp (pick (eqb (d .user u held) 0) o (d .user u heldOp))
-      and userWord missed (pick (ltb (d .user u missed) 65535) (suc (d .user u missed)) 65535)
-
-  notice-ok : UserOk (d .user u) → UserOk (written noticed (d .user u))
-  unfolding noticed
+  notice-ok : UserOk (d .user u) → UserOk (written (noticing u r o d) (d .user u))
   notice-ok a = let n = next (d .user u held) (d .user u heldOp) (d .user u missed) r o hr ho (a .notice) in search arith
 
   pub notice-wellFormed : WellFormed (notice u r o d)
-  unfolding noticed
-  notice-wellFormed = let n = each UserOk noticed u (d .user) (w .users) (notice-ok (w .users u)) in search
+  notice-wellFormed = let n = each UserOk (noticing u r o d) u (d .user) (w .users) (notice-ok (w .users u)) in search
 
   pub notice-secure : Secure (notice u r o d)
   notice-secure = search

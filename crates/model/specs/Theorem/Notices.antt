@@ -7,7 +7,7 @@ use Prim.Native.Nat.{_≤_, suc, ℕ}
 use native.Mathlib.Omega.{arith}
 use lib.Dec.{eqb, ltb}
 use Rattle.model.specs.Basics.Choice.{Below, Same, below, it, other, over, pick, same, under}
-use Rattle.model.specs.Effect.Words.{acknowledge, notice}
+use Rattle.model.specs.Effect.Words.{acknowledge, countOn, keepFirst, notice}
 use Rattle.model.specs.Request.Allowed.{Allowed}
 use Rattle.model.specs.Request.Asked.{asked}
 use Rattle.model.specs.Request.Ladder.{after, answer, noticedOp}
@@ -24,12 +24,12 @@ use Rattle.model.specs.Theorem.Kept.{after-accepted, after-noticed, afte
 notice-keeps : (d : Tables) (u r o x : ℕ) → d .user x held ≢ 0 → (notice u r o d .user x held ≡ d .user x held) × (notice u r o d .user x heldOp ≡ d .user x heldOp)
 notice-keeps d u r o x h = go (eqb x u) (same x u)
   where
-    inner : x ≡ u → (c : Bool) → Same (d .user u held) 0 c → (pick c r (d .user u held) ≡ d .user x held) × (pick c o (d .user u heldOp) ≡ d .user x heldOp)
+    inner : x ≡ u → (c : Bool) → Same (d .user u held) 0 c → (keepFirst c r (d .user u held) ≡ d .user x held) × (keepFirst c o (d .user u heldOp) ≡ d .user x heldOp)
     inner e true (it z) = absurd (h (ap (λ (v : ℕ). d .user v held) e ∙ z))
     inner e false (other z) = (sym (ap (λ (v : ℕ). d .user v held) e), sym (ap (λ (v : ℕ). d .user v heldOp) e))
 
-    go : (b : Bool) → Same x u b → (pick b (pick (eqb (d .user u held) 0) r (d .user u held)) (d .user x held) ≡ d .user x held)
-        × (pick b (pick (eqb (d .user u held) 0) o (d .user u heldOp)) (d .user x heldOp) ≡ d .user x heldOp)
+    go : (b : Bool) → Same x u b → (pick b (keepFirst (eqb (d .user u held) 0) r (d .user u held)) (d .user x held) ≡ d .user x held)
+        × (pick b (keepFirst (eqb (d .user u held) 0) o (d .user u heldOp)) (d .user x heldOp) ≡ d .user x heldOp)
     go true (it e) = inner e (eqb (d .user u held) 0) (same (d .user u held) 0)
     go false (other e) = (refl, refl)
 
@@ -37,11 +37,11 @@ notice-keeps d u r o x h = go (eqb x u) (same x u)
 notice-counts : (d : Tables) (u r o x : ℕ) → d .user x missed ≤ missedLimit → d .user x missed ≤ notice u r o d .user x missed
 notice-counts d u r o x h = go (eqb x u) (same x u)
   where
-    inner : x ≡ u → (c : Bool) → Below (d .user u missed) missedLimit c → d .user x missed ≤ pick c (suc (d .user u missed)) missedLimit
+    inner : x ≡ u → (c : Bool) → Below (d .user u missed) missedLimit c → d .user x missed ≤ countOn c (d .user u missed)
     inner e true l = let z : d .user x missed ≤ suc (d .user u missed) = omega (arith, ap (λ (v : ℕ). d .user v missed) e) in z
     inner e false l = let z : d .user x missed ≤ missedLimit = h in z
 
-    go : (b : Bool) → Same x u b → d .user x missed ≤ pick b (pick (ltb (d .user u missed) missedLimit) (suc (d .user u missed)) missedLimit) (d .user x missed)
+    go : (b : Bool) → Same x u b → d .user x missed ≤ pick b (countOn (ltb (d .user u missed) missedLimit) (d .user u missed)) (d .user x missed)
     go true (it e) = inner e (ltb (d .user u missed) missedLimit) (below (d .user u missed) missedLimit)
     go false (other e) = omega arith
 
