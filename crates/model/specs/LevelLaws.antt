@@ -1,4 +1,5 @@
 -- The order of levels: a partial order over every width of the compartments, with a lowest and a highest level.
+use mathlib.Core.Logic.{_≢_}
 use mathlib.Core.Path.{_≡_, subst, sym}
 use Prim.Native.Nat.{_%_, _*_, _+_, _-_, _/_, _<_, _^_, _≤_, ℕ}
 use native.Mathlib.Nat.{div-lt-iff-lt-mul, mul-le-mul-right, zero-div}
@@ -101,3 +102,7 @@ incomparable = (λ t. t, λ t. t)
 pub lower-agrees : (a b : ℕ) → Agrees (lower a b) (Lower a b)
 unfolding lower
 lower-agrees a b = agrees-and {a = atMost a b} (record { to = λ t. t; from = λ t. t }) (agrees-not (agrees-eq a b))
+
+-- a lower level is another one
+pub lower-differs : (a b : ℕ) → Lower a b → a ≢ b
+lower-differs a b l = l .1

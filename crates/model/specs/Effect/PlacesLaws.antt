@@ -20,7 +20,7 @@ use Rattle.model.specs.Tables.EditLaws.{case, each}
 use Rattle.model.specs.Tables.Edits.{blank, written}
 use Rattle.model.specs.Tables.RowLaws.{sought}
 use Rattle.model.specs.Tables.Rows.{Sought, seek}
-use Rattle.model.specs.Tables.Words.{EntityWord, Tables, absentKind, clearance, containerKind, count, counts, deviceKind, devices, entityCount, kinds, level, mark, maximum, objectKind, places, releaser, shown, sums, value}
+use Rattle.model.specs.Tables.Words.{EntityWord, Tables, absentKind, clearance, containerKind, count, counts, deviceKind, devices, entityCount, kinds, level, mark, maximum, objectKind, placeCount, places, releaser, shown, sums, value}
 
 -- the level of e changes, and e neither holds anything nor is held
 module _ (d : Tables) (s : Secure d) (e l : ℕ) (nothing : (c : ℕ) → Holds d e c → ⊥) (nowhere : (x : ℕ) → Holds d x e → ⊥) where
@@ -33,7 +33,7 @@ module _ (d : Tables) (s : Secure d) (e l : ℕ) (nothing : (c : ℕ) → Holds 
   seen-by u c on h = case (λ (y : ℕ). AtMost y (d .user u clearance)) c e l (d .entity c level) (λ q. absurd (nowhere (devices d u) (subst (Holds d (devices d u)) q h))) (λ q. s .seen u c on h)
 
 -- a record at an absent number
-module _ (d : Tables) (w : WellFormed d) (e c k t l : ℕ) (gone : kinds d e ≡ 0) (range : (1 ≤ e) × (e ≤ 64)) (sort : (1 ≤ k) × (k ≤ 2)) (draft : (t ≡ 0) ⊎ ((k ≡ 2) × (t ≡ 1))) (lev : l < levelCount) where
+module _ (d : Tables) (w : WellFormed d) (e c k t l : ℕ) (gone : kinds d e ≡ 0) (range : (1 ≤ e) × (e ≤ entityCount)) (sort : (1 ≤ k) × (k ≤ 2)) (draft : (t ≡ 0) ⊎ ((k ≡ containerKind) × (t ≡ 1))) (lev : l < levelCount) where
   zero-here : (f : EntityWord) → d .entity e f ≡ 0
   zero-here = w .entities e .absent gone
 
@@ -46,10 +46,10 @@ module _ (d : Tables) (w : WellFormed d) (e c k t l : ℕ) (gone : kinds d e ≡
       let h = zero-here count in
       let z : (i : ℕ) → d .entity e (shown i) ≡ 0 = λ i. zero-here (shown i) in
       let acc = w .entities c .access in
-      let ty : (t ≤ 1) × (t ≢ 0 → k ≡ 2) = typing draft in
+      let ty : (t ≤ 1) × (t ≢ 0 → k ≡ containerKind) = typing draft in
       search (arith, z)
     where
-      typing : (t ≡ 0) ⊎ ((k ≡ 2) × (t ≡ 1)) → (t ≤ 1) × (t ≢ 0 → k ≡ 2)
+      typing : (t ≡ 0) ⊎ ((k ≡ containerKind) × (t ≡ 1)) → (t ≤ 1) × (t ≢ 0 → k ≡ containerKind)
       typing (inl q) = (omega arith, λ z. absurd (z q))
       typing (inr q) = (omega arith, λ z. q .0)
 
@@ -62,7 +62,7 @@ module _ (d : Tables) (w : WellFormed d) (e c k t l : ℕ) (gone : kinds d e ≡
   pub fresh-wellFormed : WellFormed (fresh e c k t l d)
   fresh-wellFormed = record {
     userNumbers = w .userNumbers;
-    entityNumbers = λ x. case (λ (y : ℕ). y ≢ 0 → (1 ≤ x) × (x ≤ 64)) x e k (kinds d x) (λ q z. rw q range) (λ q. w .entityNumbers x);
+    entityNumbers = λ x. case (λ (y : ℕ). y ≢ 0 → (1 ≤ x) × (x ≤ entityCount)) x e k (kinds d x) (λ q z. rw q range) (λ q. w .entityNumbers x);
     users = w .users;
     entities = each EntityOk (bearing c k t l d) e (d .entity) (w .entities) (born-ok (w .entities e));
     links = appear (kinds d) (counts d) (places d) (devices d) (w .links) e k gone (zero-here count) sort;
@@ -77,15 +77,15 @@ module _ (d : Tables) (w : WellFormed d) (e c k t l : ℕ) (gone : kinds d e ≡
     ceiling = λ x h. case (λ (y : ℕ). AtMost y (d .entity x maximum)) x e l (d .entity x level) (λ q. absurd (omega (arith, ap (kinds d) q, same-kind x h))) (λ q. s .ceiling x (same-kind x h));
   }
     where
-      same-kind : (x : ℕ) → kinds (fresh e c k t l d) x ≡ 3 → kinds d x ≡ 3
-      same-kind x = case (λ (y : ℕ). y ≡ 3 → kinds d x ≡ 3) x e k (kinds d x) (λ q z. absurd (omega arith)) (λ q z. z)
+      same-kind : (x : ℕ) → kinds (fresh e c k t l d) x ≡ deviceKind → kinds d x ≡ deviceKind
+      same-kind x = case (λ (y : ℕ). y ≡ deviceKind → kinds d x ≡ deviceKind) x e k (kinds d x) (λ q z. absurd (omega arith)) (λ q z. z)
 
 -- a record is zeroed
 module _ (d : Tables) (w : WellFormed d) (e : ℕ) (thing : kinds d e ≤ 2) (empty : counts d e ≡ 0) (nowhere : (x : ℕ) → Holds d x e → ⊥) where
   pub erase-wellFormed : WellFormed (erase e d)
   erase-wellFormed = record {
     userNumbers = w .userNumbers;
-    entityNumbers = λ x. case (λ (y : ℕ). y ≢ 0 → (1 ≤ x) × (x ≤ 64)) x e 0 (kinds d x) (λ q z. absurd (z refl)) (λ q. w .entityNumbers x);
+    entityNumbers = λ x. case (λ (y : ℕ). y ≢ 0 → (1 ≤ x) × (x ≤ entityCount)) x e 0 (kinds d x) (λ q z. absurd (z refl)) (λ q. w .entityNumbers x);
     users = w .users;
     entities = each EntityOk (blank) e (d .entity) (w .entities) zero-ok;
     links = vanish (kinds d) (counts d) (places d) (devices d) (w .links) e nowhere thing;
@@ -103,21 +103,21 @@ module _ (d : Tables) (w : WellFormed d) (e : ℕ) (thing : kinds d e ≤ 2) (em
       there : (x c : ℕ) → Holds (erase e d) x c → Holds d x c
       there x c h = still (kinds d) (counts d) (places d) (devices d) (w .links) e nowhere thing x c h
 
-      shows : (x i : ℕ) (b : Bool) → pick b 0 (kinds d x) ≡ 3 → i < pick b 0 (counts d x) → T (labelled (pick b 0 (sums d x i)))
+      shows : (x i : ℕ) (b : Bool) → pick b 0 (kinds d x) ≡ deviceKind → i < pick b 0 (counts d x) → T (labelled (pick b 0 (sums d x i)))
       shows x i true h l = absurd (not-suc-le-zero l)
       shows x i false h l = s .valueLabelled x i h l
 
-      top : (x : ℕ) (b : Bool) → pick b 0 (kinds d x) ≡ 3 → AtMost (pick b 0 (d .entity x level)) (pick b 0 (d .entity x maximum))
+      top : (x : ℕ) (b : Bool) → pick b 0 (kinds d x) ≡ deviceKind → AtMost (pick b 0 (d .entity x level)) (pick b 0 (d .entity x maximum))
       top x true h = absurd (let z : _≡_ {A = ℕ} 0 3 = h in omega arith)
       top x false h = s .ceiling x h
 
 -- 2 delete: an entity with no contents, on no device
-module _ (d : Tables) (w : WellFormed d) (s : Secure d) (e : ℕ) (thing : kinds d e ≤ 2) (empty : counts d e ≡ 0) (unseen : (x : ℕ) → kinds d x ≡ 3 → Holds d x e → ⊥) where
+module _ (d : Tables) (w : WellFormed d) (s : Secure d) (e : ℕ) (thing : kinds d e ≤ 2) (empty : counts d e ≡ 0) (unseen : (x : ℕ) → kinds d x ≡ deviceKind → Holds d x e → ⊥) where
   nowhere-now : (x : ℕ) → Holds (leave e d) x e → ⊥
   nowhere-now x h =
       let m = stayed d w e x e h in
-      let not3 : kinds d x ≢ 3 = λ q. unseen x q (m .0) in
-      let not2 : kinds d x ≢ 2 = λ q. m .1 q refl in
+      let not3 : kinds d x ≢ deviceKind = λ q. unseen x q (m .0) in
+      let not2 : kinds d x ≢ containerKind = λ q. m .1 q refl in
       let not1 : kinds d x ≢ 1 = λ q. omega (arith, w .entities x .filled .objectEmpty q, m .0 .1) in
       let not0 : kinds d x ≢ 0 = λ q. omega (arith, w .entities x .absent q count, m .0 .1) in
       omega (arith, w .entities x .shape .kindIn)
@@ -132,13 +132,13 @@ module _ (d : Tables) (w : WellFormed d) (s : Secure d) (e : ℕ) (thing : kinds
   delete-secure = erase-secure (leave e d) (leave-wellFormed d w e) e thing empty-now nowhere-now (leave-secure d w e s)
 
 -- no user is on a container
-on-none : (d : Tables) → WellFormed d → (c u : ℕ) → kinds d c ≡ 2 → devices d u ≡ c → ⊥
+on-none : (d : Tables) → WellFormed d → (c u : ℕ) → kinds d c ≡ containerKind → devices d u ≡ c → ⊥
 on-none d w c u h q =
     let n = w .entityNumbers c (omega arith) in
     omega (arith, w .links .deviceIs u (omega arith), ap (kinds d) q)
 
 -- 3 move
-module _ (d : Tables) (w : WellFormed d) (s : Secure d) (e c : ℕ) (thing : Thing d e) (box : kinds d c ≡ 2) (room : counts (leave e d) c < 8)
+module _ (d : Tables) (w : WellFormed d) (s : Secure d) (e c : ℕ) (thing : Thing d e) (box : kinds d c ≡ containerKind) (room : counts (leave e d) c < placeCount)
     (apart : Within (In (kinds d) (counts d) (places d)) c e → ⊥) (low : AtMost (d .entity e level) (d .entity c level)) where
   Inner : ℕ → ℕ → Type 0
   Inner = In (kinds (leave e d)) (counts (leave e d)) (places (leave e d))
@@ -169,16 +169,16 @@ module _ (d : Tables) (w : WellFormed d) (s : Secure d) (e c : ℕ) (thing : Thi
   move-secure = put-secure (leave e d) (leave-wellFormed d w e) c e 0 takes (leave-secure d w e s) low (λ u q. absurd (on-none d w c u box q)) (λ q. absurd (omega arith))
 
 -- 1 create
-module _ (d : Tables) (w : WellFormed d) (s : Secure d) (e c k t l : ℕ) (gone : kinds d e ≡ 0) (range : (1 ≤ e) × (e ≤ 64)) (sort : (1 ≤ k) × (k ≤ 2)) (draft : (t ≡ 0) ⊎ ((k ≡ 2) × (t ≡ 1))) (lev : l < levelCount)
-    (box : kinds d c ≡ 2) (room : counts d c < 8) (low : AtMost l (d .entity c level)) where
+module _ (d : Tables) (w : WellFormed d) (s : Secure d) (e c k t l : ℕ) (gone : kinds d e ≡ 0) (range : (1 ≤ e) × (e ≤ entityCount)) (sort : (1 ≤ k) × (k ≤ 2)) (draft : (t ≡ 0) ⊎ ((k ≡ containerKind) × (t ≡ 1))) (lev : l < levelCount)
+    (box : kinds d c ≡ containerKind) (room : counts d c < placeCount) (low : AtMost l (d .entity c level)) where
   abbrev with-it : Tables
   with-it = fresh e c k t l d
 
   apart-c : c ≢ e
   apart-c q = omega (arith, ap (kinds d) q)
 
-  box-now : kinds with-it c ≡ 2
-  box-now = case (λ (y : ℕ). y ≡ 2) c e k (kinds d c) (λ q. absurd (apart-c q)) (λ q. box)
+  box-now : kinds with-it c ≡ containerKind
+  box-now = case (λ (y : ℕ). y ≡ containerKind) c e k (kinds d c) (λ q. absurd (apart-c q)) (λ q. box)
 
   level-c : d .entity c level ≡ with-it .entity c level
   level-c = case (λ (y : ℕ). d .entity c level ≡ y) c e l (d .entity c level) (λ q. absurd (apart-c q)) (λ q. refl)

@@ -7,7 +7,7 @@ use native.Mathlib.Omega.{arith}
 use lib.Dec.{T, eqb, eqb→eq}
 use Rattle.model.specs.Basics.Choice.{Same, it, other, pick, same}
 use Rattle.model.specs.Effect.Places.{leave, leaving, put, putting}
-use Rattle.model.specs.Effect.Screens.{clear, off}
+use Rattle.model.specs.Effect.Screens.{clear}
 use Rattle.model.specs.Level.{AtMost}
 use Rattle.model.specs.State.Depth.{Within}
 use Rattle.model.specs.State.LinksLaws.{attach, grown, shrink}
@@ -17,14 +17,14 @@ use Rattle.model.specs.Tables.EditLaws.{all, case, each}
 use Rattle.model.specs.Tables.Edits.{written}
 use Rattle.model.specs.Tables.RowLaws.{append-packed, without-fewer, without-member, without-packed}
 use Rattle.model.specs.Tables.Rows.{Member, left, replace, without}
-use Rattle.model.specs.Tables.Words.{Tables, clearance, counts, devices, kinds, level, places, sums}
+use Rattle.model.specs.Tables.Words.{Tables, clearance, containerKind, counts, deviceKind, devices, kinds, level, placeCount, places, sumLimit, sums}
 
 -- e is put last in c, with the sum s
-put-filled : (k n e s : ℕ) (at sum : ℕ → ℕ) → (2 ≤ k) → n < 8 → 1 ≤ e → ((i : ℕ) → i < n → at i ≢ e) → (k ≡ 3 → (1 ≤ s) × (s ≤ 7)) → (k ≢ 3 → s ≡ 0) → Filled k n at sum → Filled k (suc n) (replace n e at) (replace n s sum)
+put-filled : (k n e s : ℕ) (at sum : ℕ → ℕ) → (2 ≤ k) → n < placeCount → 1 ≤ e → ((i : ℕ) → i < n → at i ≢ e) → (k ≡ deviceKind → (1 ≤ s) × (s ≤ sumLimit)) → (k ≢ deviceKind → s ≡ 0) → Filled k n at sum → Filled k (suc n) (replace n e at) (replace n s sum)
 put-filled k n e s at sum hk fits he new on off f = record {
   packed = append-packed at n e (f .packed) fits he new;
   objectEmpty = λ q. absurd (omega arith);
-  sums = λ q i l. case (λ (y : ℕ). (1 ≤ y) × (y ≤ 7)) i n s (sum i) (λ z. on q) (λ z. f .sums q i (omega arith));
+  sums = λ q i l. case (λ (y : ℕ). (1 ≤ y) × (y ≤ sumLimit)) i n s (sum i) (λ z. on q) (λ z. f .sums q i (omega arith));
   noSums = λ q i. case (λ (y : ℕ). y ≡ 0) i n s (sum i) (λ z. off q) (λ z. f .noSums q i);
   restSums = λ i l. case (λ (y : ℕ). y ≡ 0) i n s (sum i) (λ z. absurd (omega arith)) (λ z. f .restSums i (omega arith));
 }
@@ -33,13 +33,13 @@ put-filled k n e s at sum hk fits he new on off f = record {
 pub record Takes (d : Tables) (c e s : ℕ) : Type 0 where
   pub thing : Thing d e
   pub holder : 2 ≤ kinds d c
-  pub room : counts d c < 8
+  pub room : counts d c < placeCount
   pub new : (i : ℕ) → i < counts d c → places d c i ≢ e
-  pub free : kinds d c ≡ 2 → (b : ℕ) → In (kinds d) (counts d) (places d) b e → ⊥
+  pub free : kinds d c ≡ containerKind → (b : ℕ) → In (kinds d) (counts d) (places d) b e → ⊥
   pub apart : Within (In (kinds d) (counts d) (places d)) c e → ⊥
-  pub onIt : kinds d c ≡ 3 → (u : ℕ) × (devices d u ≡ c)
-  pub sumOn : kinds d c ≡ 3 → (1 ≤ s) × (s ≤ 7)
-  pub sumOff : kinds d c ≢ 3 → s ≡ 0
+  pub onIt : kinds d c ≡ deviceKind → (u : ℕ) × (devices d u ≡ c)
+  pub sumOn : kinds d c ≡ deviceKind → (1 ≤ s) × (s ≤ sumLimit)
+  pub sumOff : kinds d c ≢ deviceKind → s ≡ 0
 
 module _ (d : Tables) (w : WellFormed d) (c e s : ℕ) (t : Takes d c e s) where
   put-ok : EntityOk (d .entity c) → EntityOk (written (putting c e s d) (d .entity c))
@@ -61,7 +61,7 @@ module _ (d : Tables) (w : WellFormed d) (c e s : ℕ) (t : Takes d c e s) where
   put-grown : (x a : ℕ) → Holds (put c e s d) x a → Holds d x a ⊎ ((x ≡ c) × (a ≡ e))
   put-grown x a h = grown (kinds d) (counts d) (places d) (devices d) (w .links) c e x a h
 
-  pub put-secure : Secure d → AtMost (d .entity e level) (d .entity c level) → ((u : ℕ) → devices d u ≡ c → AtMost (d .entity e level) (d .user u clearance)) → (kinds d c ≡ 3 → T (labelled s)) → Secure (put c e s d)
+  pub put-secure : Secure d → AtMost (d .entity e level) (d .entity c level) → ((u : ℕ) → devices d u ≡ c → AtMost (d .entity e level) (d .user u clearance)) → (kinds d c ≡ deviceKind → T (labelled s)) → Secure (put c e s d)
   put-secure o low clear label = record {
     contained = λ x a h. in-it x a (put-grown x a h);
     seen = λ u a on h. on-it u a on (put-grown (devices d u) a h);
@@ -78,12 +78,12 @@ module _ (d : Tables) (w : WellFormed d) (c e s : ℕ) (t : Takes d c e s) where
       on-it u a on (inl h) = o .seen u a on h
       on-it u a on (inr q) = rw (q .1) (clear u (q .0))
 
-      shows : (x i : ℕ) → kinds d x ≡ 3 → (b : Bool) → Same x c b → i < pick b (suc (counts d c)) (counts d x) → T (labelled (pick b (replace (counts d c) s (sums d c) i) (sums d x i)))
+      shows : (x i : ℕ) → kinds d x ≡ deviceKind → (b : Bool) → Same x c b → i < pick b (suc (counts d c)) (counts d x) → T (labelled (pick b (replace (counts d c) s (sums d c) i) (sums d x i)))
       shows x i k true (it q) l = case (λ (y : ℕ). T (labelled y)) i (counts d c) s (sums d c i) (λ z. label (ap (kinds d) (sym q) ∙ k)) (λ z. o .valueLabelled c i (ap (kinds d) (sym q) ∙ k) (omega arith))
       shows x i k false (other q) l = o .valueLabelled x i k l
 
 -- e leaves its container
-leave-filled : (k n e : ℕ) (at sum : ℕ → ℕ) → k ≡ 2 → Filled k n at sum → Filled k (left e at n) (without e at n) sum
+leave-filled : (k n e : ℕ) (at sum : ℕ → ℕ) → k ≡ containerKind → Filled k n at sum → Filled k (left e at n) (without e at n) sum
 leave-filled k n e at sum h f = record {
   packed = without-packed e at n (f .packed);
   objectEmpty = λ q. absurd (omega arith);
@@ -93,14 +93,14 @@ leave-filled k n e at sum h f = record {
 }
 
 module _ (d : Tables) (w : WellFormed d) (e : ℕ) where
-  leave-ok : (x : ℕ) → kinds d x ≡ 2 → EntityOk (d .entity x) → EntityOk (written (leaving e d x) (d .entity x))
+  leave-ok : (x : ℕ) → kinds d x ≡ containerKind → EntityOk (d .entity x) → EntityOk (written (leaving e d x) (d .entity x))
   leave-ok x h o = let f = leave-filled (kinds d x) (counts d x) e (places d x) (sums d x) h (o .filled) in search arith
 
   -- what is still there, and that e is in no container
-  pub stayed : (x c : ℕ) → Holds (leave e d) x c → Holds d x c × (kinds d x ≡ 2 → c ≢ e)
-  stayed x c = go (eqb (kinds d x) 2) (same (kinds d x) 2)
+  pub stayed : (x c : ℕ) → Holds (leave e d) x c → Holds d x c × (kinds d x ≡ containerKind → c ≢ e)
+  stayed x c = go (eqb (kinds d x) containerKind) (same (kinds d x) containerKind)
     where
-      go : (b : Bool) → Same (kinds d x) 2 b → Member (λ i. pick b (without e (places d x) (counts d x) i) (places d x i)) (pick b (left e (places d x) (counts d x)) (counts d x)) c → Holds d x c × (kinds d x ≡ 2 → c ≢ e)
+      go : (b : Bool) → Same (kinds d x) 2 b → Member (λ i. pick b (without e (places d x) (counts d x) i) (places d x i)) (pick b (left e (places d x) (counts d x)) (counts d x)) c → Holds d x c × (kinds d x ≡ containerKind → c ≢ e)
       go true (it q) m = let y = without-member e (places d x) (counts d x) (w .entities x .filled .packed) c m in (y .0, λ z. y .1)
       go false (other q) m = (m, λ z. absurd (q z))
 
@@ -112,7 +112,7 @@ module _ (d : Tables) (w : WellFormed d) (e : ℕ) where
     userNumbers = w .userNumbers;
     entityNumbers = w .entityNumbers;
     users = w .users;
-    entities = all EntityOk (λ x. eqb (kinds d x) 2) (leaving e d) (d .entity) (w .entities) (λ x t. leave-ok x (eqb→eq (kinds d x) 2 t) (w .entities x));
+    entities = all EntityOk (λ x. eqb (kinds d x) containerKind) (leaving e d) (d .entity) (w .entities) (λ x t. leave-ok x (eqb→eq (kinds d x) containerKind t) (w .entities x));
     links = shrink (kinds d) (counts d) (places d) (devices d) (w .links) (counts (leave e d)) (places (leave e d)) (λ x c h. stayed x c h .0) fewer-there;
   }
 

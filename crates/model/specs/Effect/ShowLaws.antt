@@ -16,19 +16,19 @@ use Rattle.model.specs.Tables.EditLaws.{case, each, member-cases}
 use Rattle.model.specs.Tables.Edits.{onEntity, written}
 use Rattle.model.specs.Tables.RowLaws.{replace-same, sought}
 use Rattle.model.specs.Tables.Rows.{Member, Sought, replace}
-use Rattle.model.specs.Tables.Words.{Tables, clearance, counts, devices, kinds, level, places, sums}
+use Rattle.model.specs.Tables.Words.{Tables, clearance, counts, deviceKind, devices, kinds, level, placeCount, places, sumLimit, sums}
 
 -- the entity is there already: only its sum changes
-again-filled : (n i s : ℕ) (at sum : ℕ → ℕ) (k : ℕ) → k ≡ 3 → i < n → (1 ≤ s) × (s ≤ 7) → Filled k n at sum → Filled k n at (replace i s sum)
+again-filled : (n i s : ℕ) (at sum : ℕ → ℕ) (k : ℕ) → k ≡ deviceKind → i < n → (1 ≤ s) × (s ≤ sumLimit) → Filled k n at sum → Filled k n at (replace i s sum)
 again-filled n i s at sum k h l hs f = record {
   packed = f .packed;
   objectEmpty = f .objectEmpty;
-  sums = λ q j lj. case (λ (y : ℕ). (1 ≤ y) × (y ≤ 7)) j i s (sum j) (λ z. hs) (λ z. f .sums q j lj);
+  sums = λ q j lj. case (λ (y : ℕ). (1 ≤ y) × (y ≤ sumLimit)) j i s (sum j) (λ z. hs) (λ z. f .sums q j lj);
   noSums = λ q. absurd (q h);
   restSums = λ j lj. case (λ (y : ℕ). y ≡ 0) j i s (sum j) (λ z. absurd (omega arith)) (λ z. f .restSums j lj);
 }
 
-module _ (d : Tables) (w : WellFormed d) (s : Secure d) (u v e a : ℕ) (on : devices d u ≡ v) (screen : kinds d v ≡ 3) (thing : Thing d e) (sum : (1 ≤ a) × (a ≤ 7))
+module _ (d : Tables) (w : WellFormed d) (s : Secure d) (u v e a : ℕ) (on : devices d u ≡ v) (screen : kinds d v ≡ deviceKind) (thing : Thing d e) (sum : (1 ≤ a) × (a ≤ sumLimit))
     (label : T (labelled a)) (low : AtMost (d .entity e level) (d .entity v level)) (clear : AtMost (d .entity e level) (d .user u clearance)) where
   -- already there, at k
   module _ (k : ℕ) (l : k < counts d v) (at-k : places d v k ≡ e) where
@@ -68,7 +68,7 @@ module _ (d : Tables) (w : WellFormed d) (s : Secure d) (u v e a : ℕ) (on : de
       ceiling = s .ceiling;
     }
 
-  takes-shown : counts d v < 8 → ((i : ℕ) → i < counts d v → places d v i ≢ e) → Takes d v e a
+  takes-shown : counts d v < placeCount → ((i : ℕ) → i < counts d v → places d v i ≢ e) → Takes d v e a
   takes-shown room new = record {
     thing = thing;
     holder = omega arith;
@@ -87,7 +87,7 @@ module _ (d : Tables) (w : WellFormed d) (s : Secure d) (u v e a : ℕ) (on : de
       let n = w .entityNumbers v (omega arith) in
       rw (w .links .oneUser x u (omega arith) (q ∙ sym on)) clear
 
-  pub show-both : (counts d v ≤ spot v e d → counts d v < 8) → Good (show v e a d)
+  pub show-both : (counts d v ≤ spot v e d → counts d v < placeCount) → Good (show v e a d)
   show-both room = go (ltb (spot v e d) (counts d v)) (below (spot v e d) (counts d v)) (sought e (places d v) (counts d v))
     where
       go : (b : Bool) → Below (spot v e d) (counts d v) b → Sought e (places d v) (counts d v) (spot v e d) → Good (onEntity v (showing v e a d (spot v e d) (pick b (counts d v) (suc (counts d v)))) d)

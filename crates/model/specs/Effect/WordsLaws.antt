@@ -6,14 +6,13 @@ use Prim.Native.Nat.{_<_, _≤_, ℕ}
 use native.Mathlib.Omega.{arith}
 use lib.Dec.{eqb, ltb}
 use Rattle.model.specs.Basics.Choice.{Below, Same, below, it, other, over, pick, same, under}
-use Rattle.model.specs.Effect.Screens.{off}
 use Rattle.model.specs.Effect.Words.{acknowledge, countOn, edit, keepFirst, notice, noticing, quieting, release, setAuthorised, setClearance, setCurrent, setLevel, setMark, setMaximum}
 use Rattle.model.specs.Level.{AtMost, Subset, levelCount, roleCount, roleSets}
 use Rattle.model.specs.State.Secure.{Secure}
 use Rattle.model.specs.State.WellFormed.{EntityOk, Notice, Thing, UserOk, WellFormed}
 use Rattle.model.specs.Tables.EditLaws.{case, each}
 use Rattle.model.specs.Tables.Edits.{_and_, userWord, word, written}
-use Rattle.model.specs.Tables.Words.{Tables, authorised, clearance, current, device, firstNoticed, held, heldOp, kind, lastNoticed, level, mark, maximum, missed, missedLimit, operationCount, present, releaser, type, value}
+use Rattle.model.specs.Tables.Words.{Tables, authorised, clearance, containerKind, current, device, deviceKind, firstNoticed, held, heldOp, kind, lastNoticed, level, mark, maximum, missed, missedLimit, operationCount, present, releasedType, releaser, type, userCount, value}
 
 module _ (d : Tables) (w : WellFormed d) where
   -- 4 edit
@@ -31,25 +30,25 @@ module _ (d : Tables) (w : WellFormed d) where
   level-wellFormed e v t h = let n = each EntityOk (word level v) e (d .entity) (w .entities) (level-ok e v t h (w .entities e)) in search
 
   -- 7 mark
-  mark-ok : (e v : ℕ) → d .entity e kind ≡ 2 → v ≤ 1 → EntityOk (d .entity e) → EntityOk (written (word mark v) (d .entity e))
+  mark-ok : (e v : ℕ) → d .entity e kind ≡ containerKind → v ≤ 1 → EntityOk (d .entity e) → EntityOk (written (word mark v) (d .entity e))
   mark-ok e v t h o = search arith
 
-  pub mark-wellFormed : (e v : ℕ) → d .entity e kind ≡ 2 → v ≤ 1 → WellFormed (setMark e v d)
+  pub mark-wellFormed : (e v : ℕ) → d .entity e kind ≡ containerKind → v ≤ 1 → WellFormed (setMark e v d)
   mark-wellFormed e v t h = let n = each EntityOk (word mark v) e (d .entity) (w .entities) (mark-ok e v t h (w .entities e)) in search
 
   -- 17 maximum
-  maximum-ok : (e v : ℕ) → d .entity e kind ≡ 3 → v < levelCount → EntityOk (d .entity e) → EntityOk (written (word maximum v) (d .entity e))
+  maximum-ok : (e v : ℕ) → d .entity e kind ≡ deviceKind → v < levelCount → EntityOk (d .entity e) → EntityOk (written (word maximum v) (d .entity e))
   maximum-ok e v t h o = search arith
 
-  pub maximum-wellFormed : (e v : ℕ) → d .entity e kind ≡ 3 → v < levelCount → WellFormed (setMaximum e v d)
+  pub maximum-wellFormed : (e v : ℕ) → d .entity e kind ≡ deviceKind → v < levelCount → WellFormed (setMaximum e v d)
   maximum-wellFormed e v t h = let n = each EntityOk (word maximum v) e (d .entity) (w .entities) (maximum-ok e v t h (w .entities e)) in search
 
   -- 19 release
-  release-ok : (u e : ℕ) → d .entity e kind ≡ 2 → (1 ≤ u) × (u ≤ 16) → EntityOk (d .entity e) → EntityOk (written (word type 2 and word releaser u) (d .entity e))
+  release-ok : (u e : ℕ) → d .entity e kind ≡ containerKind → (1 ≤ u) × (u ≤ userCount) → EntityOk (d .entity e) → EntityOk (written (word type releasedType and word releaser u) (d .entity e))
   release-ok u e t h o = search arith
 
-  pub release-wellFormed : (u e : ℕ) → d .entity e kind ≡ 2 → (1 ≤ u) × (u ≤ 16) → WellFormed (release u e d)
-  release-wellFormed u e t h = let n = each EntityOk (word type 2 and word releaser u) e (d .entity) (w .entities) (release-ok u e t h (w .entities e)) in search
+  pub release-wellFormed : (u e : ℕ) → d .entity e kind ≡ containerKind → (1 ≤ u) × (u ≤ userCount) → WellFormed (release u e d)
+  release-wellFormed u e t h = let n = each EntityOk (word type releasedType and word releaser u) e (d .entity) (w .entities) (release-ok u e t h (w .entities e)) in search
 
   -- 14 current roles
   current-ok : (u v : ℕ) → d .user u present ≢ 0 → v < roleSets → (d .user u device ≡ 0 → v ≡ 0) → UserOk (d .user u) → UserOk (written (userWord current v) (d .user u))
@@ -88,7 +87,7 @@ module _ (d : Tables) (s : Secure d) where
 
   pub maximum-secure : (e v : ℕ) → AtMost (d .entity e level) v → Secure (setMaximum e v d)
   maximum-secure e v h =
-      let n : (x : ℕ) → d .entity x kind ≡ 3 → AtMost (d .entity x level) (pick (eqb x e) v (d .entity x maximum))
+      let n : (x : ℕ) → d .entity x kind ≡ deviceKind → AtMost (d .entity x level) (pick (eqb x e) v (d .entity x maximum))
       = λ x k. case (λ (y : ℕ). AtMost (d .entity x level) y) x e v (d .entity x maximum) (λ q. rw q h) (λ q. s .ceiling x k) in
       search
 

@@ -8,10 +8,10 @@ use Prim.Native.Nat.{_<_, _≤_, ℕ}
 use lib.Dec.{T}
 use lib.ListN.{length}
 use Rattle.model.specs.Effect.Places.{draftSort, leave, objectSort, vacant}
-use Rattle.model.specs.Effect.Screens.{clear, off, spot}
+use Rattle.model.specs.Effect.Screens.{spot}
 use Rattle.model.specs.Level.{AtMost, Lower, Subset, downgrader, levelCount, officer, releasing, roleCount, roleSets}
 use Rattle.model.specs.Request.Asked.{Asked, HasRole, asked, basisOf, namedTriple, operand, own}
-use Rattle.model.specs.Request.Conditions.{free, levelOf}
+use Rattle.model.specs.Request.Conditions.{levelOf}
 use Rattle.model.specs.Request.Ladder.{fits}
 use Rattle.model.specs.Request.Operations.{Op, clearanceEffect, levelEffect, numberOf, offDuty, opOf, rowOf, toAcknowledge, toAuthorised, toClear, toClearance, toCopy, toCreate, toCurrent, toDelete, toDeviceLevel, toEdit, toGrant, toLevel, toLogin, toLogout, toMark, toMaximum, toMove, toRelease, toRevoke, toShow}
 use Rattle.model.specs.Request.Reference.{here}

@@ -6,7 +6,6 @@ use mathlib.Core.Option.{none, some}
 use mathlib.Core.Path.{_≡_}
 use Prim.Native.Nat.{_<_, suc, zero, ℕ}
 use lib.Dec.{eqb, leb, ltb}
-use Rattle.model.specs.Basics.Choice.{below}
 use Rattle.model.specs.Basics.Tests.{every, imp}
 use Rattle.model.specs.Effect.Words.{notice}
 use Rattle.model.specs.Level.{atMost, roleCount}

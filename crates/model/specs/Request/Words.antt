@@ -2,7 +2,7 @@
 use mathlib.Core.List.{List, [], _∷_}
 use Prim.Native.Nat.{_+_, suc, ℕ}
 use lib.Dec.{eqb}
-use lib.ListN.{getD, length, take}
+use lib.ListN.{getD, take}
 use Rattle.model.specs.Basics.Choice.{pick}
 
 pub record Reference : Type 0 where

@@ -17,6 +17,7 @@ use Rattle.model.specs.State.WellFormed.{In, Linked}
 use Rattle.model.specs.Tables.Edits.{row}
 use Rattle.model.specs.Tables.RowLaws.{sought}
 use Rattle.model.specs.Tables.Rows.{Member, Sought, seek}
+use Rattle.model.specs.Tables.Words.{containerKind, deviceKind, entityCount, placeCount, userCount}
 
 -- c is among the first n of a row
 pub member-agrees : (r : ℕ → ℕ) (n c : ℕ) → Agrees (ltb (seek c r n) n) (Member r n c)
@@ -30,7 +31,7 @@ member-agrees r n c = go (ltb (seek c r n) n) (below (seek c r n) n) (sought c r
 
 pub in-agrees : (k n : ℕ → ℕ) (at : ℕ → ℕ → ℕ) (b a : ℕ) → Agrees (inTest k n at b a) (In k n at b a)
 unfolding inTest
-in-agrees k n at b a = agrees-and (agrees-eq (k b) 2) (member-agrees (at b) (n b) a)
+in-agrees k n at b a = agrees-and (agrees-eq (k b) containerKind) (member-agrees (at b) (n b) a)
 
 yes-one : (b : Bool) → pick {A = ℕ} b 1 0 ≡ 1 → T b
 yes-one true e = tt
@@ -41,18 +42,18 @@ one-yes true t = refl
 one-yes false t = absurd t
 
 -- the columns of tables that are zero outside their ranges
-module _ (k n : ℕ → ℕ) (at : ℕ → ℕ → ℕ) (dev : ℕ → ℕ) (entityOut : (e : ℕ) → (e ≡ 0) ⊎ (64 < e) → (k e ≡ 0) × (n e ≡ 0)) (userOut : (u : ℕ) → (u ≡ 0) ⊎ (16 < u) → dev u ≡ 0) (room : (e : ℕ) → n e ≤ 8) where
-  pub boxed : (b a : ℕ) → In k n at b a → (1 ≤ b) × (b ≤ 64)
+module _ (k n : ℕ → ℕ) (at : ℕ → ℕ → ℕ) (dev : ℕ → ℕ) (entityOut : (e : ℕ) → (e ≡ 0) ⊎ (entityCount < e) → (k e ≡ 0) × (n e ≡ 0)) (userOut : (u : ℕ) → (u ≡ 0) ⊎ (userCount < u) → dev u ≡ 0) (room : (e : ℕ) → n e ≤ placeCount) where
+  pub boxed : (b a : ℕ) → In k n at b a → (1 ≤ b) × (b ≤ entityCount)
   boxed b a h =
       let no0 : b ≢ 0 = λ q. omega (arith, entityOut b (inl q), h .0) in
-      let no65 : ¬ (64 < b) = λ q. omega (arith, entityOut b (inr q), h .0) in
+      let no65 : ¬ (entityCount < b) = λ q. omega (arith, entityOut b (inr q), h .0) in
       (omega arith, omega arith)
 
   pub parent-top : (a : ℕ) → parent k n at a ≡ 0 → (x : ℕ) → In k n at x a → ⊥
   unfolding parent spotOf
-  parent-top a e x h = go (ltb (spotOf k n at a) 64) (below (spotOf k n at a) 64) (sought 1 (λ i. pick (inTest k n at (suc i) a) 1 0) 64) e x h (boxed x a h)
+  parent-top a e x h = go (ltb (spotOf k n at a) entityCount) (below (spotOf k n at a) entityCount) (sought 1 (λ i. pick (inTest k n at (suc i) a) 1 0) entityCount) e x h (boxed x a h)
     where
-      go : (b : Bool) → Below (spotOf k n at a) 64 b → Sought 1 (λ i. pick (inTest k n at (suc i) a) 1 0) 64 (spotOf k n at a) → pick b (suc (spotOf k n at a)) 0 ≡ 0 → (x : ℕ) → In k n at x a → (1 ≤ x) × (x ≤ 64) → ⊥
+      go : (b : Bool) → Below (spotOf k n at a) entityCount b → Sought 1 (λ i. pick (inTest k n at (suc i) a) 1 0) entityCount (spotOf k n at a) → pick b (suc (spotOf k n at a)) 0 ≡ 0 → (x : ℕ) → In k n at x a → (1 ≤ x) × (x ≤ entityCount) → ⊥
       go true (under l) s e x h r = let z : suc (spotOf k n at a) ≡ 0 = e in omega arith
       go false (over l) (inl s) e x h r = omega (arith, s .0)
       go false (over l) (inr s) e zero h r = omega arith
@@ -60,67 +61,67 @@ module _ (k n : ℕ → ℕ) (at : ℕ → ℕ → ℕ) (dev : ℕ → ℕ) (ent
 
   pub parent-holds : (a : ℕ) → parent k n at a ≢ 0 → In k n at (parent k n at a) a
   unfolding parent spotOf
-  parent-holds a e = go (ltb (spotOf k n at a) 64) (below (spotOf k n at a) 64) (sought 1 (λ i. pick (inTest k n at (suc i) a) 1 0) 64) e
+  parent-holds a e = go (ltb (spotOf k n at a) entityCount) (below (spotOf k n at a) entityCount) (sought 1 (λ i. pick (inTest k n at (suc i) a) 1 0) entityCount) e
     where
-      go : (b : Bool) → Below (spotOf k n at a) 64 b → Sought 1 (λ i. pick (inTest k n at (suc i) a) 1 0) 64 (spotOf k n at a) → pick b (suc (spotOf k n at a)) 0 ≢ 0 → In k n at (pick b (suc (spotOf k n at a)) 0) a
+      go : (b : Bool) → Below (spotOf k n at a) entityCount b → Sought 1 (λ i. pick (inTest k n at (suc i) a) 1 0) entityCount (spotOf k n at a) → pick b (suc (spotOf k n at a)) 0 ≢ 0 → In k n at (pick b (suc (spotOf k n at a)) 0) a
       go true (under l) (inl s) e = in-agrees k n at (suc (spotOf k n at a)) a .to (yes-one (inTest k n at (suc (spotOf k n at a)) a) (s .1))
       go true (under l) (inr s) e = absurd (omega (arith, s .0))
       go false (over l) s e = absurd (e refl)
 
   contents-agrees : Agrees (contentsTest k n at dev) ((e c : ℕ) → Member (at e) (n e) c → (1 ≤ k c) × (k c ≤ 2))
   unfolding contentsTest
-  contents-agrees = agrees-as {P = (e : ℕ) → (i : ℕ) → i < 8 → i < n e → (1 ≤ k (at e i)) × (k (at e i) ≤ 2)}
+  contents-agrees = agrees-as {P = (e : ℕ) → (i : ℕ) → i < placeCount → i < n e → (1 ≤ k (at e i)) × (k (at e i) ≤ 2)}
       (λ f e c m. subst (λ (y : ℕ). (1 ≤ k y) × (k y ≤ 2)) (m .2) (f e (m .0) (omega (arith, m .1, room e)) (m .1)))
       (λ f e i h l. f e (at e i) (i, l, refl))
-      (agrees-range 64 (λ e. every 8 (λ i. imp (ltb i (n e)) (leb 1 (k (at e i)) && leb (k (at e i)) 2))) (λ e. (i : ℕ) → i < 8 → i < n e → (1 ≤ k (at e i)) × (k (at e i) ≤ 2))
+      (agrees-range entityCount (λ e. every placeCount (λ i. imp (ltb i (n e)) (leb 1 (k (at e i)) && leb (k (at e i)) 2))) (λ e. (i : ℕ) → i < placeCount → i < n e → (1 ≤ k (at e i)) × (k (at e i) ≤ 2))
       (λ e. search agreement depth 20) (λ i h l. absurd (omega (arith, entityOut 0 (inl refl)))) (λ e o i h l. absurd (omega (arith, entityOut e (inr o)))))
 
   one-agrees : Agrees (oneTest k n at dev) ((c a b : ℕ) → In k n at a c → In k n at b c → a ≡ b)
   unfolding oneTest
-  one-agrees = agrees-as {P = (a : ℕ) → k a ≡ 2 → (b : ℕ) → k b ≡ 2 → (i : ℕ) → i < 8 → (j : ℕ) → j < 8 → i < n a → j < n b → at a i ≡ at b j → a ≡ b}
+  one-agrees = agrees-as {P = (a : ℕ) → k a ≡ containerKind → (b : ℕ) → k b ≡ containerKind → (i : ℕ) → i < placeCount → (j : ℕ) → j < placeCount → i < n a → j < n b → at a i ≡ at b j → a ≡ b}
       (λ f c a b p q. f a (p .0) b (q .0) (p .1 .0) (omega (arith, p .1 .1, room a)) (q .1 .0) (omega (arith, q .1 .1, room b)) (p .1 .1) (q .1 .1) (p .1 .2 ∙ sym (q .1 .2)))
       (λ f a p b q i h j l r s e. f (at a i) a b (p, (i, r, refl)) (q, (j, s, sym e)))
-      (agrees-range 64 (λ a. imp (eqb (k a) 2) (every 64 (λ b. row a (suc b)))) (λ a. k a ≡ 2 → (b : ℕ) → k b ≡ 2 → (i : ℕ) → i < 8 → (j : ℕ) → j < 8 → i < n a → j < n b → at a i ≡ at b j → a ≡ b)
-      (λ a. agrees-imp (agrees-eq (k a) 2) (agrees-range 64 (row a) (λ b. k b ≡ 2 → (i : ℕ) → i < 8 → (j : ℕ) → j < 8 → i < n a → j < n b → at a i ≡ at b j → a ≡ b) (λ b. search agreement depth 20)
+      (agrees-range entityCount (λ a. imp (eqb (k a) containerKind) (every entityCount (λ b. row a (suc b)))) (λ a. k a ≡ containerKind → (b : ℕ) → k b ≡ containerKind → (i : ℕ) → i < placeCount → (j : ℕ) → j < placeCount → i < n a → j < n b → at a i ≡ at b j → a ≡ b)
+      (λ a. agrees-imp (agrees-eq (k a) containerKind) (agrees-range entityCount (row a) (λ b. k b ≡ containerKind → (i : ℕ) → i < placeCount → (j : ℕ) → j < placeCount → i < n a → j < n b → at a i ≡ at b j → a ≡ b) (λ b. search agreement depth 20)
       (λ q. absurd (omega (arith, entityOut 0 (inl refl)))) (λ b o q. absurd (omega (arith, entityOut b (inr o))))))
       (λ p. absurd (omega (arith, entityOut 0 (inl refl)))) (λ a o p. absurd (omega (arith, entityOut a (inr o)))))
     where
       row : ℕ → ℕ → Bool
-      row a b = imp (eqb (k b) 2) (every 8 (λ i. every 8 (λ j. imp (ltb i (n a)) (imp (ltb j (n b)) (imp (eqb (at a i) (at b j)) (eqb a b))))))
+      row a b = imp (eqb (k b) containerKind) (every placeCount (λ i. every placeCount (λ j. imp (ltb i (n a)) (imp (ltb j (n b)) (imp (eqb (at a i) (at b j)) (eqb a b))))))
 
   loop-agrees : ((c a b : ℕ) → In k n at a c → In k n at b c → a ≡ b) → Agrees (loopTest k n at dev) ((e : ℕ) → Inside (In k n at) e e → ⊥)
   unfolding loopTest
-  loop-agrees one = agrees-as {P = (i : ℕ) → i < 64 → T (up (parent k n at) 65 (suc i))}
+  loop-agrees one = agrees-as {P = (i : ℕ) → i < entityCount → T (up (parent k n at) (suc entityCount) (suc i))}
       (λ g e p. low g e p (let x = holds-one p in boxed e (x .0) (x .1)))
       (λ f i h. complete (In k n at) (parent k n at) parent-top parent-holds one boxed f (suc i))
-      (agrees-every 64 (λ e. up (parent k n at) 65 (suc e)) (λ e. T (up (parent k n at) 65 (suc e))) (λ e. record { to = λ t. t; from = λ t. t }))
+      (agrees-every entityCount (λ e. up (parent k n at) (suc entityCount) (suc e)) (λ e. T (up (parent k n at) (suc entityCount) (suc e))) (λ e. record { to = λ t. t; from = λ t. t }))
     where
-      low : ((i : ℕ) → i < 64 → T (up (parent k n at) 65 (suc i))) → (e : ℕ) → Inside (In k n at) e e → (1 ≤ e) × (e ≤ 64) → ⊥
+      low : ((i : ℕ) → i < entityCount → T (up (parent k n at) (suc entityCount) (suc i))) → (e : ℕ) → Inside (In k n at) e e → (1 ≤ e) × (e ≤ entityCount) → ⊥
       low g zero p r = omega arith
-      low g (suc e) p r = sound (In k n at) (parent k n at) parent-top parent-holds one boxed 65 (suc e) (g e (omega arith)) p
+      low g (suc e) p r = sound (In k n at) (parent k n at) parent-top parent-holds one boxed (suc entityCount) (suc e) (g e (omega arith)) p
 
-  device-agrees : Agrees (deviceTest k n at dev) ((u : ℕ) → dev u ≢ 0 → k (dev u) ≡ 3)
+  device-agrees : Agrees (deviceTest k n at dev) ((u : ℕ) → dev u ≢ 0 → k (dev u) ≡ deviceKind)
   unfolding deviceTest
-  device-agrees = agrees-range 16 (λ u. imp (not (eqb (dev u) 0)) (eqb (k (dev u)) 3)) (λ u. dev u ≢ 0 → k (dev u) ≡ 3) (λ u. search agreement)
+  device-agrees = agrees-range userCount (λ u. imp (not (eqb (dev u) 0)) (eqb (k (dev u)) deviceKind)) (λ u. dev u ≢ 0 → k (dev u) ≡ deviceKind) (λ u. search agreement)
       (λ q. absurd (q (userOut 0 (inl refl)))) (λ u o q. absurd (q (userOut u (inr o))))
 
   alone-agrees : Agrees (aloneTest k n at dev) ((u v : ℕ) → dev u ≢ 0 → dev u ≡ dev v → u ≡ v)
   unfolding aloneTest
-  alone-agrees = agrees-range 16 (λ u. every 16 (λ v. imp (not (eqb (dev u) 0)) (imp (eqb (dev u) (dev (suc v))) (eqb u (suc v))))) (λ u. (v : ℕ) → dev u ≢ 0 → dev u ≡ dev v → u ≡ v)
-      (λ u. agrees-range 16 (λ v. imp (not (eqb (dev u) 0)) (imp (eqb (dev u) (dev v)) (eqb u v))) (λ v. dev u ≢ 0 → dev u ≡ dev v → u ≡ v) (λ v. search agreement)
+  alone-agrees = agrees-range userCount (λ u. every userCount (λ v. imp (not (eqb (dev u) 0)) (imp (eqb (dev u) (dev (suc v))) (eqb u (suc v))))) (λ u. (v : ℕ) → dev u ≢ 0 → dev u ≡ dev v → u ≡ v)
+      (λ u. agrees-range userCount (λ v. imp (not (eqb (dev u) 0)) (imp (eqb (dev u) (dev v)) (eqb u v))) (λ v. dev u ≢ 0 → dev u ≡ dev v → u ≡ v) (λ v. search agreement)
       (λ q e. absurd (q (e ∙ userOut 0 (inl refl)))) (λ v o q e. absurd (q (e ∙ userOut v (inr o)))))
       (λ v q. absurd (q (userOut 0 (inl refl)))) (λ u o v q. absurd (q (userOut u (inr o))))
 
-  idle-agrees : Agrees (idleTest k n at dev) ((e : ℕ) → k e ≡ 3 → ((u : ℕ) → dev u ≢ e) → n e ≡ 0)
+  idle-agrees : Agrees (idleTest k n at dev) ((e : ℕ) → k e ≡ deviceKind → ((u : ℕ) → dev u ≢ e) → n e ≡ 0)
   unfolding idleTest
-  idle-agrees = agrees-as {P = (e : ℕ) → e < 64 → k (suc e) ≡ 3 → ((u : ℕ) → dev u ≢ suc e) → n (suc e) ≡ 0}
-      (λ f e h z. low f e h z (ltb e 65) (below e 65)) (λ f e l h z. f (suc e) h z)
-      (agrees-every 64 (λ e. imp (eqb (k (suc e)) 3) (imp (every 16 (λ u. not (eqb (dev (suc u)) (suc e)))) (eqb (n (suc e)) 0))) (λ e. k (suc e) ≡ 3 → ((u : ℕ) → dev u ≢ suc e) → n (suc e) ≡ 0)
-      (λ e. agrees-imp (agrees-eq (k (suc e)) 3) (agrees-imp
-      (agrees-range 16 (λ u. not (eqb (dev u) (suc e))) (λ u. dev u ≢ suc e) (λ u. search agreement) (λ q. omega (arith, userOut 0 (inl refl))) (λ u o q. omega (arith, userOut u (inr o))))
+  idle-agrees = agrees-as {P = (e : ℕ) → e < entityCount → k (suc e) ≡ deviceKind → ((u : ℕ) → dev u ≢ suc e) → n (suc e) ≡ 0}
+      (λ f e h z. low f e h z (ltb e (suc entityCount)) (below e (suc entityCount))) (λ f e l h z. f (suc e) h z)
+      (agrees-every entityCount (λ e. imp (eqb (k (suc e)) deviceKind) (imp (every userCount (λ u. not (eqb (dev (suc u)) (suc e)))) (eqb (n (suc e)) 0))) (λ e. k (suc e) ≡ deviceKind → ((u : ℕ) → dev u ≢ suc e) → n (suc e) ≡ 0)
+      (λ e. agrees-imp (agrees-eq (k (suc e)) deviceKind) (agrees-imp
+      (agrees-range userCount (λ u. not (eqb (dev u) (suc e))) (λ u. dev u ≢ suc e) (λ u. search agreement) (λ q. omega (arith, userOut 0 (inl refl))) (λ u o q. omega (arith, userOut u (inr o))))
       (agrees-eq (n (suc e)) 0))))
     where
-      low : ((e : ℕ) → e < 64 → k (suc e) ≡ 3 → ((u : ℕ) → dev u ≢ suc e) → n (suc e) ≡ 0) → (e : ℕ) → k e ≡ 3 → ((u : ℕ) → dev u ≢ e) → (b : Bool) → Below e 65 b → n e ≡ 0
+      low : ((e : ℕ) → e < entityCount → k (suc e) ≡ deviceKind → ((u : ℕ) → dev u ≢ suc e) → n (suc e) ≡ 0) → (e : ℕ) → k e ≡ deviceKind → ((u : ℕ) → dev u ≢ e) → (b : Bool) → Below e (suc entityCount) b → n e ≡ 0
       low f zero h z b l = entityOut 0 (inl refl) .1
       low f (suc e) h z true (under l) = f e (omega arith) h z
       low f (suc e) h z false (over l) = entityOut (suc e) (inr (omega arith)) .1
@@ -129,7 +130,7 @@ module _ (k n : ℕ → ℕ) (at : ℕ → ℕ → ℕ) (dev : ℕ → ℕ) (ent
   unfolding linksTest
   links-agrees = agrees-as
       (λ (z : ((e c : ℕ) → Member (at e) (n e) c → (1 ≤ k c) × (k c ≤ 2)) × (((c a b : ℕ) → In k n at a c → In k n at b c → a ≡ b) × (((e : ℕ) → Inside (In k n at) e e → ⊥)
-      × (((u : ℕ) → dev u ≢ 0 → k (dev u) ≡ 3) × (((u v : ℕ) → dev u ≢ 0 → dev u ≡ dev v → u ≡ v) × ((e : ℕ) → k e ≡ 3 → ((u : ℕ) → dev u ≢ e) → n e ≡ 0)))))).
+      × (((u : ℕ) → dev u ≢ 0 → k (dev u) ≡ deviceKind) × (((u v : ℕ) → dev u ≢ 0 → dev u ≡ dev v → u ≡ v) × ((e : ℕ) → k e ≡ deviceKind → ((u : ℕ) → dev u ≢ e) → n e ≡ 0)))))).
       record { contents = z .0; oneContainer = z .1 .0; noLoop = z .1 .1 .0; deviceIs = z .1 .1 .1 .0; oneUser = z .1 .1 .1 .1 .0; idle = z .1 .1 .1 .1 .1 })
       (λ l. (l .contents, (l .oneContainer, (l .noLoop, (l .deviceIs, (l .oneUser, l .idle))))))
       (agrees-and contents-agrees (agrees-then one-agrees (λ o. agrees-and (loop-agrees o) (agrees-and device-agrees (agrees-and alone-agrees idle-agrees)))))

@@ -2,7 +2,7 @@
 use mathlib.Core.Bool.{Bool, false, true}
 use mathlib.Core.Logic.{_≢_, _⊎_}
 use mathlib.Core.Path.{_≡_}
-use Prim.Native.Nat.{_%_, _/_, _<_, _≤_, suc, ℕ}
+use Prim.Native.Nat.{_<_, _≤_, suc, ℕ}
 use native.Mathlib.Omega.{arith}
 use lib.Dec.{ltb}
 use Rattle.model.specs.Basics.Agree.{Agrees, agreement, agrees-and, agrees-as, agrees-eq, agrees-every, agrees-imp, agrees-le}
@@ -11,86 +11,85 @@ use Rattle.model.specs.Basics.Tests.{imp}
 use Rattle.model.specs.Level.{levelCount, roleSets}
 use Rattle.model.specs.State.Tests.{accessTest, entityTest, filledTest, goodTest, nobodyTest, noneTest, noticeTest, packedTest, shapeTest, userTest}
 use Rattle.model.specs.State.WellFormed.{Access, EntityOk, Filled, GoodTriple, Notice, Shape, UserOk}
-use Rattle.model.specs.Tables.Edits.{row}
 use Rattle.model.specs.Tables.RowLaws.{first-zero}
 use Rattle.model.specs.Tables.Rows.{Packed, seek}
-use Rattle.model.specs.Tables.Words.{EntityWord, UserWord, authorised, clearance, count, current, device, held, heldOp, kind, level, mark, maximum, missed, place, placeCount, present, releaser, shown, spare, sums, triple, type, value}
+use Rattle.model.specs.Tables.Words.{EntityWord, UserWord, authorised, clearance, containerKind, count, current, device, deviceKind, firstNoticed, held, heldOp, kind, lastNoticed, level, mark, maximum, missed, missedLimit, objectKind, operationCount, operationIn, place, placeCount, plainType, positionCount, positionOf, present, releasedType, releaser, shown, spare, sumLimit, triple, type, userCount, value, whoLimit, whoOf}
 
 pub shape-agrees : (k t l m v r x : ℕ) → Agrees (shapeTest k t l m v r x) (Shape k t l m v r x)
 unfolding shapeTest
 shape-agrees k t l m v r x = agrees-as
-    {P = (k ≤ 3) × ((t ≤ 2) × ((l < 1024) × ((m ≤ 1) × ((x < 1024) × ((t ≢ 0 → k ≡ 2) × ((m ≢ 0 → k ≡ 2)
-    × ((t ≡ 2 → (1 ≤ r) × (r ≤ 16)) × ((t ≢ 2 → r ≡ 0) × ((k ≢ 3 → x ≡ 0) × (k ≡ 3 → v ≡ 0))))))))))}
+    {P = (k ≤ deviceKind) × ((t ≤ releasedType) × ((l < levelCount) × ((m ≤ 1) × ((x < levelCount) × ((t ≢ plainType → k ≡ containerKind) × ((m ≢ 0 → k ≡ containerKind)
+    × ((t ≡ releasedType → (1 ≤ r) × (r ≤ userCount)) × ((t ≢ releasedType → r ≡ 0) × ((k ≢ deviceKind → x ≡ 0) × (k ≡ deviceKind → v ≡ 0))))))))))}
     (λ z. search) (λ s. search) (search agreement depth 20)
 
 -- a row of eight has nothing past its end
-pub packed-agrees : (row : ℕ → ℕ) (n : ℕ) → ((i : ℕ) → 8 ≤ i → row i ≡ 0) → Agrees (packedTest row n) (Packed row n)
+pub packed-agrees : (row : ℕ → ℕ) (n : ℕ) → ((i : ℕ) → placeCount ≤ i → row i ≡ 0) → Agrees (packedTest row n) (Packed row n)
 unfolding packedTest
 packed-agrees row n out = agrees-as
-    {P = (n ≤ 8) × (((i : ℕ) → i < 8 → i < n → 1 ≤ row i) × (((i : ℕ) → i < 8 → n ≤ i → row i ≡ 0) × ((i : ℕ) → i < 8 → (j : ℕ) → j < 8 → i < n → j < n → row i ≡ row j → i ≡ j)))}
+    {P = (n ≤ placeCount) × (((i : ℕ) → i < placeCount → i < n → 1 ≤ row i) × (((i : ℕ) → i < placeCount → n ≤ i → row i ≡ 0) × ((i : ℕ) → i < placeCount → (j : ℕ) → j < placeCount → i < n → j < n → row i ≡ row j → i ≡ j)))}
     (λ z. record {
       room = z .0;
       used = λ i h. z .1 .0 i (omega arith) h;
-      rest = λ i h. rest z i h (below i 8);
+      rest = λ i h. rest z i h (below i placeCount);
       distinct = λ i j h l e. z .1 .1 .1 i (omega arith) j (omega arith) h l e;
     })
     (λ p. (p .room, (λ i l h. p .used i h, (λ i l h. p .rest i h, λ i l j m h k e. p .distinct i j h k e))))
     (search agreement depth 20)
   where
-    rest : (n ≤ 8) × (((i : ℕ) → i < 8 → i < n → 1 ≤ row i) × (((i : ℕ) → i < 8 → n ≤ i → row i ≡ 0) × ((i : ℕ) → i < 8 → (j : ℕ) → j < 8 → i < n → j < n → row i ≡ row j → i ≡ j)))
-        → (i : ℕ) → n ≤ i → {b : Bool} → Below i 8 b → row i ≡ 0
+    rest : (n ≤ placeCount) × (((i : ℕ) → i < placeCount → i < n → 1 ≤ row i) × (((i : ℕ) → i < placeCount → n ≤ i → row i ≡ 0) × ((i : ℕ) → i < placeCount → (j : ℕ) → j < placeCount → i < n → j < n → row i ≡ row j → i ≡ j)))
+        → (i : ℕ) → n ≤ i → {b : Bool} → Below i placeCount b → row i ≡ 0
     rest z i h (under l) = z .1 .1 .0 i l h
     rest z i h (over l) = out i l
 
 notice-agrees : (h o n : ℕ) → Agrees (noticeTest h o n) (Notice h o n)
 unfolding noticeTest
 notice-agrees h o n = agrees-as
-    {P = ((h ≡ 0) ⊎ ((5 ≤ h) × (h ≤ 16))) × ((o ≤ 20) × ((n ≤ 65535) × ((h ≡ 0 → n ≡ 0) × ((n ≡ 0 → h ≡ 0) × (h ≡ 0 → o ≡ 0)))))}
+    {P = ((h ≡ 0) ⊎ ((firstNoticed ≤ h) × (h ≤ lastNoticed))) × ((o ≤ operationCount) × ((n ≤ missedLimit) × ((h ≡ 0 → n ≡ 0) × ((n ≡ 0 → h ≡ 0) × (h ≡ 0 → o ≡ 0)))))}
     (λ z. search) (λ s. search) (search agreement depth 20)
 
 -- a row of eight is zero from its eighth place on
 abbrev pub Eight : (ℕ → ℕ) → Type 0
 Eight r = (i : ℕ) → placeCount ≤ i → r i ≡ 0
 
-within : (r : ℕ → ℕ) → Eight r → ((i : ℕ) → i < 8 → r i ≡ 0) → (i : ℕ) → r i ≡ 0
-within r out f i = go (ltb i 8) (below i 8)
+within : (r : ℕ → ℕ) → Eight r → ((i : ℕ) → i < placeCount → r i ≡ 0) → (i : ℕ) → r i ≡ 0
+within r out f i = go (ltb i placeCount) (below i placeCount)
   where
-    go : (b : Bool) → Below i 8 b → r i ≡ 0
+    go : (b : Bool) → Below i placeCount b → r i ≡ 0
     go true (under h) = f i h
     go false (over h) = out i h
 
 filled-agrees : (k n : ℕ) (at sum : ℕ → ℕ) → Eight at → Eight sum → Agrees (filledTest k n at sum) (Filled k n at sum)
 unfolding filledTest
 filled-agrees k n at sum ea es = agrees-as
-    {P = Packed at n × ((k ≡ 1 → n ≡ 0) × ((k ≡ 3 → (i : ℕ) → i < 8 → i < n → (1 ≤ sum i) × (sum i ≤ 7)) × ((k ≢ 3 → (i : ℕ) → i < 8 → sum i ≡ 0) × ((i : ℕ) → i < 8 → n ≤ i → sum i ≡ 0))))}
+    {P = Packed at n × ((k ≡ objectKind → n ≡ 0) × ((k ≡ deviceKind → (i : ℕ) → i < placeCount → i < n → (1 ≤ sum i) × (sum i ≤ sumLimit)) × ((k ≢ deviceKind → (i : ℕ) → i < placeCount → sum i ≡ 0) × ((i : ℕ) → i < placeCount → n ≤ i → sum i ≡ 0))))}
     (λ z. record {
       packed = z .0;
       objectEmpty = z .1 .0;
       sums = λ q i h. z .1 .1 .0 q i (omega (arith, z .0 .room)) h;
       noSums = λ q. within sum es (z .1 .1 .1 .0 q);
-      restSums = λ i h. go z i h (ltb i 8) (below i 8);
+      restSums = λ i h. go z i h (ltb i placeCount) (below i placeCount);
     })
     (λ f. (f .packed, (f .objectEmpty, (λ q i h l. f .sums q i l, (λ q i h. f .noSums q i, λ i h l. f .restSums i l)))))
     (agrees-and (packed-agrees at n ea) (search agreement depth 20))
   where
-    go : Packed at n × ((k ≡ 1 → n ≡ 0) × ((k ≡ 3 → (i : ℕ) → i < 8 → i < n → (1 ≤ sum i) × (sum i ≤ 7)) × ((k ≢ 3 → (i : ℕ) → i < 8 → sum i ≡ 0) × ((i : ℕ) → i < 8 → n ≤ i → sum i ≡ 0))))
-        → (i : ℕ) → n ≤ i → (b : Bool) → Below i 8 b → sum i ≡ 0
+    go : Packed at n × ((k ≡ objectKind → n ≡ 0) × ((k ≡ deviceKind → (i : ℕ) → i < placeCount → i < n → (1 ≤ sum i) × (sum i ≤ sumLimit)) × ((k ≢ deviceKind → (i : ℕ) → i < placeCount → sum i ≡ 0) × ((i : ℕ) → i < placeCount → n ≤ i → sum i ≡ 0))))
+        → (i : ℕ) → n ≤ i → (b : Bool) → Below i placeCount b → sum i ≡ 0
     go z i h true (under l) = z .1 .1 .1 .1 i l h
     go z i h false (over l) = es i l
 
 good-agrees : (t : ℕ) → Agrees (goodTest t) (GoodTriple t)
 unfolding goodTest
 good-agrees t = agrees-as
-    {P = ((1 ≤ t / 65536) × (t / 65536 ≤ 24)) × (((1 ≤ t / 256 % 256) × (t / 256 % 256 ≤ 20)) × ((1 ≤ t % 256) × (t % 256 ≤ 2)))}
+    {P = ((1 ≤ whoOf t) × (whoOf t ≤ whoLimit)) × (((1 ≤ operationIn t) × (operationIn t ≤ operationCount)) × ((1 ≤ positionOf t) × (positionOf t ≤ positionCount)))}
     (λ z. search) (λ s. search) (search agreement depth 20)
 
 access-agrees : (r : ℕ → ℕ) → Eight r → Agrees (accessTest r) ((n : ℕ) × Access n r)
 unfolding accessTest
 access-agrees r out = agrees-as
-    {P = Packed r (seek 0 r 8) × ((i : ℕ) → i < 8 → i < seek 0 r 8 → GoodTriple (r i))}
-    (λ z. (seek 0 r 8, record { packed = z .0; good = λ i h. z .1 i (omega (arith, z .0 .room)) h }))
+    {P = Packed r (seek 0 r placeCount) × ((i : ℕ) → i < placeCount → i < seek 0 r placeCount → GoodTriple (r i))}
+    (λ z. (seek 0 r placeCount, record { packed = z .0; good = λ i h. z .1 i (omega (arith, z .0 .room)) h }))
     (λ a. let e = first-zero r (a .0) (a .1 .packed) in (rw e (a .1 .packed), λ i h l. a .1 .good i (omega arith)))
-    (agrees-and (packed-agrees r (seek 0 r 8) out) (agrees-every 8 (λ i. imp (ltb i (seek 0 r 8)) (goodTest (r i))) (λ i. i < seek 0 r 8 → GoodTriple (r i)) (λ i. agrees-imp (agrees-le (suc i) (seek 0 r 8)) (good-agrees (r i)))))
+    (agrees-and (packed-agrees r (seek 0 r placeCount) out) (agrees-every placeCount (λ i. imp (ltb i (seek 0 r placeCount)) (goodTest (r i))) (λ i. i < seek 0 r placeCount → GoodTriple (r i)) (λ i. agrees-imp (agrees-le (suc i) (seek 0 r placeCount)) (good-agrees (r i)))))
 
 pub record Eights (w : EntityWord → ℕ) : Type 0 where
   pub place8 : Eight (λ i. w (place i))
@@ -101,7 +100,7 @@ none-agrees : (w : EntityWord → ℕ) → Eights w → Agrees (noneTest w) ((f 
 unfolding noneTest
 none-agrees w o = agrees-as
     {P = (w kind ≡ 0) × ((w type ≡ 0) × ((w level ≡ 0) × ((w mark ≡ 0) × ((w value ≡ 0) × ((w releaser ≡ 0) × ((w maximum ≡ 0) × ((w count ≡ 0)
-    × (((i : ℕ) → i < 8 → w (place i) ≡ 0) × (((i : ℕ) → i < 8 → w (shown i) ≡ 0) × ((i : ℕ) → i < 8 → w (triple i) ≡ 0))))))))))}
+    × (((i : ℕ) → i < placeCount → w (place i) ≡ 0) × (((i : ℕ) → i < placeCount → w (shown i) ≡ 0) × ((i : ℕ) → i < placeCount → w (triple i) ≡ 0))))))))))}
     (λ z. elim [
       | kind ↦ z .0
       | type ↦ z .1 .0

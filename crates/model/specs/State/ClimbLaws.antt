@@ -9,7 +9,8 @@ use lib.Dec.{T, eqb, ltb}
 use Rattle.model.specs.Basics.Choice.{Below, Same, below, it, other, over, pick, same, under}
 use Rattle.model.specs.State.Climb.{climb, up}
 use Rattle.model.specs.State.Depth.{Inside, Within, deeper, direct}
-use Rattle.model.specs.State.DepthLaws.{first-step, no-loop}
+use Rattle.model.specs.State.DepthLaws.{first-step}
+use Rattle.model.specs.Tables.Words.{entityCount}
 
 -- more numbers than there are values: two are alike
 squeeze : (t x : ℕ) → ℕ
@@ -42,7 +43,7 @@ pigeon (suc n) f small apart =
 
 -- par a is what a stands in, or 0
 module _ (H : ℕ → ℕ → Type 0) (par : ℕ → ℕ) (top : (a : ℕ) → par a ≡ 0 → (x : ℕ) → H x a → ⊥) (holds : (a : ℕ) → par a ≢ 0 → H (par a) a)
-    (one : (a x y : ℕ) → H x a → H y a → x ≡ y) (range : (x a : ℕ) → H x a → (1 ≤ x) × (x ≤ 64)) where
+    (one : (a x y : ℕ) → H x a → H y a → x ≡ y) (range : (x a : ℕ) → H x a → (1 ≤ x) × (x ≤ entityCount)) where
   pub sound : (m a : ℕ) → T (up par m a) → Inside H a a → ⊥
   unfolding up
   sound zero a t p = t
@@ -91,17 +92,17 @@ module _ (H : ℕ → ℕ → Type 0) (par : ℕ → ℕ) (top : (a : ℕ) → p
       go ih (inl e) = direct (subst (λ (y : ℕ). H (par (chain a j)) (chain a y)) (sym e) step)
       go ih (inr q) = deeper (ih q (omega arith)) step
 
-  pub complete : ((a : ℕ) → Inside H a a → ⊥) → (a : ℕ) → T (up par 65 a)
-  complete no-loop a = go (up par 65 a) refl
+  pub complete : ((a : ℕ) → Inside H a a → ⊥) → (a : ℕ) → T (up par (suc entityCount) a)
+  complete no-loop a = go (up par (suc entityCount) a) refl
     where
-      go : (b : Bool) → up par 65 a ≡ b → T b
+      go : (b : Bool) → up par (suc entityCount) a ≡ b → T b
       go true e = tt
       go false e =
-          let h = high 65 a e in
-          let r : (j : ℕ) → j < 65 → (1 ≤ chain a (suc j)) × (chain a (suc j) ≤ 64) = λ j l. unfold chain in range (par (chain a j)) (chain a j) (holds (chain a j) (h j l)) in
-          absurd (pigeon 64 (λ i. pred (chain a (suc i))) (λ i l. omega (arith, r i (omega arith)))
+          let h = high (suc entityCount) a e in
+          let r : (j : ℕ) → j < (suc entityCount) → (1 ≤ chain a (suc j)) × (chain a (suc j) ≤ entityCount) = λ j l. unfold chain in range (par (chain a j)) (chain a j) (holds (chain a j) (h j l)) in
+          absurd (pigeon entityCount (λ i. pred (chain a (suc i))) (λ i l. omega (arith, r i (omega arith)))
           (λ i j l k q. no-loop (chain a (suc i))
-          (subst (Inside H (chain a (suc i))) (omega (arith, r i (omega arith), r j (omega arith))) (above 65 a h (suc i) (suc j) (omega arith) (omega arith)))))
+          (subst (Inside H (chain a (suc i))) (omega (arith, r i (omega arith), r j (omega arith))) (above (suc entityCount) a h (suc i) (suc j) (omega arith) (omega arith)))))
 
   -- the test for "it or inside it"
   lift : {x e : ℕ} (c : ℕ) → H x c → Inside H x e → Inside H c e

@@ -12,6 +12,7 @@ use Rattle.model.specs.State.WellFormed.{In, Linked}
 use Rattle.model.specs.Tables.EditLaws.{case, member-cases}
 use Rattle.model.specs.Tables.RowLaws.{append-member}
 use Rattle.model.specs.Tables.Rows.{Member, replace}
+use Rattle.model.specs.Tables.Words.{containerKind, deviceKind}
 
 abbrev pub at-e : {A : Type 0} → ℕ → A → (ℕ → A) → ℕ → A
 at-e e v f x = pick (eqb x e) v (f x)
@@ -54,14 +55,14 @@ module _ (k n : ℕ → ℕ) (at : ℕ → ℕ → ℕ) (dev : ℕ → ℕ) (l :
         go (inl m) = inl (p .0, m)
         go (inr q) = inr q
 
-    pub attach : (1 ≤ k e) × (k e ≤ 2) → (k c ≡ 2 → (b : ℕ) → In k n at b e → ⊥) → (Within (In k n at) c e → ⊥) → (k c ≡ 3 → (u : ℕ) × (dev u ≡ c)) → Linked k count+ place+ dev
+    pub attach : (1 ≤ k e) × (k e ≤ 2) → (k c ≡ containerKind → (b : ℕ) → In k n at b e → ⊥) → (Within (In k n at) c e → ⊥) → (k c ≡ deviceKind → (u : ℕ) × (dev u ≡ c)) → Linked k count+ place+ dev
     attach thing free apart on = record {
       contents = λ x a h. whole x a (grown x a h);
       oneContainer = λ a x y p q. alone a x y p q (one-more x a p) (one-more y a q);
       noLoop = no-loop (In k n at) (In k count+ place+) c e one-more (l .noLoop) apart;
       deviceIs = l .deviceIs;
       oneUser = l .oneUser;
-      idle = λ x h z. case (λ (y : ℕ). y ≡ 0) x c (suc (n c)) (n x) (λ q. let o = on (subst (λ (y : ℕ). k y ≡ 3) q h) in absurd (z (o .0) (o .1 ∙ sym q))) (λ q. l .idle x h z);
+      idle = λ x h z. case (λ (y : ℕ). y ≡ 0) x c (suc (n c)) (n x) (λ q. let o = on (subst (λ (y : ℕ). k y ≡ deviceKind) q h) in absurd (z (o .0) (o .1 ∙ sym q))) (λ q. l .idle x h z);
     }
       where
         whole : (x a : ℕ) → Member (at x) (n x) a ⊎ ((x ≡ c) × (a ≡ e)) → (1 ≤ k a) × (k a ≤ 2)
@@ -75,7 +76,7 @@ module _ (k n : ℕ → ℕ) (at : ℕ → ℕ → ℕ) (dev : ℕ → ℕ) (l :
         alone a x y p′ q′ (inr p) (inr q) = p .0 ∙ sym (q .0)
 
   -- a device is in nothing
-  pub device-apart : (c e : ℕ) → k c ≡ 3 → (k e ≤ 2) → Within (In k n at) c e → ⊥
+  pub device-apart : (c e : ℕ) → k c ≡ deviceKind → (k e ≤ 2) → Within (In k n at) c e → ⊥
   device-apart c e h he (inl q) = omega (arith, ap k q)
   device-apart c e h he (inr p) = let x = held-by p in omega (arith, l .contents (x .0) c (x .1 .1))
 
@@ -83,16 +84,16 @@ module _ (k n : ℕ → ℕ) (at : ℕ → ℕ → ℕ) (dev : ℕ → ℕ) (l :
   module _ (e s : ℕ) (gone : k e ≡ 0) (none : n e ≡ 0) (thing : (1 ≤ s) × (s ≤ 2)) where
     empty-in : (b c : ℕ) → In (at-e e s k) n at b c → In k n at b c
     empty-in b c p =
-        (case (λ (y : ℕ). y ≡ 2 → k b ≡ 2) b e s (k b) (λ q z. absurd (omega (arith, p .1 .1, subst (λ (y : ℕ). n y ≡ 0) (sym q) none))) (λ q z. z) (p .0), p .1)
+        (case (λ (y : ℕ). y ≡ containerKind → k b ≡ containerKind) b e s (k b) (λ q z. absurd (omega (arith, p .1 .1, subst (λ (y : ℕ). n y ≡ 0) (sym q) none))) (λ q z. z) (p .0), p .1)
 
     pub appear : Linked (at-e e s k) n at dev
     appear = record {
       contents = λ x c h. case (λ (y : ℕ). (1 ≤ y) × (y ≤ 2)) c e s (k c) (λ q. thing) (λ q. l .contents x c h);
       oneContainer = λ c a b p q. l .oneContainer c a b (empty-in a c p) (empty-in b c q);
       noLoop = λ x p. l .noLoop x (fewer empty-in p);
-      deviceIs = λ u h. case (λ (y : ℕ). y ≡ 3) (dev u) e s (k (dev u)) (λ q. absurd (omega (arith, l .deviceIs u h, ap k q))) (λ q. l .deviceIs u h);
+      deviceIs = λ u h. case (λ (y : ℕ). y ≡ deviceKind) (dev u) e s (k (dev u)) (λ q. absurd (omega (arith, l .deviceIs u h, ap k q))) (λ q. l .deviceIs u h);
       oneUser = l .oneUser;
-      idle = λ x h. l .idle x (case (λ (y : ℕ). y ≡ 3 → k x ≡ 3) x e s (k x) (λ q z. absurd (omega arith)) (λ q z. z) h);
+      idle = λ x h. l .idle x (case (λ (y : ℕ). y ≡ deviceKind → k x ≡ deviceKind) x e s (k x) (λ q z. absurd (omega arith)) (λ q z. z) h);
     }
 
   -- a record with nothing in it, that stands nowhere and is no device, is zeroed
@@ -114,25 +115,25 @@ module _ (k n : ℕ → ℕ) (at : ℕ → ℕ → ℕ) (dev : ℕ → ℕ) (l :
         go (inr q) = q .1
 
     still-in : (b c : ℕ) → In kind- count- place- b c → In k n at b c
-    still-in b c p = (case (λ (y : ℕ). y ≡ 2 → k b ≡ 2) b e 0 (k b) (λ q z. absurd (omega arith)) (λ q z. z) (p .0), still b c (p .1))
+    still-in b c p = (case (λ (y : ℕ). y ≡ containerKind → k b ≡ containerKind) b e 0 (k b) (λ q z. absurd (omega arith)) (λ q z. z) (p .0), still b c (p .1))
 
     pub vanish : Linked kind- count- place- dev
     vanish = record {
       contents = λ x c h. case (λ (y : ℕ). (1 ≤ y) × (y ≤ 2)) c e 0 (k c) (λ q. absurd (nowhere x (subst (Member (at x) (n x)) q (still x c h)))) (λ q. l .contents x c (still x c h));
       oneContainer = λ c a b p q. l .oneContainer c a b (still-in a c p) (still-in b c q);
       noLoop = λ x p. l .noLoop x (fewer still-in p);
-      deviceIs = λ u h. case (λ (y : ℕ). y ≡ 3) (dev u) e 0 (k (dev u)) (λ q. absurd (omega (arith, l .deviceIs u h, ap k q))) (λ q. l .deviceIs u h);
+      deviceIs = λ u h. case (λ (y : ℕ). y ≡ deviceKind) (dev u) e 0 (k (dev u)) (λ q. absurd (omega (arith, l .deviceIs u h, ap k q))) (λ q. l .deviceIs u h);
       oneUser = l .oneUser;
-      idle = λ x h z. case (λ (y : ℕ). y ≡ 0) x e 0 (n x) (λ q. refl) (λ q. l .idle x (case (λ (y : ℕ). y ≡ 3 → k x ≡ 3) x e 0 (k x) (λ q z. absurd (omega arith)) (λ q z. z) h) z);
+      idle = λ x h z. case (λ (y : ℕ). y ≡ 0) x e 0 (n x) (λ q. refl) (λ q. l .idle x (case (λ (y : ℕ). y ≡ deviceKind → k x ≡ deviceKind) x e 0 (k x) (λ q z. absurd (omega arith)) (λ q z. z) h) z);
     }
 
   -- a user who was off goes on to a free device
-  pub arrive : (u e : ℕ) → k 0 ≡ 0 → dev u ≡ 0 → k e ≡ 3 → ((v : ℕ) → dev v ≢ e) → Linked k n at (at-e u e dev)
+  pub arrive : (u e : ℕ) → k 0 ≡ 0 → dev u ≡ 0 → k e ≡ deviceKind → ((v : ℕ) → dev v ≢ e) → Linked k n at (at-e u e dev)
   arrive u e nil gone h free = record {
     contents = l .contents;
     oneContainer = l .oneContainer;
     noLoop = l .noLoop;
-    deviceIs = λ v. case (λ (y : ℕ). y ≢ 0 → k y ≡ 3) v u e (dev v) (λ q z. h) (λ q z. l .deviceIs v z);
+    deviceIs = λ v. case (λ (y : ℕ). y ≢ 0 → k y ≡ deviceKind) v u e (dev v) (λ q z. h) (λ q z. l .deviceIs v z);
     oneUser = λ v x. case (λ (y : ℕ). y ≢ 0 → y ≡ at-e u e dev x → v ≡ x) v u e (dev v)
         (λ q z. case (λ (y : ℕ). e ≡ y → v ≡ x) x u e (dev x) (λ r w. q ∙ sym r) (λ r w. absurd (free x (sym w))))
         (λ q z. case (λ (y : ℕ). dev v ≡ y → v ≡ x) x u e (dev x) (λ r w. absurd (free v w)) (λ r w. l .oneUser v x z w));
@@ -145,13 +146,13 @@ module _ (k n : ℕ → ℕ) (at : ℕ → ℕ → ℕ) (dev : ℕ → ℕ) (l :
     contents = l .contents;
     oneContainer = l .oneContainer;
     noLoop = l .noLoop;
-    deviceIs = λ v. case (λ (y : ℕ). y ≢ 0 → k y ≡ 3) v u 0 (dev v) (λ q z. absurd (z refl)) (λ q z. l .deviceIs v z);
+    deviceIs = λ v. case (λ (y : ℕ). y ≢ 0 → k y ≡ deviceKind) v u 0 (dev v) (λ q z. absurd (z refl)) (λ q z. l .deviceIs v z);
     oneUser = λ v x. case (λ (y : ℕ). y ≢ 0 → y ≡ at-e u 0 dev x → v ≡ x) v u 0 (dev v)
         (λ q z. absurd (z refl))
         (λ q z. case (λ (y : ℕ). dev v ≡ y → v ≡ x) x u 0 (dev x) (λ r w. absurd (z w)) (λ r w. l .oneUser v x z w));
     idle = λ x hx z. last x hx z (eqb x (dev u)) (same x (dev u));
   }
     where
-      last : (x : ℕ) → k x ≡ 3 → ((v : ℕ) → at-e u 0 dev v ≢ x) → (b : Bool) → Same x (dev u) b → n x ≡ 0
+      last : (x : ℕ) → k x ≡ deviceKind → ((v : ℕ) → at-e u 0 dev v ≢ x) → (b : Bool) → Same x (dev u) b → n x ≡ 0
       last x hx z true (it q) = ap n q ∙ empty
       last x hx z false (other q) = l .idle x hx (λ v w. z v (case (λ (y : ℕ). y ≡ x) v u 0 (dev v) (λ r. absurd (q (sym w ∙ ap dev r))) (λ r. w)))

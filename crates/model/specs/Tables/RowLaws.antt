@@ -8,6 +8,7 @@ use native.Mathlib.Omega.{arith}
 use lib.Dec.{eqb, ltb}
 use Rattle.model.specs.Basics.Choice.{Below, Same, below, it, other, over, pick, same, under}
 use Rattle.model.specs.Tables.Rows.{Member, Packed, Sought, close, left, replace, seek, without}
+use Rattle.model.specs.Tables.Words.{placeCount}
 
 -- an empty row
 pub packed-none : Packed (λ i. 0) 0
@@ -38,7 +39,7 @@ module _ (row : ℕ → ℕ) (n v : ℕ) (p : Packed row n) where
       go false true (other d) (it e) q = absurd (new i (omega arith) q)
       go false false (other d) (other e) q = p .distinct i j (omega arith) (omega arith) q
 
-  pub append-packed : n < 8 → 1 ≤ v → ((i : ℕ) → i < n → row i ≢ v) → Packed (replace n v row) (suc n)
+  pub append-packed : n < placeCount → 1 ≤ v → ((i : ℕ) → i < n → row i ≢ v) → Packed (replace n v row) (suc n)
   append-packed h hv new = record { room = h; used = append-used hv; rest = append-rest; distinct = append-distinct new }
 
 pub append-member : (row : ℕ → ℕ) (n v c : ℕ) → Member (replace n v row) (suc n) c → Member row n c ⊎ (c ≡ v)
@@ -140,13 +141,13 @@ before v row (suc n) i h = go (eqb (row zero) v) (same (row zero) v) (before v (
     go false (other e) ih zero h = e
     go false (other e) ih (suc i) h = ih i (le-of-suc-le-suc h)
 
-pub first-zero : (row : ℕ → ℕ) (n : ℕ) → Packed row n → seek 0 row 8 ≡ n
-first-zero row n p = go (seek 0 row 8) (before 0 row 8) (sought 0 row 8)
+pub first-zero : (row : ℕ → ℕ) (n : ℕ) → Packed row n → seek 0 row placeCount ≡ n
+first-zero row n p = go (seek 0 row placeCount) (before 0 row placeCount) (sought 0 row placeCount)
   where
     ge : (k : ℕ) → ((i : ℕ) → i < k → row i ≢ 0) → k ≤ n
     ge k b = let h : ¬ (n < k) = λ l. b n l (p .rest n (le-refl n)) in omega arith
 
-    go : (k : ℕ) → ((i : ℕ) → i < k → row i ≢ 0) → Sought 0 row 8 k → k ≡ n
+    go : (k : ℕ) → ((i : ℕ) → i < k → row i ≢ 0) → Sought 0 row placeCount k → k ≡ n
     go k b (inl s) = let h : ¬ (k < n) = λ l. omega (arith, p .used k l, s .1) in omega (arith, ge k b)
     go k b (inr s) = omega (arith, ge k b, s .0, p .room)
 

@@ -16,7 +16,7 @@ use Rattle.model.specs.Request.Words.{Request}
 use Rattle.model.specs.State.Secure.{Good}
 use Rattle.model.specs.State.WellFormed.{WellFormed}
 use Rattle.model.specs.Tables.Layout.{Bounded}
-use Rattle.model.specs.Tables.Words.{Tables, kinds}
+use Rattle.model.specs.Tables.Words.{Tables}
 use Rattle.model.specs.Theorem.Clear.{Clear, clear-allowed}
 
 -- Rule 7.5: what fits has its arguments in their ranges.

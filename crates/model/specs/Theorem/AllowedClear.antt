@@ -7,13 +7,13 @@ use lib.Dec.{T, eqb}
 use Rattle.model.specs.Effect.WordsLaws.{clearance-wellFormed, level-wellFormed}
 use Rattle.model.specs.Level.{officer, releasing}
 use Rattle.model.specs.Request.Allowed.{Allowed}
-use Rattle.model.specs.Request.Asked.{Asked, operand, own}
+use Rattle.model.specs.Request.Asked.{Asked, operand}
 use Rattle.model.specs.Request.Ladder.{refused}
 use Rattle.model.specs.Request.LadderLaws.{AllOperands}
 use Rattle.model.specs.Request.Operations.{Op, Own, clearanceEffect, levelEffect, refuse, rowOf, toAcknowledge, toAuthorised, toClear, toClearance, toCopy, toCreate, toCurrent, toDelete, toDeviceLevel, toEdit, toGrant, toLevel, toLogin, toLogout, toMark, toMaximum, toMove, toRelease, toRevoke, toShow}
 use Rattle.model.specs.Request.OwnLaws.{any-agrees, container-agrees, createAbove-fails, createNoRoom-fails, currentOutside-fails, deleteForbidden-fails, device-agrees, deviceAbove-fails, deviceLowered-fails, draft-agrees, firstAbove-fails, grantNoRoom-fails, insecure-fails, lacks-fails, levelLowered-fails, loginTaken-fails, moveInside-fails, moveNoRoom-fails, notAcknowledged-fails, rolesOfAnother-fails, rolesOff-fails, rolesUnauthorised-fails, showAbove-fails, showNoRoom-fails, showUnlabelled-fails, thing-agrees, userAbsent-fails}
 use Rattle.model.specs.State.WellFormed.{WellFormed}
-use Rattle.model.specs.Tables.Words.{Tables, kinds}
+use Rattle.model.specs.Tables.Words.{Tables}
 
 -- What rungs 10 to 16 leave when they do not apply.
 pub record Unrefused (o : Op) (s : Asked) (d : Tables) : Type 0 where

@@ -5,7 +5,6 @@ use mathlib.Core.Logic.{_≢_, _⊎_}
 use mathlib.Core.Path.{_≡_}
 use Prim.Native.Nat.{_<_, suc, ℕ}
 use lib.Dec.{T, leb}
-use Rattle.model.specs.Effect.Words.{copy, release}
 use Rattle.model.specs.Level.{AtMost, Lower, bit, downgrader, officer, releasing}
 use Rattle.model.specs.Request.Allowed.{Meant, Open, Operand, Permitted}
 use Rattle.model.specs.Request.Asked.{Asked, HasRole, asked, basisOf, operand, own}

@@ -5,7 +5,7 @@ use Prim.Native.Nat.{ℕ}
 use lib.Dec.{T, eqb}
 use Rattle.model.specs.Basics.Agree.{Agrees, agrees-as, agrees-eq}
 use Rattle.model.specs.Request.Allowed.{Accepted}
-use Rattle.model.specs.Request.Asked.{asked, own}
+use Rattle.model.specs.Request.Asked.{asked}
 use Rattle.model.specs.Request.Ladder.{answer, ladder, ownRung}
 use Rattle.model.specs.Request.LadderLaws.{lowest-none}
 use Rattle.model.specs.Request.Operations.{Op}

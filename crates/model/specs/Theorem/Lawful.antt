@@ -8,9 +8,8 @@ use lib.Dec.{eqb}
 use Rattle.model.specs.Basics.Choice.{Same, it, other, pick, same}
 use Rattle.model.specs.Effect.Places.{create, delete, fresh, leave, sortKind, sortType, vacant}
 use Rattle.model.specs.Effect.PlacesLaws.{sort-plain, vacant-absent}
-use Rattle.model.specs.Effect.Words.{copy, release}
 use Rattle.model.specs.Request.Allowed.{Accepted, Allowed, MayCopy, MayShow}
-use Rattle.model.specs.Request.Asked.{Asked, asked, operand, own}
+use Rattle.model.specs.Request.Asked.{Asked, asked, own}
 use Rattle.model.specs.Request.Conditions.{levelOf}
 use Rattle.model.specs.Request.Operations.{Op, rowOf, toAcknowledge, toAuthorised, toClear, toClearance, toCopy, toCreate, toCurrent, toDelete, toDeviceLevel, toEdit, toGrant, toLevel, toLogin, toLogout, toMark, toMaximum, toMove, toRelease, toRevoke, toShow}
 use Rattle.model.specs.Request.Words.{Request}

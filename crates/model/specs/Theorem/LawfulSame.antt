@@ -6,8 +6,8 @@ use Prim.Native.Nat.{ℕ}
 use lib.Dec.{eqb}
 use Rattle.model.specs.Basics.Choice.{Same, it, other, pick, same}
 use Rattle.model.specs.Effect.Places.{erase}
-use Rattle.model.specs.Effect.Words.{release}
 use Rattle.model.specs.Level.{Lower, downgrader, officer}
+use Rattle.model.specs.LevelLaws.{lower-differs}
 use Rattle.model.specs.Request.Asked.{HasRole}
 use Rattle.model.specs.Request.Conditions.{levelOf}
 use Rattle.model.specs.Request.Words.{Request}
@@ -46,7 +46,7 @@ set-same q d d′ m c a r = record {
 
 -- Rule 9.10 holds if levels are as they were.
 pub downgrade-same : (q : Request) (d d′ : Tables) → AsWas d d′ (levelOf d′) (levelOf d) → DowngradeSecure d q d′
-downgrade-same q d d′ e x b o l = absurd (l .1 (e x b))
+downgrade-same q d d′ e x b o l = absurd (lower-differs (levelOf d′ x) (levelOf d x) l (e x b))
 
 -- Rule 9.11 holds if types and releasers are as they were.
 pub release-same : (q : Request) (d d′ : Tables) → AsWas d d′ (λ x. d′ .entity x type) (λ x. d .entity x type)
@@ -85,7 +85,7 @@ pub downgrade-one : (q : Request) (d d′ : Tables) (e l : ℕ) → ((x : ℕ) �
 downgrade-one q d d′ e l c h x b o low =
     case (λ (y : ℕ). Lower y (levelOf d x) → HasRole d (q .user) downgrader) x e l (levelOf d x)
     (λ r z. h (subst (λ (y : ℕ). Lower l (levelOf d y)) r z) (λ z. o (r ∙ z)))
-    (λ r z. absurd (z .1 refl))
+    (λ r z. absurd (lower-differs (levelOf d x) (levelOf d x) z refl))
     (rw (c x) at low)
 
 -- A record that was zeroed is not present afterwards, and every other word is as it was.
