@@ -10,7 +10,8 @@ use lib.Pow.{high, ones-lt, pow-pos, split}
 use Rattle.model.specs.Basics.Agree.{Agrees, agrees-and, agrees-eq, agrees-le, agrees-not}
 use Rattle.model.specs.Basics.Tests.{every, imp}
 use Rattle.model.specs.BitLaws.{bit-above, bit-ones, bit-zero, subset-agrees, subset-low, subset→≤}
-use Rattle.model.specs.Level.{AtMost, AtMostOver, Bit, Lower, Subset, atMost, atMostOver, bit, compartmentCount, levelCount, lower, rank, rankCount, subset}
+use Rattle.model.specs.Level.{AtMost, AtMostOver, Bit, Lower, Subset, atMost, atMostOver, bit, compartmentCount, levelCount, lower}
+use Rattle.model.specs.Level.{rank, rankCount, subset}
 
 -- a relation that is reflexive, transitive and antisymmetric
 pub record PartialOrder (A : Type 0) (R : A → A → Type 0) : Type 0 where

@@ -3,15 +3,26 @@ use Rattle.model.specs.Basics.Tests.{imp, every}
 use Rattle.model.specs.Case.Cases.{item, gone, asking, ask, raw, stand, passesAt, allPass}
 use Rattle.model.specs.Level.{bit, subset, rank, atMostOver, atMost, lower}
 use Rattle.model.specs.Request.Asked.{asked, hasRole}
-use Rattle.model.specs.Request.Conditions.{isAny, isEntity, isContainer, isDevice, isDraft, between, free, unused, aLevel, someRoles, aUser, aSort, aFlag, aSum, aWho, anOperation, aPosition, lacks, createAbove, createNoRoom, onScreen, deleteForbidden, firstAbove, moveNoRoom, moveInside, levelLowered, insecure, grantNoRoom, showAbove, showNoRoom, showUnlabelled, loginTaken, userAbsent, rolesOff, rolesOfAnother, rolesUnauthorised, currentOutside, deviceAbove, deviceLowered, notAcknowledged}
-use Rattle.model.specs.Request.Ladder.{ofOp, someOperand, notWellFormed, notSecure, unknownUser, lengthFits, namesFit, rangeAt, fits, notUnderstood, notLoggedOn, leadsNowhere, permits, noAccess, bars, notCleared, wrongKind, refused, ownRung, ladder, lowest, answer, never, rungAt, applies, effect, noticedOp, leaves, after}
+use Rattle.model.specs.Request.Conditions.{isAny, isEntity, isContainer, isDevice, isDraft, between, free, unused, aLevel, someRoles}
+use Rattle.model.specs.Request.Conditions.{aUser, aSort, aFlag, aSum, aWho, anOperation, aPosition, lacks, createAbove, createNoRoom}
+use Rattle.model.specs.Request.Conditions.{onScreen, deleteForbidden, firstAbove, moveNoRoom, moveInside, levelLowered, insecure}
+use Rattle.model.specs.Request.Conditions.{grantNoRoom, showAbove, showNoRoom, showUnlabelled, loginTaken, userAbsent, rolesOff}
+use Rattle.model.specs.Request.Conditions.{rolesOfAnother, rolesUnauthorised, currentOutside, deviceAbove, deviceLowered}
+use Rattle.model.specs.Request.Conditions.{notAcknowledged}
+use Rattle.model.specs.Request.Ladder.{ofOp, someOperand, notWellFormed, notSecure, unknownUser, lengthFits, namesFit, rangeAt, fits}
+use Rattle.model.specs.Request.Ladder.{notUnderstood, notLoggedOn, leadsNowhere, permits, noAccess, bars, notCleared, wrongKind}
+use Rattle.model.specs.Request.Ladder.{refused, ownRung, ladder, lowest, answer, never, rungAt, applies, effect, noticedOp, leaves}
+use Rattle.model.specs.Request.Ladder.{after}
 use Rattle.model.specs.Request.Operations.{operations, withNumber, opOf}
 use Rattle.model.specs.Request.Reference.{presentTest, placeTest, follow, resolve, passed, basis}
 use Rattle.model.specs.Request.Words.{referenceAt, requestOf, names, operandOf}
-use Rattle.model.specs.State.Check.{inTest, spotOf, parent, contentsTest, oneTest, loopTest, deviceTest, aloneTest, idleTest, linksTest, wellFormedTest, containedTest, seenTest, labelledTest, rolesTest, ceilingTest, secureTest, judge, check}
+use Rattle.model.specs.State.Check.{inTest, spotOf, parent, contentsTest, oneTest, loopTest, deviceTest, aloneTest, idleTest}
+use Rattle.model.specs.State.Check.{linksTest, wellFormedTest, containedTest, seenTest, labelledTest, rolesTest, ceilingTest}
+use Rattle.model.specs.State.Check.{secureTest, judge, check}
 use Rattle.model.specs.State.Climb.{up, climb}
 use Rattle.model.specs.State.Secure.{labelled}
-use Rattle.model.specs.State.Tests.{packedTest, shapeTest, filledTest, goodTest, accessTest, noneTest, entityTest, noticeTest, nobodyTest, userTest}
+use Rattle.model.specs.State.Tests.{packedTest, shapeTest, filledTest, goodTest, accessTest, noneTest, entityTest, noticeTest}
+use Rattle.model.specs.State.Tests.{nobodyTest, userTest}
 use Rattle.model.specs.Tables.Layout.{tablesOf}
 use Rattle.model.specs.Tables.Rows.{seek}
 use Rattle.model.specs.Tables.Sheet.{sheetTables, padded, paddedRecords, sheetWords}

@@ -5,9 +5,11 @@ use mathlib.Core.Path.{_≡_, refl}
 use Rattle.model.specs.Case.Cases.{Case, allPass}
 use Rattle.model.specs.Case.Opened.{opened}
 use Rattle.model.specs.Case.S2.{s2, s2Sheet}
-use Rattle.model.specs.Case.S2Cases14to20.{acknowledgeCases, authorisedCases, clearanceCases, currentCases, deviceLevelCases, ladderCases, maximumCases, releaseCases}
+use Rattle.model.specs.Case.S2Cases14to20.{acknowledgeCases, authorisedCases, clearanceCases, currentCases, deviceLevelCases}
+use Rattle.model.specs.Case.S2Cases14to20.{ladderCases, maximumCases, releaseCases}
 use Rattle.model.specs.Case.S2Cases1to5.{copyCases, createCases, deleteCases, editCases, moveCases}
-use Rattle.model.specs.Case.S2Cases6to13.{clearCases, grantCases, levelCases, loginCases, logoutCases, markCases, revokeCases, showCases}
+use Rattle.model.specs.Case.S2Cases6to13.{clearCases, grantCases, levelCases, loginCases, logoutCases, markCases, revokeCases}
+use Rattle.model.specs.Case.S2Cases6to13.{showCases}
 use Rattle.model.specs.Case.S3.{fullCases, s3, s3Sheet}
 use Rattle.model.specs.State.AgreeSecure.{judge-good}
 use Rattle.model.specs.State.Check.{judge}

@@ -4,7 +4,8 @@ use Prim.Native.Nat.{ℕ}
 use lib.ListN.{replicate}
 use Rattle.model.specs.Case.Cases.{Case, ask, entityIs, expect, item, userIs}
 use Rattle.model.specs.Tables.Sheet.{Sheet, sheetTables}
-use Rattle.model.specs.Tables.Words.{Tables, containerKind, count, deviceKind, draftType, held, heldOp, kind, missed, objectKind, place, plainType, triple, tripleOf, type, value}
+use Rattle.model.specs.Tables.Words.{Tables, containerKind, count, deviceKind, draftType, held, heldOp, kind, missed, objectKind}
+use Rattle.model.specs.Tables.Words.{place, plainType, triple, tripleOf, type, value}
 
 -- an object with nothing in it
 abbrev bare : List ℕ

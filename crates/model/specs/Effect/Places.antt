@@ -4,7 +4,8 @@ use lib.Dec.{eqb}
 use Rattle.model.specs.Basics.Choice.{pick}
 use Rattle.model.specs.Tables.Edits.{Edit, _and_, blank, onEntities, onEntity, row, word}
 use Rattle.model.specs.Tables.Rows.{left, replace, seek, without}
-use Rattle.model.specs.Tables.Words.{EntityWord, Tables, absentKind, containerKind, count, counts, draftType, entityCount, kind, kinds, level, objectKind, place, places, plainType, shown, sums, triple, triples, type}
+use Rattle.model.specs.Tables.Words.{EntityWord, Tables, absentKind, containerKind, count, counts, draftType, entityCount, kind}
+use Rattle.model.specs.Tables.Words.{kinds, level, objectKind, place, places, plainType, shown, sums, triple, triples, type}
 
 -- e is put last in c, with the sum s shown of it
 abbrev pub putting : ℕ → ℕ → ℕ → Tables → Edit EntityWord

@@ -20,7 +20,9 @@ use Rattle.model.specs.Tables.EditLaws.{case, each}
 use Rattle.model.specs.Tables.Edits.{blank, written}
 use Rattle.model.specs.Tables.RowLaws.{sought}
 use Rattle.model.specs.Tables.Rows.{Sought, seek}
-use Rattle.model.specs.Tables.Words.{EntityWord, Tables, absentKind, clearance, containerKind, count, counts, deviceKind, devices, entityCount, kinds, level, mark, maximum, objectKind, placeCount, places, releaser, shown, sums, value}
+use Rattle.model.specs.Tables.Words.{EntityWord, Tables, absentKind, clearance, containerKind, count, counts, deviceKind, devices}
+use Rattle.model.specs.Tables.Words.{entityCount, kinds, level, mark, maximum, objectKind, placeCount, places, releaser, shown, sums}
+use Rattle.model.specs.Tables.Words.{value}
 
 -- the level of e changes, and e neither holds anything nor is held
 module _ (d : Tables) (s : Secure d) (e l : ℕ) (nothing : (c : ℕ) → Holds d e c → ⊥) (nowhere : (x : ℕ) → Holds d x e → ⊥) where

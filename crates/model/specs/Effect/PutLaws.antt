@@ -17,7 +17,8 @@ use Rattle.model.specs.Tables.EditLaws.{all, case, each}
 use Rattle.model.specs.Tables.Edits.{written}
 use Rattle.model.specs.Tables.RowLaws.{append-packed, without-fewer, without-member, without-packed}
 use Rattle.model.specs.Tables.Rows.{Member, left, replace, without}
-use Rattle.model.specs.Tables.Words.{Tables, clearance, containerKind, counts, deviceKind, devices, kinds, level, placeCount, places, sumLimit, sums}
+use Rattle.model.specs.Tables.Words.{Tables, clearance, containerKind, counts, deviceKind, devices, kinds, level, placeCount, places}
+use Rattle.model.specs.Tables.Words.{sumLimit, sums}
 
 -- e is put last in c, with the sum s
 put-filled : (k n e s : ℕ) (at sum : ℕ → ℕ) → (2 ≤ k) → n < placeCount → 1 ≤ e → ((i : ℕ) → i < n → at i ≢ e) → (k ≡ deviceKind → (1 ≤ s) × (s ≤ sumLimit)) → (k ≢ deviceKind → s ≡ 0) → Filled k n at sum → Filled k (suc n) (replace n e at) (replace n s sum)

@@ -4,7 +4,8 @@ use lib.Dec.{ltb}
 use Rattle.model.specs.Basics.Choice.{pick}
 use Rattle.model.specs.Tables.Edits.{Edit, _and_, onEntity, onUser, row, userWord, word}
 use Rattle.model.specs.Tables.Rows.{replace, seek}
-use Rattle.model.specs.Tables.Words.{EntityWord, Tables, UserWord, count, counts, current, device, devices, place, places, shown, sums}
+use Rattle.model.specs.Tables.Words.{EntityWord, Tables, UserWord, count, counts, current, device, devices, place, places, shown}
+use Rattle.model.specs.Tables.Words.{sums}
 
 -- the place of e on the device v, or the next free one
 abbrev pub spot : ℕ → ℕ → Tables → ℕ

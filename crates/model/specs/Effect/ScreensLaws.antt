@@ -17,7 +17,8 @@ use Rattle.model.specs.Tables.EditLaws.{case, each, member-cases}
 use Rattle.model.specs.Tables.Edits.{userWord, written}
 use Rattle.model.specs.Tables.RowLaws.{packed-none}
 use Rattle.model.specs.Tables.Rows.{Member}
-use Rattle.model.specs.Tables.Words.{Tables, authorised, clearance, counts, current, device, deviceKind, devices, kinds, level, places, present, sums}
+use Rattle.model.specs.Tables.Words.{Tables, authorised, clearance, counts, current, device, deviceKind, devices, kinds, level}
+use Rattle.model.specs.Tables.Words.{places, present, sums}
 
 -- 11 clear
 empty-filled : (k : ℕ) → Filled k 0 (λ i. 0) (λ i. 0)

@@ -3,7 +3,8 @@ use mathlib.Core.Bool.{Bool, false, true}
 use Prim.Native.Nat.{suc, ℕ}
 use lib.Dec.{eqb, ltb}
 use Rattle.model.specs.Tables.Edits.{Edit, _and_, onEntity, onUser, userWord, word}
-use Rattle.model.specs.Tables.Words.{Tables, UserWord, authorised, clearance, current, held, heldOp, level, mark, maximum, missed, missedLimit, releasedType, releaser, type, value}
+use Rattle.model.specs.Tables.Words.{Tables, UserWord, authorised, clearance, current, held, heldOp, level, mark, maximum, missed}
+use Rattle.model.specs.Tables.Words.{missedLimit, releasedType, releaser, type, value}
 
 -- Rule 6.4: the value of e is v.
 abbrev pub edit : ℕ → ℕ → Tables → Tables

@@ -6,13 +6,16 @@ use Prim.Native.Nat.{_<_, _≤_, ℕ}
 use native.Mathlib.Omega.{arith}
 use lib.Dec.{eqb, ltb}
 use Rattle.model.specs.Basics.Choice.{Below, Same, below, it, other, over, pick, same, under}
-use Rattle.model.specs.Effect.Words.{acknowledge, countOn, edit, keepFirst, notice, noticing, quieting, release, setAuthorised, setClearance, setCurrent, setLevel, setMark, setMaximum}
+use Rattle.model.specs.Effect.Words.{acknowledge, countOn, edit, keepFirst, notice, noticing, quieting, release, setAuthorised}
+use Rattle.model.specs.Effect.Words.{setClearance, setCurrent, setLevel, setMark, setMaximum}
 use Rattle.model.specs.Level.{AtMost, Subset, levelCount, roleCount, roleSets}
 use Rattle.model.specs.State.Secure.{Secure}
 use Rattle.model.specs.State.WellFormed.{EntityOk, Notice, Thing, UserOk, WellFormed}
 use Rattle.model.specs.Tables.EditLaws.{case, each}
 use Rattle.model.specs.Tables.Edits.{_and_, userWord, word, written}
-use Rattle.model.specs.Tables.Words.{Tables, authorised, clearance, containerKind, current, device, deviceKind, firstNoticed, held, heldOp, kind, lastNoticed, level, mark, maximum, missed, missedLimit, operationCount, present, releasedType, releaser, type, userCount, value}
+use Rattle.model.specs.Tables.Words.{Tables, authorised, clearance, containerKind, current, device, deviceKind, firstNoticed, held}
+use Rattle.model.specs.Tables.Words.{heldOp, kind, lastNoticed, level, mark, maximum, missed, missedLimit, operationCount, present}
+use Rattle.model.specs.Tables.Words.{releasedType, releaser, type, userCount, value}
 
 module _ (d : Tables) (w : WellFormed d) where
   -- 4 edit

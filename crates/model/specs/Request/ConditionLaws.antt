@@ -7,7 +7,8 @@ use Prim.Native.Nat.{_<_, _≤_, suc, zero, ℕ}
 use native.Mathlib.Nat.{eq-or-lt-of-le, le-of-suc-le-suc}
 use native.Mathlib.Omega.{arith}
 use lib.Dec.{T, eqb, ltb}
-use Rattle.model.specs.Basics.Agree.{Agrees, agrees-T, agrees-and, agrees-as, agrees-eq, agrees-imp, agrees-not, agrees-or, agrees-range, agrees-twice}
+use Rattle.model.specs.Basics.Agree.{Agrees, agrees-T, agrees-and, agrees-as, agrees-eq, agrees-imp, agrees-not, agrees-or}
+use Rattle.model.specs.Basics.Agree.{agrees-range, agrees-twice}
 use Rattle.model.specs.Basics.Reading.{is-true}
 use Rattle.model.specs.Basics.Tests.{every, imp}
 use Rattle.model.specs.Level.{AtMost, atMost, bit, roleCount}
@@ -24,7 +25,8 @@ use Rattle.model.specs.State.Depth.{Within}
 use Rattle.model.specs.State.WellFormed.{Holds, InTables, WellFormed}
 use Rattle.model.specs.Tables.Layout.{Bounded}
 use Rattle.model.specs.Tables.Rows.{Member, seek}
-use Rattle.model.specs.Tables.Words.{Tables, clearance, count, counts, current, device, deviceKind, devices, entityCount, kind, kinds, level, mark, placeCount, places, tripleOf, triples, userCount, whoRole}
+use Rattle.model.specs.Tables.Words.{Tables, clearance, count, counts, current, device, deviceKind, devices, entityCount, kind, kinds}
+use Rattle.model.specs.Tables.Words.{level, mark, placeCount, places, tripleOf, triples, userCount, whoRole}
 
 -- some number below n passes
 agrees-some : (n : ℕ) (p : ℕ → Bool) (P : ℕ → Type 0) → ((i : ℕ) → Agrees (p i) (P i)) → Agrees (not (every n (λ i. not (p i)))) ((i : ℕ) × (i < n) × P i)
@@ -96,8 +98,8 @@ module _ (d : Tables) (w : WellFormed d) where
   -- Rule 6.3: the container is the entity, or inside it at any depth.
   pub inside-agrees : (c e : ℕ) → Agrees (climb (parent (kinds d) (counts d) (places d)) (suc entityCount) c e) (Within (InTables d) c e)
   inside-agrees c e = record {
-    to = climb-sound (InTables d) par top holds one range (suc entityCount) c e;
-    from = climb-complete (InTables d) par top holds one range (suc entityCount) c e (complete (InTables d) par top holds one range (w .links .noLoop) c);
+    to = climb-sound entityCount (InTables d) par top holds one range (suc entityCount) c e;
+    from = climb-complete entityCount (InTables d) par top holds one range (suc entityCount) c e (complete entityCount (InTables d) par top holds one range (w .links .noLoop) c);
   }
     where
       par : ℕ → ℕ

@@ -11,7 +11,9 @@ use Rattle.model.specs.State.Check.{parent, secureTest}
 use Rattle.model.specs.State.Climb.{climb}
 use Rattle.model.specs.State.Secure.{labelled}
 use Rattle.model.specs.Tables.Rows.{seek}
-use Rattle.model.specs.Tables.Words.{Tables, authorised, clearance, containerKind, counts, current, deviceKind, devices, draftType, entityCount, held, kinds, level, missed, objectKind, operationCount, placeCount, places, positionCount, present, releasedType, sumLimit, triples, type, userCount, whoLimit}
+use Rattle.model.specs.Tables.Words.{Tables, authorised, clearance, containerKind, counts, current, deviceKind, devices, draftType}
+use Rattle.model.specs.Tables.Words.{entityCount, held, kinds, level, missed, objectKind, operationCount, placeCount, places}
+use Rattle.model.specs.Tables.Words.{positionCount, present, releasedType, sumLimit, triples, type, userCount, whoLimit}
 
 -- Rule 5.5.
 abbrev pub Kind : Type 0
@@ -91,7 +93,8 @@ createNoRoom d s = not (leb (vacant d) entityCount) || leb placeCount (counts d 
 
 -- e stands on a device
 unfoldable pub onScreen : Tables → ℕ → Bool
-onScreen d e = not (every entityCount (λ v. imp (eqb (kinds d (suc v)) deviceKind) (not (ltb (seek e (places d (suc v)) (counts d (suc v))) (counts d (suc v))))))
+onScreen d e = not (every entityCount (λ v. imp (eqb (kinds d (suc v)) deviceKind)
+    (not (ltb (seek e (places d (suc v)) (counts d (suc v))) (counts d (suc v))))))
 
 -- Rule 6.2: 15.
 unfoldable pub deleteForbidden : Condition

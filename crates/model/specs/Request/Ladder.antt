@@ -15,7 +15,8 @@ use Rattle.model.specs.Request.Operations.{Op, Own, numberOf, offDuty, o
 use Rattle.model.specs.Request.Words.{Reference, Request, nameCount}
 use Rattle.model.specs.State.Check.{secureTest, wellFormedTest}
 use Rattle.model.specs.Tables.Rows.{seek}
-use Rattle.model.specs.Tables.Words.{Tables, clearance, devices, firstNoticed, level, mark, placeCount, present, tripleOf, triples, userCount, whoRole}
+use Rattle.model.specs.Tables.Words.{Tables, clearance, devices, firstNoticed, level, mark, placeCount, present, tripleOf, triples}
+use Rattle.model.specs.Tables.Words.{userCount, whoRole}
 
 abbrev pub Rung : Type 0
 Rung = Tables → Request → Bool
@@ -57,8 +58,11 @@ rangeAt zero (r ∷ rs) = r
 rangeAt (suc k) (r ∷ rs) = rangeAt k rs
 
 unfoldable pub fits : Op → Request → Bool
-fits o q = lengthFits 0 (rowOf o .operands) (q .first) && (lengthFits 1 (rowOf o .operands) (q .second) && (namesFit (q .first) && (namesFit (q .second)
-    && (rangeAt 0 (rowOf o .arguments) (q .a) && (rangeAt 1 (rowOf o .arguments) (q .b) && (rangeAt 2 (rowOf o .arguments) (q .c) && eqb (q .last) 0))))))
+fits o q =
+    lengthFits 0 (rowOf o .operands) (q .first) && (lengthFits 1 (rowOf o .operands) (q .second)
+    && (namesFit (q .first) && (namesFit (q .second)
+    && (rangeAt 0 (rowOf o .arguments) (q .a) && (rangeAt 1 (rowOf o .arguments) (q .b) && (rangeAt 2 (rowOf o .arguments) (q .c)
+    && eqb (q .last) 0))))))
 
 unfoldable pub notUnderstood : Rung
 notUnderstood d q = not (ofOp q (λ o. fits o q))

@@ -8,7 +8,9 @@ use native.Mathlib.Omega.{arith}
 use lib.Dec.{T, eqb, leb}
 use Rattle.model.specs.Basics.Agree.{agrees-and, agrees-le}
 use Rattle.model.specs.Basics.Choice.{Same, it, other, same}
-use Rattle.model.specs.Request.Operations.{Op, numberOf, opOf, operations, toAcknowledge, toAuthorised, toClear, toClearance, toCopy, toCreate, toCurrent, toDelete, toDeviceLevel, toEdit, toGrant, toLevel, toLogin, toLogout, toMark, toMaximum, toMove, toRelease, toRevoke, toShow, withNumber}
+use Rattle.model.specs.Request.Operations.{Op, numberOf, opOf, operations, toAcknowledge, toAuthorised, toClear, toClearance, toCopy}
+use Rattle.model.specs.Request.Operations.{toCreate, toCurrent, toDelete, toDeviceLevel, toEdit, toGrant, toLevel, toLogin, toLogout}
+use Rattle.model.specs.Request.Operations.{toMark, toMaximum, toMove, toRelease, toRevoke, toShow, withNumber}
 use Rattle.model.specs.Tables.Words.{operationCount}
 
 -- the operation found has the number that was sought

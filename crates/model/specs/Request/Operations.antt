@@ -7,14 +7,20 @@ use lib.Dec.{eqb}
 use Rattle.model.specs.Effect.Places.{create, delete, move, sortKind, sortType, vacant}
 use Rattle.model.specs.Effect.Screens.{clear, login, logout, show}
 use Rattle.model.specs.Effect.Triples.{grant, revoke}
-use Rattle.model.specs.Effect.Words.{acknowledge, copy, edit, release, setAuthorised, setClearance, setCurrent, setLevel, setMark, setMaximum}
+use Rattle.model.specs.Effect.Words.{acknowledge, copy, edit, release, setAuthorised, setClearance, setCurrent, setLevel, setMark}
+use Rattle.model.specs.Effect.Words.{setMaximum}
 use Rattle.model.specs.Level.{officer, releasing}
 use Rattle.model.specs.Request.Asked.{Asked, namedTriple, own}
-use Rattle.model.specs.Request.Conditions.{Condition, Kind, Range, aFlag, aLevel, aPosition, aSort, aSum, aUser, aWho, anOperation, createAbove, createNoRoom, currentOutside, deleteForbidden, deviceAbove, deviceLowered, firstAbove, free, grantNoRoom, insecure, isAny, isContainer, isDevice, isDraft, isEntity, lacks, levelLowered, loginTaken, moveInside, moveNoRoom, notAcknowledged, rolesOfAnother, rolesOff, rolesUnauthorised, showAbove, showNoRoom, showUnlabelled, someRoles, userAbsent}
+use Rattle.model.specs.Request.Conditions.{Condition, Kind, Range, aFlag, aLevel, aPosition, aSort, aSum, aUser, aWho, anOperation}
+use Rattle.model.specs.Request.Conditions.{createAbove, createNoRoom, currentOutside, deleteForbidden, deviceAbove, deviceLowered}
+use Rattle.model.specs.Request.Conditions.{firstAbove, free, grantNoRoom, insecure, isAny, isContainer, isDevice, isDraft, isEntity}
+use Rattle.model.specs.Request.Conditions.{lacks, levelLowered, loginTaken, moveInside, moveNoRoom, notAcknowledged, rolesOfAnother}
+use Rattle.model.specs.Request.Conditions.{rolesOff, rolesUnauthorised, showAbove, showNoRoom, showUnlabelled, someRoles, userAbsent}
 use Rattle.model.specs.Tables.Words.{Tables}
 
 pub data Op : Type 0 where
-  toCreate toDelete toMove toEdit toCopy toLevel toMark toGrant toRevoke toShow toClear toLogin toLogout toCurrent toClearance toAuthorised toMaximum toDeviceLevel toRelease toAcknowledge : Op
+  toCreate toDelete toMove toEdit toCopy toLevel toMark toGrant toRevoke toShow : Op
+  toClear toLogin toLogout toCurrent toClearance toAuthorised toMaximum toDeviceLevel toRelease toAcknowledge : Op
 
 -- "13 b not at most its level" is `refuse 13 createAbove`
 pub data Own : Type 0 where
@@ -29,8 +35,8 @@ pub record Row : Type 0 where
   pub conditions : List Own
   pub effect : Asked → Tables → Tables
 
-abbrev pub takes : List Kind → List Range → List Own → (Asked → Tables → Tables) → Row
-takes k r c e = record { operands = k; arguments = r; conditions = c; effect = e }
+abbrev pub takes : List Kind → List Range → (Asked → Tables → Tables) → List Own → Row
+takes k r e c = record { operands = k; arguments = r; conditions = c; effect = e }
 
 abbrev pub levelEffect : Asked → Tables → Tables
 levelEffect s = setLevel (s .first) (s .a)
@@ -38,29 +44,48 @@ levelEffect s = setLevel (s .first) (s .a)
 abbrev pub clearanceEffect : Asked → Tables → Tables
 clearanceEffect s = setClearance (s .a) (s .b)
 
--- the table of rule 6, a line or two for each operation
+-- The table of rule 6: operands, arguments, effect; own conditions.
 abbrev pub rowOf : Op → Row
-rowOf toCreate = takes (isContainer ∷ []) (aSort ∷ aLevel ∷ []) (refuse 13 createAbove ∷ refuse 14 createNoRoom ∷ [])
-    (λ s d. create (vacant d) (s .first) (sortKind (s .a)) (sortType (s .a)) (s .b) d)
-rowOf toDelete = takes (isEntity ∷ []) [] (refuse 15 deleteForbidden ∷ []) (λ s. delete (s .first))
-rowOf toMove = takes (isEntity ∷ isContainer ∷ []) [] (refuse 13 firstAbove ∷ refuse 14 moveNoRoom ∷ refuse 15 moveInside ∷ []) (λ s. move (s .first) (s .second))
-rowOf toEdit = takes (isEntity ∷ []) (free ∷ []) [] (λ s. edit (s .first) (s .a))
-rowOf toCopy = takes (isEntity ∷ isEntity ∷ []) [] (refuse 13 firstAbove ∷ []) (λ s. copy (s .first) (s .second))
-rowOf toLevel = takes (isEntity ∷ []) (aLevel ∷ []) (refuse 12 levelLowered ∷ refuse 13 (insecure levelEffect) ∷ []) levelEffect
-rowOf toMark = takes (isContainer ∷ []) (aFlag ∷ []) [] (λ s. setMark (s .first) (s .a))
-rowOf toGrant = takes (isAny ∷ []) (aWho ∷ anOperation ∷ aPosition ∷ []) (refuse 14 grantNoRoom ∷ []) (λ s. grant (s .first) (namedTriple s))
-rowOf toRevoke = takes (isAny ∷ []) (aWho ∷ anOperation ∷ aPosition ∷ []) [] (λ s. revoke (s .first) (namedTriple s))
-rowOf toShow = takes (isEntity ∷ []) (aSum ∷ []) (refuse 13 showAbove ∷ refuse 14 showNoRoom ∷ refuse 15 showUnlabelled ∷ []) (λ s d. show (own d s) (s .first) (s .a) d)
-rowOf toClear = takes [] [] [] (λ s d. clear (own d s) d)
-rowOf toLogin = takes (isDevice ∷ []) [] (refuse 15 loginTaken ∷ []) (λ s. login (s .user) (s .first))
-rowOf toLogout = takes [] [] [] (λ s. logout (s .user))
-rowOf toCurrent = takes [] (aUser ∷ someRoles ∷ []) (refuse 11 rolesOff ∷ refuse 12 rolesOfAnother ∷ refuse 13 rolesUnauthorised ∷ []) (λ s. setCurrent (s .a) (s .b))
-rowOf toClearance = takes [] (aUser ∷ aLevel ∷ []) (refuse 11 userAbsent ∷ refuse 12 (lacks officer) ∷ refuse 13 (insecure clearanceEffect) ∷ []) clearanceEffect
-rowOf toAuthorised = takes [] (aUser ∷ someRoles ∷ []) (refuse 11 userAbsent ∷ refuse 12 (lacks officer) ∷ refuse 13 currentOutside ∷ []) (λ s. setAuthorised (s .a) (s .b))
-rowOf toMaximum = takes (isDevice ∷ []) (aLevel ∷ []) (refuse 12 (lacks officer) ∷ refuse 13 deviceAbove ∷ []) (λ s. setMaximum (s .first) (s .a))
-rowOf toDeviceLevel = takes (isDevice ∷ []) (aLevel ∷ []) (refuse 12 deviceLowered ∷ refuse 13 (insecure levelEffect) ∷ []) levelEffect
-rowOf toRelease = takes (isDraft ∷ []) [] (refuse 12 (lacks releasing) ∷ []) (λ s. release (s .user) (s .first))
-rowOf toAcknowledge = takes [] (free ∷ free ∷ []) (refuse 16 notAcknowledged ∷ []) (λ s. acknowledge (s .user))
+rowOf toCreate = takes (isContainer ∷ []) (aSort ∷ aLevel ∷ []) (λ s d. create (vacant d) (s .first) (sortKind (s .a)) (sortType (s .a)) (s .b) d)
+    (refuse 13 createAbove ∷ refuse 14 createNoRoom ∷ [])
+rowOf toDelete = takes (isEntity ∷ []) [] (λ s. delete (s .first))
+    (refuse 15 deleteForbidden ∷ [])
+rowOf toMove = takes (isEntity ∷ isContainer ∷ []) [] (λ s. move (s .first) (s .second))
+    (refuse 13 firstAbove ∷ refuse 14 moveNoRoom ∷ refuse 15 moveInside ∷ [])
+rowOf toEdit = takes (isEntity ∷ []) (free ∷ []) (λ s. edit (s .first) (s .a))
+    []
+rowOf toCopy = takes (isEntity ∷ isEntity ∷ []) [] (λ s. copy (s .first) (s .second))
+    (refuse 13 firstAbove ∷ [])
+rowOf toLevel = takes (isEntity ∷ []) (aLevel ∷ []) levelEffect
+    (refuse 12 levelLowered ∷ refuse 13 (insecure levelEffect) ∷ [])
+rowOf toMark = takes (isContainer ∷ []) (aFlag ∷ []) (λ s. setMark (s .first) (s .a))
+    []
+rowOf toGrant = takes (isAny ∷ []) (aWho ∷ anOperation ∷ aPosition ∷ []) (λ s. grant (s .first) (namedTriple s))
+    (refuse 14 grantNoRoom ∷ [])
+rowOf toRevoke = takes (isAny ∷ []) (aWho ∷ anOperation ∷ aPosition ∷ []) (λ s. revoke (s .first) (namedTriple s))
+    []
+rowOf toShow = takes (isEntity ∷ []) (aSum ∷ []) (λ s d. show (own d s) (s .first) (s .a) d)
+    (refuse 13 showAbove ∷ refuse 14 showNoRoom ∷ refuse 15 showUnlabelled ∷ [])
+rowOf toClear = takes [] [] (λ s d. clear (own d s) d)
+    []
+rowOf toLogin = takes (isDevice ∷ []) [] (λ s. login (s .user) (s .first))
+    (refuse 15 loginTaken ∷ [])
+rowOf toLogout = takes [] [] (λ s. logout (s .user))
+    []
+rowOf toCurrent = takes [] (aUser ∷ someRoles ∷ []) (λ s. setCurrent (s .a) (s .b))
+    (refuse 11 rolesOff ∷ refuse 12 rolesOfAnother ∷ refuse 13 rolesUnauthorised ∷ [])
+rowOf toClearance = takes [] (aUser ∷ aLevel ∷ []) clearanceEffect
+    (refuse 11 userAbsent ∷ refuse 12 (lacks officer) ∷ refuse 13 (insecure clearanceEffect) ∷ [])
+rowOf toAuthorised = takes [] (aUser ∷ someRoles ∷ []) (λ s. setAuthorised (s .a) (s .b))
+    (refuse 11 userAbsent ∷ refuse 12 (lacks officer) ∷ refuse 13 currentOutside ∷ [])
+rowOf toMaximum = takes (isDevice ∷ []) (aLevel ∷ []) (λ s. setMaximum (s .first) (s .a))
+    (refuse 12 (lacks officer) ∷ refuse 13 deviceAbove ∷ [])
+rowOf toDeviceLevel = takes (isDevice ∷ []) (aLevel ∷ []) levelEffect
+    (refuse 12 deviceLowered ∷ refuse 13 (insecure levelEffect) ∷ [])
+rowOf toRelease = takes (isDraft ∷ []) [] (λ s. release (s .user) (s .first))
+    (refuse 12 (lacks releasing) ∷ [])
+rowOf toAcknowledge = takes [] (free ∷ free ∷ []) (λ s. acknowledge (s .user))
+    (refuse 16 notAcknowledged ∷ [])
 
 -- the operations' numbers
 abbrev pub numberOf : Op → ℕ
@@ -86,7 +111,9 @@ numberOf toRelease = 19
 numberOf toAcknowledge = 20
 
 unfoldable pub operations : List Op
-operations = toCreate ∷ toDelete ∷ toMove ∷ toEdit ∷ toCopy ∷ toLevel ∷ toMark ∷ toGrant ∷ toRevoke ∷ toShow ∷ toClear ∷ toLogin ∷ toLogout ∷ toCurrent ∷ toClearance ∷ toAuthorised ∷ toMaximum ∷ toDeviceLevel ∷ toRelease ∷ toAcknowledge ∷ []
+operations =
+    toCreate ∷ toDelete ∷ toMove ∷ toEdit ∷ toCopy ∷ toLevel ∷ toMark ∷ toGrant ∷ toRevoke ∷ toShow
+    ∷ toClear ∷ toLogin ∷ toLogout ∷ toCurrent ∷ toClearance ∷ toAuthorised ∷ toMaximum ∷ toDeviceLevel ∷ toRelease ∷ toAcknowledge ∷ []
 
 -- the operation of a number, if it is one
 unfoldable pub withNumber : ℕ → List Op → Option Op

@@ -12,14 +12,19 @@ use Rattle.model.specs.Level.{AtMost, Lower, Subset, atMost, downgrader,
 use Rattle.model.specs.LevelLaws.{lower-agrees}
 use Rattle.model.specs.Request.Asked.{Asked, HasRole, namedTriple, own}
 use Rattle.model.specs.Request.ConditionLaws.{inside-agrees, nobody-agrees, role-agrees, screen-agrees}
-use Rattle.model.specs.Request.Conditions.{between, createAbove, createNoRoom, currentOutside, deleteForbidden, deviceAbove, deviceLowered, firstAbove, grantNoRoom, insecure, isAny, isContainer, isDevice, isDraft, isEntity, lacks, levelLowered, levelOf, loginTaken, moveInside, moveNoRoom, notAcknowledged, onScreen, rolesOfAnother, rolesOff, rolesUnauthorised, showAbove, showNoRoom, showUnlabelled, userAbsent}
+use Rattle.model.specs.Request.Conditions.{between, createAbove, createNoRoom, currentOutside, deleteForbidden, deviceAbove}
+use Rattle.model.specs.Request.Conditions.{deviceLowered, firstAbove, grantNoRoom, insecure, isAny, isContainer, isDevice, isDraft}
+use Rattle.model.specs.Request.Conditions.{isEntity, lacks, levelLowered, levelOf, loginTaken, moveInside, moveNoRoom}
+use Rattle.model.specs.Request.Conditions.{notAcknowledged, onScreen, rolesOfAnother, rolesOff, rolesUnauthorised, showAbove}
+use Rattle.model.specs.Request.Conditions.{showNoRoom, showUnlabelled, userAbsent}
 use Rattle.model.specs.State.AgreeSecure.{secure-agrees}
 use Rattle.model.specs.State.Depth.{Within}
 use Rattle.model.specs.State.Secure.{Secure, labelled}
 use Rattle.model.specs.State.WellFormed.{Holds, InTables, Thing, WellFormed}
 use Rattle.model.specs.Tables.RowLaws.{sought}
 use Rattle.model.specs.Tables.Rows.{Sought, seek}
-use Rattle.model.specs.Tables.Words.{Tables, authorised, clearance, containerKind, counts, current, deviceKind, devices, draftType, entityCount, held, kinds, missed, objectKind, placeCount, present, releasedType, triples, type}
+use Rattle.model.specs.Tables.Words.{Tables, authorised, clearance, containerKind, counts, current, deviceKind, devices, draftType}
+use Rattle.model.specs.Tables.Words.{entityCount, held, kinds, missed, objectKind, placeCount, present, releasedType, triples, type}
 
 -- Rule 5.5: `any` is an object, a container or a device,
 pub any-agrees : (d : Tables) (e : ℕ) → Agrees (isAny d e) (objectKind ≤ kinds d e)

@@ -7,7 +7,8 @@ use Prim.Native.Nat.{_≤_, pred, ℕ}
 use native.Mathlib.Omega.{arith}
 use lib.Dec.{T}
 use Rattle.model.specs.Basics.Agree.{Agrees, agrees-and, agrees-as, agrees-eq, agrees-le, agrees-not}
-use Rattle.model.specs.Request.Reference.{Leads, Present, Reads, basis, begins, follow, further, here, passed, placeTest, presentTest, resolve, standing}
+use Rattle.model.specs.Request.Reference.{Leads, Present, Reads, basis, begins, follow, further, here, passed, placeTest, presentTest}
+use Rattle.model.specs.Request.Reference.{resolve, standing}
 use Rattle.model.specs.State.WellFormed.{Holds, WellFormed}
 use Rattle.model.specs.Tables.Words.{Tables, absentKind, containerKind, counts, entityCount, kinds, objectKind}
 

@@ -11,7 +11,8 @@ use Rattle.model.specs.Basics.Fails.{Fails, fails-T, fails-agreed, fails
 use Rattle.model.specs.Request.Allowed.{Known, On, Open, Operand, Permitted}
 use Rattle.model.specs.Request.Asked.{asked, basisOf, operand}
 use Rattle.model.specs.Request.ConditionLaws.{open-agrees, permits-agrees}
-use Rattle.model.specs.Request.Ladder.{bars, fits, leadsNowhere, noAccess, notCleared, notLoggedOn, notSecure, notUnderstood, notWellFormed, ofOp, ownRung, permits, refused, someOperand, unknownUser, wrongKind}
+use Rattle.model.specs.Request.Ladder.{bars, fits, leadsNowhere, noAccess, notCleared, notLoggedOn, notSecure, notUnderstood}
+use Rattle.model.specs.Request.Ladder.{notWellFormed, ofOp, ownRung, permits, refused, someOperand, unknownUser, wrongKind}
 use Rattle.model.specs.Request.LadderLaws.{AllOperands, ofOp-agrees, ofOp-fails, positions-fail, someOperand-fails}
 use Rattle.model.specs.Request.Operations.{Op, numberOf, offDuty, opOf, rowOf}
 use Rattle.model.specs.Request.Words.{Request}

@@ -5,10 +5,12 @@ use mathlib.Core.Path.{_∙_, _≡_, refl, subst, sym}
 use Prim.Native.Nat.{_<_, _≤_, suc, zero, ℕ}
 use native.Mathlib.Omega.{arith}
 use lib.Dec.{T, eqb, leb, ltb}
-use Rattle.model.specs.Basics.Agree.{Agrees, agreement, agrees-and, agrees-as, agrees-eq, agrees-every, agrees-imp, agrees-range, agrees-then}
+use Rattle.model.specs.Basics.Agree.{Agrees, agreement, agrees-and, agrees-as, agrees-eq, agrees-every, agrees-imp, agrees-range}
+use Rattle.model.specs.Basics.Agree.{agrees-then}
 use Rattle.model.specs.Basics.Choice.{Below, below, over, pick, under}
 use Rattle.model.specs.Basics.Tests.{every, imp}
-use Rattle.model.specs.State.Check.{aloneTest, contentsTest, deviceTest, idleTest, inTest, linksTest, loopTest, oneTest, parent, spotOf}
+use Rattle.model.specs.State.Check.{aloneTest, contentsTest, deviceTest, idleTest, inTest, linksTest, loopTest, oneTest, parent}
+use Rattle.model.specs.State.Check.{spotOf}
 use Rattle.model.specs.State.Climb.{up}
 use Rattle.model.specs.State.ClimbLaws.{complete, sound}
 use Rattle.model.specs.State.Depth.{Inside}
@@ -93,12 +95,12 @@ module _ (k n : ℕ → ℕ) (at : ℕ → ℕ → ℕ) (dev : ℕ → ℕ) (ent
   unfolding loopTest
   loop-agrees one = agrees-as {P = (i : ℕ) → i < entityCount → T (up (parent k n at) (suc entityCount) (suc i))}
       (λ g e p. low g e p (let x = holds-one p in boxed e (x .0) (x .1)))
-      (λ f i h. complete (In k n at) (parent k n at) parent-top parent-holds one boxed f (suc i))
+      (λ f i h. complete entityCount (In k n at) (parent k n at) parent-top parent-holds one boxed f (suc i))
       (agrees-every entityCount (λ e. up (parent k n at) (suc entityCount) (suc e)) (λ e. T (up (parent k n at) (suc entityCount) (suc e))) (λ e. record { to = λ t. t; from = λ t. t }))
     where
       low : ((i : ℕ) → i < entityCount → T (up (parent k n at) (suc entityCount) (suc i))) → (e : ℕ) → Inside (In k n at) e e → (1 ≤ e) × (e ≤ entityCount) → ⊥
       low g zero p r = omega arith
-      low g (suc e) p r = sound (In k n at) (parent k n at) parent-top parent-holds one boxed (suc entityCount) (suc e) (g e (omega arith)) p
+      low g (suc e) p r = sound entityCount (In k n at) (parent k n at) parent-top parent-holds one boxed (suc entityCount) (suc e) (g e (omega arith)) p
 
   device-agrees : Agrees (deviceTest k n at dev) ((u : ℕ) → dev u ≢ 0 → k (dev u) ≡ deviceKind)
   unfolding deviceTest

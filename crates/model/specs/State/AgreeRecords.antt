@@ -9,11 +9,16 @@ use Rattle.model.specs.Basics.Agree.{Agrees, agreement, agrees-and, agre
 use Rattle.model.specs.Basics.Choice.{Below, below, over, under}
 use Rattle.model.specs.Basics.Tests.{imp}
 use Rattle.model.specs.Level.{levelCount, roleSets}
-use Rattle.model.specs.State.Tests.{accessTest, entityTest, filledTest, goodTest, nobodyTest, noneTest, noticeTest, packedTest, shapeTest, userTest}
+use Rattle.model.specs.State.Tests.{accessTest, entityTest, filledTest, goodTest, nobodyTest, noneTest, noticeTest, packedTest}
+use Rattle.model.specs.State.Tests.{shapeTest, userTest}
 use Rattle.model.specs.State.WellFormed.{Access, EntityOk, Filled, GoodTriple, Notice, Shape, UserOk}
 use Rattle.model.specs.Tables.RowLaws.{first-zero}
 use Rattle.model.specs.Tables.Rows.{Packed, seek}
-use Rattle.model.specs.Tables.Words.{EntityWord, UserWord, authorised, clearance, containerKind, count, current, device, deviceKind, firstNoticed, held, heldOp, kind, lastNoticed, level, mark, maximum, missed, missedLimit, objectKind, operationCount, operationIn, place, placeCount, plainType, positionCount, positionOf, present, releasedType, releaser, shown, spare, sumLimit, triple, type, userCount, value, whoLimit, whoOf}
+use Rattle.model.specs.Tables.Words.{EntityWord, UserWord, authorised, clearance, containerKind, count, current, device, deviceKind}
+use Rattle.model.specs.Tables.Words.{firstNoticed, held, heldOp, kind, lastNoticed, level, mark, maximum, missed, missedLimit}
+use Rattle.model.specs.Tables.Words.{objectKind, operationCount, operationIn, place, placeCount, plainType, positionCount, positionOf}
+use Rattle.model.specs.Tables.Words.{present, releasedType, releaser, shown, spare, sumLimit, triple, type, userCount, value}
+use Rattle.model.specs.Tables.Words.{whoLimit, whoOf}
 
 pub shape-agrees : (k t l m v r x : ℕ) → Agrees (shapeTest k t l m v r x) (Shape k t l m v r x)
 unfolding shapeTest

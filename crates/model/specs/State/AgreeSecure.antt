@@ -12,12 +12,14 @@ use Rattle.model.specs.Basics.Choice.{pick}
 use Rattle.model.specs.BitLaws.{subset-zero}
 use Rattle.model.specs.Level.{AtMost, Subset, roleCount, subset}
 use Rattle.model.specs.State.Agree.{wellFormed-agrees, wellFormed-bounded}
-use Rattle.model.specs.State.Check.{ceilingTest, check, containedTest, judge, labelledTest, rolesTest, secureTest, seenTest, wellFormedTest}
+use Rattle.model.specs.State.Check.{ceilingTest, check, containedTest, judge, labelledTest, rolesTest, secureTest, seenTest}
+use Rattle.model.specs.State.Check.{wellFormedTest}
 use Rattle.model.specs.State.Secure.{Good, Secure, labelled}
 use Rattle.model.specs.State.WellFormed.{Holds, WellFormed}
 use Rattle.model.specs.Tables.Layout.{Bounded, tablesOf, wordCount}
 use Rattle.model.specs.Tables.LayoutLaws.{bounded}
-use Rattle.model.specs.Tables.Words.{Tables, authorised, clearance, count, counts, current, device, deviceKind, devices, entityCount, kind, kinds, level, maximum, placeCount, places, sums, userCount}
+use Rattle.model.specs.Tables.Words.{Tables, authorised, clearance, count, counts, current, device, deviceKind, devices, entityCount}
+use Rattle.model.specs.Tables.Words.{kind, kinds, level, maximum, placeCount, places, sums, userCount}
 
 module _ (d : Tables) (w : WellFormed d) where
   o : Bounded d

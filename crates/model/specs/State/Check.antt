@@ -13,7 +13,8 @@ use Rattle.model.specs.State.Secure.{labelled}
 use Rattle.model.specs.State.Tests.{entityTest, userTest}
 use Rattle.model.specs.Tables.Layout.{tablesOf, wordCount}
 use Rattle.model.specs.Tables.Rows.{seek}
-use Rattle.model.specs.Tables.Words.{Tables, authorised, clearance, containerKind, counts, current, deviceKind, devices, entityCount, kinds, level, maximum, objectKind, placeCount, places, sums, userCount}
+use Rattle.model.specs.Tables.Words.{Tables, authorised, clearance, containerKind, counts, current, deviceKind, devices, entityCount}
+use Rattle.model.specs.Tables.Words.{kinds, level, maximum, objectKind, placeCount, places, sums, userCount}
 
 -- a stands directly in the container b
 unfoldable pub inTest : (ℕ → ℕ) → (ℕ → ℕ) → (ℕ → ℕ → ℕ) → ℕ → ℕ → Bool
@@ -28,12 +29,14 @@ parent k n at a = pick (ltb (spotOf k n at a) entityCount) (suc (spotOf k n at a
 
 -- Rule 3.6: contents are present and no devices.
 unfoldable pub contentsTest : (k n : ℕ → ℕ) (at : ℕ → ℕ → ℕ) (dev : ℕ → ℕ) → Bool
-contentsTest k n at dev = every entityCount (λ e. every placeCount (λ i. imp (ltb i (n (suc e))) (leb objectKind (k (at (suc e) i)) && leb (k (at (suc e) i)) containerKind)))
+contentsTest k n at dev = every entityCount (λ e. every placeCount (λ i. imp (ltb i (n (suc e)))
+    (leb objectKind (k (at (suc e) i)) && leb (k (at (suc e) i)) containerKind)))
 
 -- Rule 3.13: no entity stands in two containers.
 unfoldable pub oneTest : (k n : ℕ → ℕ) (at : ℕ → ℕ → ℕ) (dev : ℕ → ℕ) → Bool
 oneTest k n at dev = every entityCount (λ a. imp (eqb (k (suc a)) containerKind) (every entityCount (λ b. imp (eqb (k (suc b)) containerKind)
-    (every placeCount (λ i. every placeCount (λ j. imp (ltb i (n (suc a))) (imp (ltb j (n (suc b))) (imp (eqb (at (suc a) i) (at (suc b) j)) (eqb (suc a) (suc b))))))))))
+    (every placeCount (λ i. every placeCount (λ j. imp (ltb i (n (suc a))) (imp (ltb j (n (suc b)))
+    (imp (eqb (at (suc a) i) (at (suc b) j)) (eqb (suc a) (suc b))))))))))
 
 -- Rule 3.14: from every entity the way up ends.
 unfoldable pub loopTest : (k n : ℕ → ℕ) (at : ℕ → ℕ → ℕ) (dev : ℕ → ℕ) → Bool
@@ -45,14 +48,17 @@ deviceTest k n at dev = every userCount (λ u. imp (not (eqb (dev (suc u)) 0)) (
 
 -- Rule 3.16: no two users on one device.
 unfoldable pub aloneTest : (k n : ℕ → ℕ) (at : ℕ → ℕ → ℕ) (dev : ℕ → ℕ) → Bool
-aloneTest k n at dev = every userCount (λ u. every userCount (λ v. imp (not (eqb (dev (suc u)) 0)) (imp (eqb (dev (suc u)) (dev (suc v))) (eqb (suc u) (suc v)))))
+aloneTest k n at dev = every userCount (λ u. every userCount (λ v. imp (not (eqb (dev (suc u)) 0))
+    (imp (eqb (dev (suc u)) (dev (suc v))) (eqb (suc u) (suc v)))))
 
 -- Rule 3.18: a device that nobody is on shows nothing.
 unfoldable pub idleTest : (k n : ℕ → ℕ) (at : ℕ → ℕ → ℕ) (dev : ℕ → ℕ) → Bool
-idleTest k n at dev = every entityCount (λ e. imp (eqb (k (suc e)) deviceKind) (imp (every userCount (λ u. not (eqb (dev (suc u)) (suc e)))) (eqb (n (suc e)) 0)))
+idleTest k n at dev = every entityCount (λ e. imp (eqb (k (suc e)) deviceKind)
+    (imp (every userCount (λ u. not (eqb (dev (suc u)) (suc e)))) (eqb (n (suc e)) 0)))
 
 unfoldable pub linksTest : (k n : ℕ → ℕ) (at : ℕ → ℕ → ℕ) (dev : ℕ → ℕ) → Bool
-linksTest k n at dev = contentsTest k n at dev && (oneTest k n at dev && (loopTest k n at dev && (deviceTest k n at dev && (aloneTest k n at dev && idleTest k n at dev))))
+linksTest k n at dev = contentsTest k n at dev && (oneTest k n at dev && (loopTest k n at dev
+    && (deviceTest k n at dev && (aloneTest k n at dev && idleTest k n at dev))))
 
 -- Rule 3.
 unfoldable pub wellFormedTest : Tables → Bool
@@ -83,7 +89,8 @@ ceilingTest d e = imp (eqb (kinds d e) deviceKind) (atMost (d .entity e level) (
 -- Rule 4.
 unfoldable pub secureTest : Tables → Bool
 secureTest d = every entityCount (λ e. containedTest d (suc e)) && (every userCount (λ u. seenTest d (suc u))
-    && (every entityCount (λ e. labelledTest d (suc e)) && (every userCount (λ u. rolesTest d (suc u)) && every entityCount (λ e. ceilingTest d (suc e)))))
+    && (every entityCount (λ e. labelledTest d (suc e)) && (every userCount (λ u. rolesTest d (suc u))
+    && every entityCount (λ e. ceilingTest d (suc e)))))
 
 -- Rule 8.5: 2 where the tables are not well-formed, else 3 where they are not secure, else 0.
 unfoldable pub judge : Tables → ℕ

@@ -1,4 +1,4 @@
--- Climbing decides "inside at any depth": among sixty-four containers a way up of sixty-five steps passes one twice.
+-- Climbing decides "inside at any depth": among n containers a way up of more than n steps passes one twice.
 use mathlib.Core.Bool.{Bool, false, true}
 use mathlib.Core.Logic.{_≢_, _⊎_, inl, inr}
 use mathlib.Core.Path.{_∙_, _≡_, ap, refl, subst, sym}
@@ -10,7 +10,6 @@ use Rattle.model.specs.Basics.Choice.{Below, Same, below, it, other, ove
 use Rattle.model.specs.State.Climb.{climb, up}
 use Rattle.model.specs.State.Depth.{Inside, Within, deeper, direct}
 use Rattle.model.specs.State.DepthLaws.{first-step}
-use Rattle.model.specs.Tables.Words.{entityCount}
 
 -- more numbers than there are values: two are alike
 squeeze : (t x : ℕ) → ℕ
@@ -42,8 +41,8 @@ pigeon (suc n) f small apart =
     (λ i j l h e. apart i j l (omega arith) (squeeze-inj (f (suc n)) (f i) (f j) (apart i (suc n) (omega arith) (omega arith)) (apart j (suc n) (omega arith) (omega arith)) e))
 
 -- par a is what a stands in, or 0
-module _ (H : ℕ → ℕ → Type 0) (par : ℕ → ℕ) (top : (a : ℕ) → par a ≡ 0 → (x : ℕ) → H x a → ⊥) (holds : (a : ℕ) → par a ≢ 0 → H (par a) a)
-    (one : (a x y : ℕ) → H x a → H y a → x ≡ y) (range : (x a : ℕ) → H x a → (1 ≤ x) × (x ≤ entityCount)) where
+module _ (n : ℕ) (H : ℕ → ℕ → Type 0) (par : ℕ → ℕ) (top : (a : ℕ) → par a ≡ 0 → (x : ℕ) → H x a → ⊥) (holds : (a : ℕ) → par a ≢ 0 → H (par a) a)
+    (one : (a x y : ℕ) → H x a → H y a → x ≡ y) (range : (x a : ℕ) → H x a → (1 ≤ x) × (x ≤ n)) where
   pub sound : (m a : ℕ) → T (up par m a) → Inside H a a → ⊥
   unfolding up
   sound zero a t p = t
@@ -92,17 +91,17 @@ module _ (H : ℕ → ℕ → Type 0) (par : ℕ → ℕ) (top : (a : ℕ) → p
       go ih (inl e) = direct (subst (λ (y : ℕ). H (par (chain a j)) (chain a y)) (sym e) step)
       go ih (inr q) = deeper (ih q (omega arith)) step
 
-  pub complete : ((a : ℕ) → Inside H a a → ⊥) → (a : ℕ) → T (up par (suc entityCount) a)
-  complete no-loop a = go (up par (suc entityCount) a) refl
+  pub complete : ((a : ℕ) → Inside H a a → ⊥) → (a : ℕ) → T (up par (suc n) a)
+  complete no-loop a = go (up par (suc n) a) refl
     where
-      go : (b : Bool) → up par (suc entityCount) a ≡ b → T b
+      go : (b : Bool) → up par (suc n) a ≡ b → T b
       go true e = tt
       go false e =
-          let h = high (suc entityCount) a e in
-          let r : (j : ℕ) → j < (suc entityCount) → (1 ≤ chain a (suc j)) × (chain a (suc j) ≤ entityCount) = λ j l. unfold chain in range (par (chain a j)) (chain a j) (holds (chain a j) (h j l)) in
-          absurd (pigeon entityCount (λ i. pred (chain a (suc i))) (λ i l. omega (arith, r i (omega arith)))
+          let h = high (suc n) a e in
+          let r : (j : ℕ) → j < (suc n) → (1 ≤ chain a (suc j)) × (chain a (suc j) ≤ n) = λ j l. unfold chain in range (par (chain a j)) (chain a j) (holds (chain a j) (h j l)) in
+          absurd (pigeon n (λ i. pred (chain a (suc i))) (λ i l. omega (arith, r i (omega arith)))
           (λ i j l k q. no-loop (chain a (suc i))
-          (subst (Inside H (chain a (suc i))) (omega (arith, r i (omega arith), r j (omega arith))) (above (suc entityCount) a h (suc i) (suc j) (omega arith) (omega arith)))))
+          (subst (Inside H (chain a (suc i))) (omega (arith, r i (omega arith), r j (omega arith))) (above (suc n) a h (suc i) (suc j) (omega arith) (omega arith)))))
 
   -- the test for "it or inside it"
   lift : {x e : ℕ} (c : ℕ) → H x c → Inside H x e → Inside H c e

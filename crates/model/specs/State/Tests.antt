@@ -5,7 +5,11 @@ use lib.Dec.{eqb, leb, ltb}
 use Rattle.model.specs.Basics.Tests.{every, imp}
 use Rattle.model.specs.Level.{levelCount, roleSets}
 use Rattle.model.specs.Tables.Rows.{seek}
-use Rattle.model.specs.Tables.Words.{EntityWord, UserWord, absentKind, authorised, clearance, containerKind, count, current, device, deviceKind, firstNoticed, held, heldOp, kind, lastNoticed, level, mark, maximum, missed, missedLimit, objectKind, operationCount, operationIn, place, placeCount, plainType, positionCount, positionOf, present, releasedType, releaser, shown, spare, sumLimit, triple, type, userCount, value, whoLimit, whoOf}
+use Rattle.model.specs.Tables.Words.{EntityWord, UserWord, absentKind, authorised, clearance, containerKind, count, current, device}
+use Rattle.model.specs.Tables.Words.{deviceKind, firstNoticed, held, heldOp, kind, lastNoticed, level, mark, maximum, missed}
+use Rattle.model.specs.Tables.Words.{missedLimit, objectKind, operationCount, operationIn, place, placeCount, plainType}
+use Rattle.model.specs.Tables.Words.{positionCount, positionOf, present, releasedType, releaser, shown, spare, sumLimit, triple, type}
+use Rattle.model.specs.Tables.Words.{userCount, value, whoLimit, whoOf}
 
 -- Rules 3.4 and 3.5: the first n places used, distinct, the rest zero.
 unfoldable pub packedTest : (ℕ → ℕ) → ℕ → Bool
@@ -37,8 +41,11 @@ accessTest r = packedTest r (seek 0 r placeCount) && every placeCount (λ i. imp
 
 -- Rule 3.1: an absent entity's record.
 unfoldable pub noneTest : (EntityWord → ℕ) → Bool
-noneTest w = eqb (w kind) 0 && (eqb (w type) 0 && (eqb (w level) 0 && (eqb (w mark) 0 && (eqb (w value) 0 && (eqb (w releaser) 0 && (eqb (w maximum) 0 && (eqb (w count) 0
-    && (every placeCount (λ i. eqb (w (place i)) 0) && (every placeCount (λ i. eqb (w (shown i)) 0) && every placeCount (λ i. eqb (w (triple i)) 0))))))))))
+noneTest w = eqb (w kind) 0 && (eqb (w type) 0 && (eqb (w level) 0 && (eqb (w mark) 0
+    && (eqb (w value) 0 && (eqb (w releaser) 0 && (eqb (w maximum) 0 && (eqb (w count) 0
+    && (every placeCount (λ i. eqb (w (place i)) 0)
+    && (every placeCount (λ i. eqb (w (shown i)) 0)
+    && every placeCount (λ i. eqb (w (triple i)) 0))))))))))
 
 -- An entity's record by itself.
 unfoldable pub entityTest : (EntityWord → ℕ) → Bool
@@ -52,7 +59,8 @@ noticeTest h o n = (eqb h 0 || (leb firstNoticed h && leb h lastNoticed)) && (le
 
 -- Rule 3.1: an absent user's record, but for the spare words, which are zero anyway.
 unfoldable pub nobodyTest : (UserWord → ℕ) → Bool
-nobodyTest w = eqb (w present) 0 && (eqb (w clearance) 0 && (eqb (w authorised) 0 && (eqb (w current) 0 && (eqb (w device) 0 && (eqb (w held) 0 && (eqb (w heldOp) 0 && eqb (w missed) 0))))))
+nobodyTest w = eqb (w present) 0 && (eqb (w clearance) 0 && (eqb (w authorised) 0 && (eqb (w current) 0
+    && (eqb (w device) 0 && (eqb (w held) 0 && (eqb (w heldOp) 0 && eqb (w missed) 0))))))
 
 -- A user's record by itself.
 unfoldable pub userTest : (UserWord → ℕ) → Bool

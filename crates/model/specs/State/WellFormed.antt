@@ -6,7 +6,11 @@ use Prim.Native.Nat.{_<_, _≤_, ℕ}
 use Rattle.model.specs.Level.{levelCount, roleSets}
 use Rattle.model.specs.State.Depth.{Inside}
 use Rattle.model.specs.Tables.Rows.{Member, Packed}
-use Rattle.model.specs.Tables.Words.{EntityWord, Tables, UserWord, absentKind, authorised, clearance, containerKind, count, counts, current, device, deviceKind, devices, entityCount, firstNoticed, held, heldOp, kind, kinds, lastNoticed, level, mark, maximum, missed, missedLimit, objectKind, operationCount, operationIn, place, places, plainType, positionCount, positionOf, present, releasedType, releaser, shown, spare, sumLimit, triple, type, userCount, value, whoLimit, whoOf}
+use Rattle.model.specs.Tables.Words.{EntityWord, Tables, UserWord, absentKind, authorised, clearance, containerKind, count, counts}
+use Rattle.model.specs.Tables.Words.{current, device, deviceKind, devices, entityCount, firstNoticed, held, heldOp, kind, kinds}
+use Rattle.model.specs.Tables.Words.{lastNoticed, level, mark, maximum, missed, missedLimit, objectKind, operationCount, operationIn}
+use Rattle.model.specs.Tables.Words.{place, places, plainType, positionCount, positionOf, present, releasedType, releaser, shown}
+use Rattle.model.specs.Tables.Words.{spare, sumLimit, triple, type, userCount, value, whoLimit, whoOf}
 
 -- Rule 3.22: what a triple may name.
 pub record GoodTriple (t : ℕ) : Type 0 where

@@ -7,7 +7,9 @@ use Prim.Native.Nat.{_*_, _+_, _-_, _<_, _≤_, ℕ}
 use lib.Dec.{leb, ltb}
 use lib.ListN.{getD}
 use Rattle.model.specs.Basics.Choice.{pick}
-use Rattle.model.specs.Tables.Words.{EntityWord, Tables, UserWord, authorised, clearance, count, current, device, entityCount, held, heldOp, index, kind, level, mark, maximum, missed, place, placeCount, present, releaser, shown, spare, triple, type, userCount, value}
+use Rattle.model.specs.Tables.Words.{EntityWord, Tables, UserWord, authorised, clearance, count, current, device, entityCount, held}
+use Rattle.model.specs.Tables.Words.{heldOp, index, kind, level, mark, maximum, missed, place, placeCount, present, releaser, shown}
+use Rattle.model.specs.Tables.Words.{spare, triple, type, userCount, value}
 
 -- the width of a user's record and of an entity's
 abbrev pub userWidth : ℕ

@@ -7,7 +7,8 @@ use native.Mathlib.Omega.{arith}
 use lib.Dec.{T}
 use lib.ListN.{List·getD-append, getD, length, length-append}
 use lib.Seq.{getD-append-add}
-use Rattle.model.specs.Tables.Layout.{Bounded, entityAt, entityIn, entityWidth, offset, tablesOf, userAt, userIn, userOffset, userWidth, wordCount}
+use Rattle.model.specs.Tables.Layout.{Bounded, entityAt, entityIn, entityWidth, offset, tablesOf, userAt, userIn, userOffset}
+use Rattle.model.specs.Tables.Layout.{userWidth, wordCount}
 use Rattle.model.specs.Tables.LayoutLaws.{bounded}
 use Rattle.model.specs.Tables.RangeLaws.{entity-in, guard-same, user-in}
 use Rattle.model.specs.Tables.Sheet.{Sheet, padded, paddedRecords, recordWord, sheetEntities, sheetTables, sheetUsers, sheetWords}

@@ -10,11 +10,14 @@ use lib.Dec.{T, ltb}
 use lib.ListN.{getD, length}
 use lib.Seq.{ext-getD}
 use Rattle.model.specs.Basics.Choice.{Below, below, over, pick, under}
-use Rattle.model.specs.Tables.Layout.{Bounded, entitiesFrom, entityAt, entityIn, entityWidth, offset, tablesOf, userAt, userIn, userOffset, userWidth, wordCount}
+use Rattle.model.specs.Tables.Layout.{Bounded, entitiesFrom, entityAt, entityIn, entityWidth, offset, tablesOf, userAt, userIn}
+use Rattle.model.specs.Tables.Layout.{userOffset, userWidth, wordCount}
 use Rattle.model.specs.Tables.RangeLaws.{entity-in, guard-in, guard-is, in-entity, in-user, user-in}
 use Rattle.model.specs.Tables.WordAt.{entityWordAt, userWordAt}
 use Rattle.model.specs.Tables.WordAtLaws.{entity-word-back, index-below, offset-at, offset-below, user-offset-at, user-word-back}
-use Rattle.model.specs.Tables.Words.{EntityWord, Tables, UserWord, authorised, clearance, count, current, device, entityCount, held, heldOp, index, kind, level, mark, maximum, missed, place, placeCount, present, releaser, shown, spare, triple, type, userCount, value}
+use Rattle.model.specs.Tables.Words.{EntityWord, Tables, UserWord, authorised, clearance, count, current, device, entityCount, held}
+use Rattle.model.specs.Tables.Words.{heldOp, index, kind, level, mark, maximum, missed, place, placeCount, present, releaser, shown}
+use Rattle.model.specs.Tables.Words.{spare, triple, type, userCount, value}
 use Rattle.model.specs.Tables.WordsOf.{entityAtIndex, firstValues, userAtIndex, wordAtIndex, wordsOf}
 
 -- the first n values are n

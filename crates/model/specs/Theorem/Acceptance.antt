@@ -8,10 +8,13 @@ use Rattle.model.specs.Basics.Agree.{agrees-T, agrees-and}
 use Rattle.model.specs.Basics.Reading.{is-false}
 use Rattle.model.specs.Request.Allowed.{Accepted, Known, On}
 use Rattle.model.specs.Request.Asked.{asked}
-use Rattle.model.specs.Request.Ladder.{answer, applies, fits, ladder, leadsNowhere, lengthFits, namesFit, noAccess, notCleared, notLoggedOn, notSecure, notUnderstood, notWellFormed, ownRung, rangeAt, refused, rungAt, unknownUser, wrongKind}
+use Rattle.model.specs.Request.Ladder.{answer, applies, fits, ladder, leadsNowhere, lengthFits, namesFit, noAccess, notCleared}
+use Rattle.model.specs.Request.Ladder.{notLoggedOn, notSecure, notUnderstood, notWellFormed, ownRung, rangeAt, refused, rungAt}
+use Rattle.model.specs.Request.Ladder.{unknownUser, wrongKind}
 use Rattle.model.specs.Request.LadderLaws.{answer-is}
 use Rattle.model.specs.Request.Operations.{Op, opOf, rowOf}
-use Rattle.model.specs.Request.RungLaws.{leadsNowhere-fails, noAccess-fails, notCleared-fails, notLoggedOn-fails, notSecure-fails, notUnderstood-fails, notWellFormed-fails, ownRung-fails, unknownUser-fails, wrongKind-fails}
+use Rattle.model.specs.Request.RungLaws.{leadsNowhere-fails, noAccess-fails, notCleared-fails, notLoggedOn-fails, notSecure-fails}
+use Rattle.model.specs.Request.RungLaws.{notUnderstood-fails, notWellFormed-fails, ownRung-fails, unknownUser-fails, wrongKind-fails}
 use Rattle.model.specs.Request.Words.{Request}
 use Rattle.model.specs.State.Secure.{Good}
 use Rattle.model.specs.State.WellFormed.{WellFormed}

@@ -10,8 +10,15 @@ use Rattle.model.specs.Request.Allowed.{Allowed}
 use Rattle.model.specs.Request.Asked.{Asked, operand}
 use Rattle.model.specs.Request.Ladder.{refused}
 use Rattle.model.specs.Request.LadderLaws.{AllOperands}
-use Rattle.model.specs.Request.Operations.{Op, Own, clearanceEffect, levelEffect, refuse, rowOf, toAcknowledge, toAuthorised, toClear, toClearance, toCopy, toCreate, toCurrent, toDelete, toDeviceLevel, toEdit, toGrant, toLevel, toLogin, toLogout, toMark, toMaximum, toMove, toRelease, toRevoke, toShow}
-use Rattle.model.specs.Request.OwnLaws.{any-agrees, container-agrees, createAbove-fails, createNoRoom-fails, currentOutside-fails, deleteForbidden-fails, device-agrees, deviceAbove-fails, deviceLowered-fails, draft-agrees, firstAbove-fails, grantNoRoom-fails, insecure-fails, lacks-fails, levelLowered-fails, loginTaken-fails, moveInside-fails, moveNoRoom-fails, notAcknowledged-fails, rolesOfAnother-fails, rolesOff-fails, rolesUnauthorised-fails, showAbove-fails, showNoRoom-fails, showUnlabelled-fails, thing-agrees, userAbsent-fails}
+use Rattle.model.specs.Request.Operations.{Op, Own, clearanceEffect, levelEffect, refuse, rowOf, toAcknowledge, toAuthorised, toClear}
+use Rattle.model.specs.Request.Operations.{toClearance, toCopy, toCreate, toCurrent, toDelete, toDeviceLevel, toEdit, toGrant}
+use Rattle.model.specs.Request.Operations.{toLevel, toLogin, toLogout, toMark, toMaximum, toMove, toRelease, toRevoke, toShow}
+use Rattle.model.specs.Request.OwnLaws.{any-agrees, container-agrees, createAbove-fails, createNoRoom-fails, currentOutside-fails}
+use Rattle.model.specs.Request.OwnLaws.{deleteForbidden-fails, device-agrees, deviceAbove-fails, deviceLowered-fails, draft-agrees}
+use Rattle.model.specs.Request.OwnLaws.{firstAbove-fails, grantNoRoom-fails, insecure-fails, lacks-fails, levelLowered-fails}
+use Rattle.model.specs.Request.OwnLaws.{loginTaken-fails, moveInside-fails, moveNoRoom-fails, notAcknowledged-fails}
+use Rattle.model.specs.Request.OwnLaws.{rolesOfAnother-fails, rolesOff-fails, rolesUnauthorised-fails, showAbove-fails}
+use Rattle.model.specs.Request.OwnLaws.{showNoRoom-fails, showUnlabelled-fails, thing-agrees, userAbsent-fails}
 use Rattle.model.specs.State.WellFormed.{WellFormed}
 use Rattle.model.specs.Tables.Words.{Tables}
 

@@ -12,11 +12,19 @@ use Rattle.model.specs.Request.Asked.{Asked, namedTriple, operand}
 use Rattle.model.specs.Request.Conditions.{aFlag, aLevel, aPosition, aSort, aSum, aWho, anOperation, someRoles}
 use Rattle.model.specs.Request.Ladder.{rangeAt, refused}
 use Rattle.model.specs.Request.LadderLaws.{AllOperands}
-use Rattle.model.specs.Request.Operations.{Op, clearanceEffect, levelEffect, rowOf, toAcknowledge, toAuthorised, toClear, toClearance, toCopy, toCreate, toCurrent, toDelete, toDeviceLevel, toEdit, toGrant, toLevel, toLogin, toLogout, toMark, toMaximum, toMove, toRelease, toRevoke, toShow}
-use Rattle.model.specs.Request.OwnLaws.{any-agrees, between-agrees, container-agrees, createAbove-fails, createNoRoom-fails, currentOutside-fails, deleteForbidden-fails, device-agrees, deviceAbove-fails, deviceLowered-fails, draft-agrees, firstAbove-fails, grantNoRoom-fails, insecure-fails, lacks-fails, levelLowered-fails, loginTaken-fails, moveInside-fails, moveNoRoom-fails, notAcknowledged-fails, rolesOfAnother-fails, rolesOff-fails, rolesUnauthorised-fails, showAbove-fails, showNoRoom-fails, showUnlabelled-fails, thing-agrees, userAbsent-fails}
+use Rattle.model.specs.Request.Operations.{Op, clearanceEffect, levelEffect, rowOf, toAcknowledge, toAuthorised, toClear, toClearance}
+use Rattle.model.specs.Request.Operations.{toCopy, toCreate, toCurrent, toDelete, toDeviceLevel, toEdit, toGrant, toLevel, toLogin}
+use Rattle.model.specs.Request.Operations.{toLogout, toMark, toMaximum, toMove, toRelease, toRevoke, toShow}
+use Rattle.model.specs.Request.OwnLaws.{any-agrees, between-agrees, container-agrees, createAbove-fails, createNoRoom-fails}
+use Rattle.model.specs.Request.OwnLaws.{currentOutside-fails, deleteForbidden-fails, device-agrees, deviceAbove-fails}
+use Rattle.model.specs.Request.OwnLaws.{deviceLowered-fails, draft-agrees, firstAbove-fails, grantNoRoom-fails, insecure-fails}
+use Rattle.model.specs.Request.OwnLaws.{lacks-fails, levelLowered-fails, loginTaken-fails, moveInside-fails, moveNoRoom-fails}
+use Rattle.model.specs.Request.OwnLaws.{notAcknowledged-fails, rolesOfAnother-fails, rolesOff-fails, rolesUnauthorised-fails}
+use Rattle.model.specs.Request.OwnLaws.{showAbove-fails, showNoRoom-fails, showUnlabelled-fails, thing-agrees, userAbsent-fails}
 use Rattle.model.specs.Request.Reference.{here}
 use Rattle.model.specs.State.WellFormed.{GoodTriple, WellFormed}
-use Rattle.model.specs.Tables.Words.{Tables, authorised, count, operationCount, operationIn, positionCount, positionOf, present, releaser, sumLimit, tripleOf, whoLimit, whoOf}
+use Rattle.model.specs.Tables.Words.{Tables, authorised, count, operationCount, operationIn, positionCount, positionOf, present}
+use Rattle.model.specs.Tables.Words.{releaser, sumLimit, tripleOf, whoLimit, whoOf}
 
 -- What rungs 5, 6 and 10 to 16 leave when they do not apply.
 pub record Clear (o : Op) (s : Asked) (d : Tables) : Type 0 where

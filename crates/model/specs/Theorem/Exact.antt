@@ -9,7 +9,8 @@ use Rattle.model.specs.Request.Asked.{asked}
 use Rattle.model.specs.Request.Ladder.{answer, ladder, ownRung}
 use Rattle.model.specs.Request.LadderLaws.{lowest-none}
 use Rattle.model.specs.Request.Operations.{Op}
-use Rattle.model.specs.Request.RungLaws.{leadsNowhere-fails, noAccess-fails, notCleared-fails, notLoggedOn-fails, notSecure-fails, notUnderstood-fails, notWellFormed-fails, ownRung-fails, unknownUser-fails, wrongKind-fails}
+use Rattle.model.specs.Request.RungLaws.{leadsNowhere-fails, noAccess-fails, notCleared-fails, notLoggedOn-fails, notSecure-fails}
+use Rattle.model.specs.Request.RungLaws.{notUnderstood-fails, notWellFormed-fails, ownRung-fails, unknownUser-fails, wrongKind-fails}
 use Rattle.model.specs.Request.Words.{Request}
 use Rattle.model.specs.State.Agree.{wellFormed-bounded}
 use Rattle.model.specs.State.Secure.{Good}

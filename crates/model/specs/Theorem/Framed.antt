@@ -7,11 +7,14 @@ use Rattle.model.specs.Effect.Screens.{spot}
 use Rattle.model.specs.Effect.Triples.{granted}
 use Rattle.model.specs.Request.Allowed.{Allowed}
 use Rattle.model.specs.Request.Asked.{Asked, namedTriple, own}
-use Rattle.model.specs.Request.Operations.{Op, rowOf, toAcknowledge, toAuthorised, toClear, toClearance, toCopy, toCreate, toCurrent, toDelete, toDeviceLevel, toEdit, toGrant, toLevel, toLogin, toLogout, toMark, toMaximum, toMove, toRelease, toRevoke, toShow}
+use Rattle.model.specs.Request.Operations.{Op, rowOf, toAcknowledge, toAuthorised, toClear, toClearance, toCopy, toCreate, toCurrent}
+use Rattle.model.specs.Request.Operations.{toDelete, toDeviceLevel, toEdit, toGrant, toLevel, toLogin, toLogout, toMark, toMaximum}
+use Rattle.model.specs.Request.Operations.{toMove, toRelease, toRevoke, toShow}
 use Rattle.model.specs.State.WellFormed.{WellFormed}
 use Rattle.model.specs.Tables.Edits.{_and_, row, word}
 use Rattle.model.specs.Tables.Rows.{replace, without}
-use Rattle.model.specs.Tables.Words.{Tables, authorised, clearance, count, current, device, held, heldOp, level, mark, maximum, missed, place, placeCount, places, releaser, shown, sums, triple, triples, type, value}
+use Rattle.model.specs.Tables.Words.{Tables, authorised, clearance, count, current, device, held, heldOp, level, mark, maximum}
+use Rattle.model.specs.Tables.Words.{missed, place, placeCount, places, releaser, shown, sums, triple, triples, type, value}
 use Rattle.model.specs.Theorem.FramedPlaces.{create-framed, delete-framed, move-framed}
 use Rattle.model.specs.Theorem.MayChange.{Frame, oneWord, screenWord}
 use Rattle.model.specs.Theorem.Untouched.{TouchesOnly, both-only, entity-left, row-only, user-left, user-word-only, word-only}

@@ -13,7 +13,8 @@ use Rattle.model.specs.Tables.EditLaws.{case}
 use Rattle.model.specs.Tables.Edits.{Edit, _and_, blank, row, word, written}
 use Rattle.model.specs.Tables.RowLaws.{without-none}
 use Rattle.model.specs.Tables.Rows.{left, replace, without}
-use Rattle.model.specs.Tables.Words.{EntityWord, Tables, containerKind, count, counts, kind, kinds, level, mark, maximum, place, places, releaser, shown, sums, triple, triples, type, value}
+use Rattle.model.specs.Tables.Words.{EntityWord, Tables, containerKind, count, counts, kind, kinds, level, mark, maximum, place}
+use Rattle.model.specs.Tables.Words.{places, releaser, shown, sums, triple, triples, type, value}
 use Rattle.model.specs.Theorem.MayChange.{Frame, contentWord, holder, oneWord}
 use Rattle.model.specs.Theorem.Untouched.{TouchesOnly, both-only, entity-left, row-only, word-left, word-only}
 

@@ -8,22 +8,30 @@ use native.Mathlib.Omega.{arith}
 use lib.Dec.{T, eqb, ltb, lt→ltb}
 use Rattle.model.specs.Basics.Choice.{Below, Same, below, it, other, over, pick, same, under}
 use Rattle.model.specs.Effect.Places.{draftSort, objectSort, sortKind, sortType, vacant}
-use Rattle.model.specs.Effect.PlacesLaws.{create-secure, create-wellFormed, delete-secure, delete-wellFormed, move-secure, move-wellFormed, vacant-absent}
-use Rattle.model.specs.Effect.ScreensLaws.{clear-secure, clear-wellFormed, login-secure, login-wellFormed, logout-secure, logout-wellFormed}
+use Rattle.model.specs.Effect.PlacesLaws.{create-secure, create-wellFormed, delete-secure, delete-wellFormed, move-secure}
+use Rattle.model.specs.Effect.PlacesLaws.{move-wellFormed, vacant-absent}
+use Rattle.model.specs.Effect.ScreensLaws.{clear-secure, clear-wellFormed, login-secure, login-wellFormed, logout-secure}
+use Rattle.model.specs.Effect.ScreensLaws.{logout-wellFormed}
 use Rattle.model.specs.Effect.ShowLaws.{show-both}
 use Rattle.model.specs.Effect.TriplesLaws.{grant-secure, grant-wellFormed, revoke-secure, revoke-wellFormed}
 use Rattle.model.specs.Effect.Words.{notice}
-use Rattle.model.specs.Effect.WordsLaws.{acknowledge-secure, acknowledge-wellFormed, authorised-secure, authorised-wellFormed, clearance-wellFormed, current-secure, current-wellFormed, edit-secure, edit-wellFormed, level-wellFormed, mark-secure, mark-wellFormed, maximum-secure, maximum-wellFormed, notice-secure, notice-wellFormed, release-secure, release-wellFormed}
+use Rattle.model.specs.Effect.WordsLaws.{acknowledge-secure, acknowledge-wellFormed, authorised-secure, authorised-wellFormed}
+use Rattle.model.specs.Effect.WordsLaws.{clearance-wellFormed, current-secure, current-wellFormed, edit-secure, edit-wellFormed}
+use Rattle.model.specs.Effect.WordsLaws.{level-wellFormed, mark-secure, mark-wellFormed, maximum-secure, maximum-wellFormed}
+use Rattle.model.specs.Effect.WordsLaws.{notice-secure, notice-wellFormed, release-secure, release-wellFormed}
 use Rattle.model.specs.Request.Allowed.{Allowed, MayCreate}
 use Rattle.model.specs.Request.Asked.{Asked, asked, namedTriple, own}
 use Rattle.model.specs.Request.Ladder.{after, answer, effect, leaves, noticedOp}
 use Rattle.model.specs.Request.LadderLaws.{answer-is, answer-range}
 use Rattle.model.specs.Request.OperationLaws.{number-range}
-use Rattle.model.specs.Request.Operations.{Op, numberOf, opOf, rowOf, toAcknowledge, toAuthorised, toClear, toClearance, toCopy, toCreate, toCurrent, toDelete, toDeviceLevel, toEdit, toGrant, toLevel, toLogin, toLogout, toMark, toMaximum, toMove, toRelease, toRevoke, toShow}
+use Rattle.model.specs.Request.Operations.{Op, numberOf, opOf, rowOf, toAcknowledge, toAuthorised, toClear, toClearance, toCopy}
+use Rattle.model.specs.Request.Operations.{toCreate, toCurrent, toDelete, toDeviceLevel, toEdit, toGrant, toLevel, toLogin, toLogout}
+use Rattle.model.specs.Request.Operations.{toMark, toMaximum, toMove, toRelease, toRevoke, toShow}
 use Rattle.model.specs.Request.Words.{Request}
 use Rattle.model.specs.State.Secure.{Good, Secure}
 use Rattle.model.specs.State.WellFormed.{WellFormed}
-use Rattle.model.specs.Tables.Words.{Tables, containerKind, deviceKind, draftType, firstNoticed, kinds, objectKind, operationCount, plainType, present, value}
+use Rattle.model.specs.Tables.Words.{Tables, containerKind, deviceKind, draftType, firstNoticed, kinds, objectKind, operationCount}
+use Rattle.model.specs.Tables.Words.{plainType, present, value}
 use Rattle.model.specs.Theorem.Acceptance.{accepted, requester-known}
 
 -- the sort of a new entity gives its kind and type

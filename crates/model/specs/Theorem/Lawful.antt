@@ -11,13 +11,16 @@ use Rattle.model.specs.Effect.PlacesLaws.{sort-plain, vacant-absent}
 use Rattle.model.specs.Request.Allowed.{Accepted, Allowed, MayCopy, MayShow}
 use Rattle.model.specs.Request.Asked.{Asked, asked, own}
 use Rattle.model.specs.Request.Conditions.{levelOf}
-use Rattle.model.specs.Request.Operations.{Op, rowOf, toAcknowledge, toAuthorised, toClear, toClearance, toCopy, toCreate, toCurrent, toDelete, toDeviceLevel, toEdit, toGrant, toLevel, toLogin, toLogout, toMark, toMaximum, toMove, toRelease, toRevoke, toShow}
+use Rattle.model.specs.Request.Operations.{Op, rowOf, toAcknowledge, toAuthorised, toClear, toClearance, toCopy, toCreate, toCurrent}
+use Rattle.model.specs.Request.Operations.{toDelete, toDeviceLevel, toEdit, toGrant, toLevel, toLogin, toLogout, toMark, toMaximum}
+use Rattle.model.specs.Request.Operations.{toMove, toRelease, toRevoke, toShow}
 use Rattle.model.specs.Request.Words.{Request}
 use Rattle.model.specs.State.WellFormed.{WellFormed}
 use Rattle.model.specs.Tables.EditLaws.{case}
 use Rattle.model.specs.Tables.Words.{Tables, absentKind, containerKind, devices, kinds, maximum, releasedType, releaser, shown, type}
 use Rattle.model.specs.Theorem.Definitions.{Both, Flows, NamedOpenly, Obeys, ReleaseSecure, Released, ShowsId, TranslationSecure}
-use Rattle.model.specs.Theorem.LawfulSame.{Changes, Ids, downgrade-one, downgrade-same, erased, ids-same, release-same, sames, set-current, set-officer, set-same, unborn}
+use Rattle.model.specs.Theorem.LawfulSame.{Changes, Ids, downgrade-one, downgrade-same, erased, ids-same, release-same, sames}
+use Rattle.model.specs.Theorem.LawfulSame.{set-current, set-officer, set-same, unborn}
 use Rattle.model.specs.Theorem.LawfulShow.{clear-ids, erase-ids, fresh-ids, leave-ids, put-ids, show-ids, show-named}
 
 -- The flows of rule 9.6 go upward in every operation that is allowed: copy and show are the only ones that have any.

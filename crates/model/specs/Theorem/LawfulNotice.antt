@@ -7,7 +7,8 @@ use Rattle.model.specs.Basics.Choice.{pick}
 use Rattle.model.specs.Effect.Words.{notice}
 use Rattle.model.specs.Request.Words.{Request}
 use Rattle.model.specs.Tables.EditLaws.{case}
-use Rattle.model.specs.Tables.Words.{Tables, UserWord, authorised, clearance, count, current, device, devices, held, heldOp, kind, level, maximum, missed, place, present, releaser, shown, spare, type}
+use Rattle.model.specs.Tables.Words.{Tables, UserWord, authorised, clearance, count, current, device, devices, held, heldOp, kind}
+use Rattle.model.specs.Tables.Words.{level, maximum, missed, place, present, releaser, shown, spare, type}
 use Rattle.model.specs.Theorem.Definitions.{Obeys, Quiet, ShowsId, noticeWord}
 use Rattle.model.specs.Theorem.LawfulSame.{downgrade-same, release-same, set-same}
 

@@ -5,9 +5,13 @@ use Prim.Native.Nat.{ℕ}
 use lib.Dec.{T, eqb}
 use Rattle.model.specs.Effect.Places.{vacant}
 use Rattle.model.specs.Request.Asked.{Asked, own}
-use Rattle.model.specs.Request.Operations.{Op, toAcknowledge, toAuthorised, toClear, toClearance, toCopy, toCreate, toCurrent, toDelete, toDeviceLevel, toEdit, toGrant, toLevel, toLogin, toLogout, toMark, toMaximum, toMove, toRelease, toRevoke, toShow}
+use Rattle.model.specs.Request.Operations.{Op, toAcknowledge, toAuthorised, toClear, toClearance, toCopy, toCreate, toCurrent}
+use Rattle.model.specs.Request.Operations.{toDelete, toDeviceLevel, toEdit, toGrant, toLevel, toLogin, toLogout, toMark, toMaximum}
+use Rattle.model.specs.Request.Operations.{toMove, toRelease, toRevoke, toShow}
 use Rattle.model.specs.State.Check.{inTest}
-use Rattle.model.specs.Tables.Words.{EntityWord, Tables, UserWord, authorised, clearance, count, counts, current, device, held, heldOp, kind, kinds, level, mark, maximum, missed, place, places, releaser, shown, tag, triple, type, userTag, value}
+use Rattle.model.specs.Tables.Words.{EntityWord, Tables, UserWord, authorised, clearance, count, counts, current, device, held}
+use Rattle.model.specs.Tables.Words.{heldOp, kind, kinds, level, mark, maximum, missed, place, places, releaser, shown, tag, triple}
+use Rattle.model.specs.Tables.Words.{type, userTag, value}
 
 -- e stands in the container x
 abbrev pub holder : Tables → ℕ → ℕ → Bool
@@ -51,7 +55,8 @@ userMay toAcknowledge s d x f = eqb x (s .user) && (oneUserWord held f || (oneUs
 
 -- word f of entity x
 abbrev pub entityMay : Op → Asked → Tables → ℕ → EntityWord → Bool
-entityMay toCreate s d x f = (eqb x (vacant d) && (oneWord kind f || (oneWord type f || (oneWord level f || oneWord (triple 0) f)))) || (eqb x (s .first) && contentWord f)
+entityMay toCreate s d x f =
+    (eqb x (vacant d) && (oneWord kind f || (oneWord type f || (oneWord level f || oneWord (triple 0) f)))) || (eqb x (s .first) && contentWord f)
 entityMay toDelete s d x f = eqb x (s .first) || (holder d (s .first) x && contentWord f)
 entityMay toMove s d x f = (eqb x (s .second) || holder d (s .first) x) && contentWord f
 entityMay toEdit s d x f = eqb x (s .first) && oneWord value f
