@@ -1,8 +1,10 @@
 pub mod Words
+pub mod Notice
 pub mod Triples
 pub mod Places
 pub mod Screens
 pub mod WordsLaws
+pub mod NoticeLaws
 pub mod TriplesLaws
 pub mod PutLaws
 pub mod ScreensLaws

@@ -4,6 +4,7 @@ pub mod Asked
 pub mod Conditions
 pub mod Operations
 pub mod Ladder
+pub mod After
 pub mod Step
 pub mod Allowed
 pub mod ReferenceLaws

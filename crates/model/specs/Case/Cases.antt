@@ -4,7 +4,8 @@ use mathlib.Core.List.{List, [], _++_, _∷_}
 use Prim.Native.Nat.{ℕ}
 use lib.Dec.{eqb}
 use lib.ListN.{length}
-use Rattle.model.specs.Request.Ladder.{after, answer}
+use Rattle.model.specs.Request.After.{after}
+use Rattle.model.specs.Request.Ladder.{answer}
 use Rattle.model.specs.Request.Words.{Request, nameCount, requestOf}
 use Rattle.model.specs.Tables.Sheet.{padded}
 use Rattle.model.specs.Tables.Words.{EntityWord, Tables, UserWord, placeCount}

@@ -2,6 +2,7 @@
 use Rattle.model.specs.Basics.Tests.{imp, every}
 use Rattle.model.specs.Case.Cases.{item, gone, asking, ask, raw, stand, passesAt, allPass}
 use Rattle.model.specs.Level.{bit, subset, rank, atMostOver, atMost, lower}
+use Rattle.model.specs.Request.After.{effect, noticedOp, leaves, after}
 use Rattle.model.specs.Request.Asked.{asked, hasRole}
 use Rattle.model.specs.Request.Conditions.{isAny, isEntity, isContainer, isDevice, isDraft, between, free, unused, aLevel, someRoles}
 use Rattle.model.specs.Request.Conditions.{aUser, aSort, aFlag, aSum, aWho, anOperation, aPosition, lacks, createAbove, createNoRoom}
@@ -11,8 +12,7 @@ use Rattle.model.specs.Request.Conditions.{rolesOfAnother, rolesUnauthor
 use Rattle.model.specs.Request.Conditions.{notAcknowledged}
 use Rattle.model.specs.Request.Ladder.{ofOp, someOperand, notWellFormed, notSecure, unknownUser, lengthFits, namesFit, rangeAt, fits}
 use Rattle.model.specs.Request.Ladder.{notUnderstood, notLoggedOn, leadsNowhere, permits, noAccess, bars, notCleared, wrongKind}
-use Rattle.model.specs.Request.Ladder.{refused, ownRung, ladder, lowest, answer, never, rungAt, applies, effect, noticedOp, leaves}
-use Rattle.model.specs.Request.Ladder.{after}
+use Rattle.model.specs.Request.Ladder.{refused, ownRung, ladder, lowest, answer, never, rungAt, applies}
 use Rattle.model.specs.Request.Operations.{operations, withNumber, opOf}
 use Rattle.model.specs.Request.Reference.{presentTest, placeTest, follow, resolve, passed, basis}
 use Rattle.model.specs.Request.Words.{referenceAt, requestOf, names, operandOf}
@@ -44,7 +44,7 @@ unfolding inTest spotOf parent contentsTest oneTest loopTest deviceTest aloneTes
 openedState = tt
 
 unfoldable pub openedRequest : Unit {0}
-unfolding asked hasRole isAny isEntity isContainer isDevice isDraft between free unused aLevel someRoles aUser aSort aFlag aSum aWho anOperation aPosition lacks createAbove createNoRoom onScreen deleteForbidden firstAbove moveNoRoom moveInside levelLowered insecure grantNoRoom showAbove showNoRoom showUnlabelled loginTaken userAbsent rolesOff rolesOfAnother rolesUnauthorised currentOutside deviceAbove deviceLowered notAcknowledged ofOp someOperand notWellFormed notSecure unknownUser lengthFits namesFit rangeAt fits notUnderstood notLoggedOn leadsNowhere permits noAccess bars notCleared wrongKind refused ownRung ladder lowest answer never rungAt applies effect noticedOp leaves after operations withNumber opOf presentTest placeTest follow resolve passed basis referenceAt requestOf names operandOf
+unfolding effect noticedOp leaves after asked hasRole isAny isEntity isContainer isDevice isDraft between free unused aLevel someRoles aUser aSort aFlag aSum aWho anOperation aPosition lacks createAbove createNoRoom onScreen deleteForbidden firstAbove moveNoRoom moveInside levelLowered insecure grantNoRoom showAbove showNoRoom showUnlabelled loginTaken userAbsent rolesOff rolesOfAnother rolesUnauthorised currentOutside deviceAbove deviceLowered notAcknowledged ofOp someOperand notWellFormed notSecure unknownUser lengthFits namesFit rangeAt fits notUnderstood notLoggedOn leadsNowhere permits noAccess bars notCleared wrongKind refused ownRung ladder lowest answer never rungAt applies operations withNumber opOf presentTest placeTest follow resolve passed basis referenceAt requestOf names operandOf
 openedRequest = tt
 
 unfoldable pub openedCase : Unit {0}

@@ -4,7 +4,7 @@ use mathlib.Core.Path.{_≡_, refl}
 use Rattle.model.specs.Case.Cases.{allPass}
 use Rattle.model.specs.Case.Opened.{opened}
 use Rattle.model.specs.Case.S1.{s1, s1Sheet, starred, unstarred}
-use Rattle.model.specs.Request.Ladder.{after}
+use Rattle.model.specs.Request.After.{after}
 use Rattle.model.specs.State.AgreeSecure.{judge-good}
 use Rattle.model.specs.State.Check.{judge}
 use Rattle.model.specs.State.Secure.{Good}

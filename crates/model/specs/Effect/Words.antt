@@ -1,10 +1,8 @@
 -- The effects that set words of one record and touch no place (rules 6.4 to 6.7 and 6.14 to 6.20).
-use mathlib.Core.Bool.{Bool, false, true}
-use Prim.Native.Nat.{suc, ℕ}
-use lib.Dec.{eqb, ltb}
+use Prim.Native.Nat.{ℕ}
 use Rattle.model.specs.Tables.Edits.{Edit, _and_, onEntity, onUser, userWord, word}
 use Rattle.model.specs.Tables.Words.{Tables, UserWord, authorised, clearance, current, held, heldOp, level, mark, maximum, missed}
-use Rattle.model.specs.Tables.Words.{missedLimit, releasedType, releaser, type, value}
+use Rattle.model.specs.Tables.Words.{releasedType, releaser, type, value}
 
 -- Rule 6.4: the value of e is v.
 abbrev pub edit : ℕ → ℕ → Tables → Tables
@@ -48,22 +46,3 @@ quieting = userWord held 0 and userWord heldOp 0 and userWord missed 0
 
 abbrev pub acknowledge : ℕ → Tables → Tables
 acknowledge u = onUser u quieting
-
--- Rule 8.2: a word of the notice, by whether nothing was held: then what comes now, else what stands there;
-abbrev pub keepFirst : Bool → ℕ → ℕ → ℕ
-keepFirst true new old = new
-keepFirst false new old = old
-
--- the count, by whether it is still under its limit: one more, else it stops.
-abbrev pub countOn : Bool → ℕ → ℕ
-countOn true m = suc m
-countOn false m = missedLimit
-
--- The notice of u after a refusal r of an operation o.
-abbrev pub noticing : ℕ → ℕ → ℕ → Tables → Edit UserWord
-noticing u r o d = userWord held (keepFirst (eqb (d .user u held) 0) r (d .user u held))
-    and userWord heldOp (keepFirst (eqb (d .user u held) 0) o (d .user u heldOp))
-    and userWord missed (countOn (ltb (d .user u missed) missedLimit) (d .user u missed))
-
-abbrev pub notice : ℕ → ℕ → ℕ → Tables → Tables
-notice u r o d = onUser u (noticing u r o d) d

@@ -1,21 +1,19 @@
--- The effects on single words, and the notice, keep tables well-formed and secure: everything but those words is as it was, by computation.
-use mathlib.Core.Bool.{Bool, false, true}
-use mathlib.Core.Logic.{_≢_, inl, inr}
+-- The effects on single words keep tables well-formed and secure: everything but those words is as it was, by computation.
+use mathlib.Core.Logic.{_≢_, inl}
 use mathlib.Core.Path.{_≡_}
 use Prim.Native.Nat.{_<_, _≤_, ℕ}
 use native.Mathlib.Omega.{arith}
-use lib.Dec.{eqb, ltb}
-use Rattle.model.specs.Basics.Choice.{Below, Same, below, it, other, over, pick, same, under}
-use Rattle.model.specs.Effect.Words.{acknowledge, countOn, edit, keepFirst, notice, noticing, quieting, release, setAuthorised}
-use Rattle.model.specs.Effect.Words.{setClearance, setCurrent, setLevel, setMark, setMaximum}
+use lib.Dec.{eqb}
+use Rattle.model.specs.Basics.Choice.{pick}
+use Rattle.model.specs.Effect.Words.{acknowledge, edit, quieting, release, setAuthorised, setClearance, setCurrent, setLevel, setMark}
+use Rattle.model.specs.Effect.Words.{setMaximum}
 use Rattle.model.specs.Level.{AtMost, Subset, levelCount, roleCount, roleSets}
 use Rattle.model.specs.State.Secure.{Secure}
-use Rattle.model.specs.State.WellFormed.{EntityOk, Notice, Thing, UserOk, WellFormed}
+use Rattle.model.specs.State.WellFormed.{EntityOk, Thing, UserOk, WellFormed}
 use Rattle.model.specs.Tables.EditLaws.{case, each}
 use Rattle.model.specs.Tables.Edits.{_and_, userWord, word, written}
-use Rattle.model.specs.Tables.Words.{Tables, authorised, clearance, containerKind, current, device, deviceKind, firstNoticed, held}
-use Rattle.model.specs.Tables.Words.{heldOp, kind, lastNoticed, level, mark, maximum, missed, missedLimit, operationCount, present}
-use Rattle.model.specs.Tables.Words.{releasedType, releaser, type, userCount, value}
+use Rattle.model.specs.Tables.Words.{Tables, authorised, clearance, containerKind, current, device, deviceKind, kind, level, mark}
+use Rattle.model.specs.Tables.Words.{maximum, present, releasedType, releaser, type, userCount, value}
 
 module _ (d : Tables) (w : WellFormed d) where
   -- 4 edit
@@ -111,24 +109,3 @@ module _ (d : Tables) (s : Secure d) where
 
   pub acknowledge-secure : (u : ℕ) → Secure (acknowledge u d)
   acknowledge-secure u = search
-
--- A notice goes on being one.
-next : (h p m r o : ℕ) → (firstNoticed ≤ r) × (r ≤ lastNoticed) → o ≤ operationCount → Notice h p m
-    → Notice (keepFirst (eqb h 0) r h) (keepFirst (eqb h 0) o p) (countOn (ltb m missedLimit) m)
-next h p m r o hr ho a = go (eqb h 0) (ltb m missedLimit) (same h 0) (below m missedLimit)
-  where
-    go : (x y : Bool) → Same h 0 x → Below m missedLimit y → Notice (keepFirst x r h) (keepFirst x o p) (countOn y m)
-    go true true (it q) (under l) = search (arith, inr)
-    go true false (it q) (over l) = absurd (omega (arith, a .none .0 q))
-    go false true (other q) (under l) = search (arith, inr)
-    go false false (other q) (over l) = search (arith, inr)
-
-module _ (d : Tables) (w : WellFormed d) (s : Secure d) (u r o : ℕ) (p : d .user u present ≢ 0) (hr : (firstNoticed ≤ r) × (r ≤ lastNoticed)) (ho : o ≤ operationCount) where
-  notice-ok : UserOk (d .user u) → UserOk (written (noticing u r o d) (d .user u))
-  notice-ok a = let n = next (d .user u held) (d .user u heldOp) (d .user u missed) r o hr ho (a .notice) in search arith
-
-  pub notice-wellFormed : WellFormed (notice u r o d)
-  notice-wellFormed = let n = each UserOk (noticing u r o d) u (d .user) (w .users) (notice-ok (w .users u)) in search
-
-  pub notice-secure : Secure (notice u r o d)
-  notice-secure = search

@@ -1,4 +1,4 @@
--- Rule 7: the ladder of refusals, the answer, and rule 8: what is left afterwards.
+-- Rule 7: the ladder of refusals, and the answer.
 use mathlib.Core.Bool.{Bool, _&&_, _||_, false, not, true}
 use mathlib.Core.List.{List, [], _∷_}
 use mathlib.Core.Logic.{_≢_}
@@ -7,7 +7,6 @@ use mathlib.Core.Path.{_≡_}
 use Prim.Native.Nat.{_<_, suc, zero, ℕ}
 use lib.Dec.{eqb, leb, ltb}
 use Rattle.model.specs.Basics.Tests.{every, imp}
-use Rattle.model.specs.Effect.Words.{notice}
 use Rattle.model.specs.Level.{atMost, roleCount}
 use Rattle.model.specs.Request.Asked.{asked, basisOf, hasRole, operand}
 use Rattle.model.specs.Request.Conditions.{Condition, Kind, Range, unused}
@@ -15,8 +14,8 @@ use Rattle.model.specs.Request.Operations.{Op, Own, numberOf, offDuty, o
 use Rattle.model.specs.Request.Words.{Reference, Request, nameCount}
 use Rattle.model.specs.State.Check.{secureTest, wellFormedTest}
 use Rattle.model.specs.Tables.Rows.{seek}
-use Rattle.model.specs.Tables.Words.{Tables, clearance, devices, firstNoticed, level, mark, placeCount, present, tripleOf, triples}
-use Rattle.model.specs.Tables.Words.{userCount, whoRole}
+use Rattle.model.specs.Tables.Words.{Tables, clearance, devices, level, mark, placeCount, present, tripleOf, triples, userCount}
+use Rattle.model.specs.Tables.Words.{whoRole}
 
 abbrev pub Rung : Type 0
 Rung = Tables → Request → Bool
@@ -136,19 +135,3 @@ pub record IsAnswer (d : Tables) (q : Request) (a : ℕ) : Type 0 where
   pub below : (n : ℕ) → n < a → applies n d q ≡ false
   pub applied : a ≢ 0 → applies a d q ≡ true
   pub accepted : a ≡ 0 → (n : ℕ) → applies n d q ≡ false
-
--- Rule 8.4: the effect of an accepted request.
-unfoldable pub effect : Tables → Request → Tables
-effect d q = elim (opOf (q .operation)) [ none ↦ d | some o ↦ rowOf o .effect (asked d q) d ]
-
--- Rule 8.2: the operation that a notice keeps; 0 where the request names none.
-unfoldable pub noticedOp : Request → ℕ
-noticedOp q = elim (opOf (q .operation)) [ none ↦ 0 | some o ↦ numberOf o ]
-
--- Rules 8.1, 8.2 and 8.4: what an answer n leaves.
-unfoldable pub leaves : ℕ → Tables → Request → Tables
-leaves n d q = elim (eqb n 0) [ true ↦ effect d q | false ↦ elim (ltb n firstNoticed) [ true ↦ d | false ↦ notice (q .user) n (noticedOp q) d ] ]
-
--- the tables after a request
-unfoldable pub after : Tables → Request → Tables
-after d q = leaves (answer d q) d q

@@ -5,7 +5,8 @@ use Prim.Native.Nat.{ℕ}
 use lib.Dec.{eqb}
 use lib.ListN.{length}
 use Rattle.model.specs.Basics.Choice.{pick}
-use Rattle.model.specs.Request.Ladder.{after, answer}
+use Rattle.model.specs.Request.After.{after}
+use Rattle.model.specs.Request.Ladder.{answer}
 use Rattle.model.specs.Request.Words.{requestOf, requestWords}
 use Rattle.model.specs.Tables.Layout.{tablesOf, wordCount}
 use Rattle.model.specs.Tables.WordsOf.{wordsOf}

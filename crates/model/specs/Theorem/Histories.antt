@@ -2,7 +2,7 @@
 use mathlib.Core.List.{List, [], _∷_}
 use mathlib.Core.Path.{subst, sym}
 use Prim.Native.Nat.{suc, zero, ℕ}
-use Rattle.model.specs.Request.Ladder.{after}
+use Rattle.model.specs.Request.After.{after}
 use Rattle.model.specs.Request.Words.{Request}
 use Rattle.model.specs.State.Secure.{Good}
 use Rattle.model.specs.Tables.Words.{Tables}

@@ -7,6 +7,8 @@ use Prim.Native.Nat.{_<_, _≤_, ℕ}
 use native.Mathlib.Omega.{arith}
 use lib.Dec.{T, eqb, ltb, lt→ltb}
 use Rattle.model.specs.Basics.Choice.{Below, Same, below, it, other, over, pick, same, under}
+use Rattle.model.specs.Effect.Notice.{notice}
+use Rattle.model.specs.Effect.NoticeLaws.{notice-secure, notice-wellFormed}
 use Rattle.model.specs.Effect.Places.{draftSort, objectSort, sortKind, sortType, vacant}
 use Rattle.model.specs.Effect.PlacesLaws.{create-secure, create-wellFormed, delete-secure, delete-wellFormed, move-secure}
 use Rattle.model.specs.Effect.PlacesLaws.{move-wellFormed, vacant-absent}
@@ -14,14 +16,14 @@ use Rattle.model.specs.Effect.ScreensLaws.{clear-secure, clear-wellForme
 use Rattle.model.specs.Effect.ScreensLaws.{logout-wellFormed}
 use Rattle.model.specs.Effect.ShowLaws.{show-both}
 use Rattle.model.specs.Effect.TriplesLaws.{grant-secure, grant-wellFormed, revoke-secure, revoke-wellFormed}
-use Rattle.model.specs.Effect.Words.{notice}
 use Rattle.model.specs.Effect.WordsLaws.{acknowledge-secure, acknowledge-wellFormed, authorised-secure, authorised-wellFormed}
 use Rattle.model.specs.Effect.WordsLaws.{clearance-wellFormed, current-secure, current-wellFormed, edit-secure, edit-wellFormed}
 use Rattle.model.specs.Effect.WordsLaws.{level-wellFormed, mark-secure, mark-wellFormed, maximum-secure, maximum-wellFormed}
-use Rattle.model.specs.Effect.WordsLaws.{notice-secure, notice-wellFormed, release-secure, release-wellFormed}
+use Rattle.model.specs.Effect.WordsLaws.{release-secure, release-wellFormed}
+use Rattle.model.specs.Request.After.{after, effect, leaves, noticedOp}
 use Rattle.model.specs.Request.Allowed.{Allowed, MayCreate}
 use Rattle.model.specs.Request.Asked.{Asked, asked, namedTriple, own}
-use Rattle.model.specs.Request.Ladder.{after, answer, effect, leaves, noticedOp}
+use Rattle.model.specs.Request.Ladder.{answer}
 use Rattle.model.specs.Request.LadderLaws.{answer-is, answer-range}
 use Rattle.model.specs.Request.OperationLaws.{number-range}
 use Rattle.model.specs.Request.Operations.{Op, numberOf, opOf, rowOf, toAcknowledge, toAuthorised, toClear, toClearance, toCopy}

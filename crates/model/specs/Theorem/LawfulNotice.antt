@@ -4,7 +4,7 @@ use mathlib.Core.Path.{_∙_, _≡_, refl, sym}
 use Prim.Native.Nat.{ℕ}
 use lib.Dec.{T, eqb}
 use Rattle.model.specs.Basics.Choice.{pick}
-use Rattle.model.specs.Effect.Words.{notice}
+use Rattle.model.specs.Effect.Notice.{notice}
 use Rattle.model.specs.Request.Words.{Request}
 use Rattle.model.specs.Tables.EditLaws.{case}
 use Rattle.model.specs.Tables.Words.{Tables, UserWord, authorised, clearance, count, current, device, devices, held, heldOp, kind}

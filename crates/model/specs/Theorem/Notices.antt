@@ -7,10 +7,12 @@ use Prim.Native.Nat.{_≤_, suc, ℕ}
 use native.Mathlib.Omega.{arith}
 use lib.Dec.{eqb, ltb}
 use Rattle.model.specs.Basics.Choice.{Below, Same, below, it, other, over, pick, same, under}
-use Rattle.model.specs.Effect.Words.{acknowledge, countOn, keepFirst, notice}
+use Rattle.model.specs.Effect.Notice.{countOn, keepFirst, notice}
+use Rattle.model.specs.Effect.Words.{acknowledge}
+use Rattle.model.specs.Request.After.{after, noticedOp}
 use Rattle.model.specs.Request.Allowed.{Allowed}
 use Rattle.model.specs.Request.Asked.{asked}
-use Rattle.model.specs.Request.Ladder.{after, answer, noticedOp}
+use Rattle.model.specs.Request.Ladder.{answer}
 use Rattle.model.specs.Request.OperationLaws.{number-injective}
 use Rattle.model.specs.Request.Operations.{Op, numberOf, opOf, rowOf, toAcknowledge}
 use Rattle.model.specs.Request.Words.{Request}

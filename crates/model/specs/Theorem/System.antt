@@ -5,7 +5,8 @@ use Prim.Native.Nat.{ℕ}
 use native.Mathlib.Omega.{arith}
 use lib.Dec.{eqb, ltb}
 use Rattle.model.specs.Basics.Choice.{Below, Same, below, it, other, over, same, under}
-use Rattle.model.specs.Request.Ladder.{after, answer, effect, noticedOp}
+use Rattle.model.specs.Request.After.{after, effect, noticedOp}
+use Rattle.model.specs.Request.Ladder.{answer}
 use Rattle.model.specs.Request.Words.{Request}
 use Rattle.model.specs.State.Secure.{Good}
 use Rattle.model.specs.Tables.Layout.{Bounded}

@@ -1,8 +1,9 @@
 -- What a refusal leaves (rules 8.1 and 8.2): everything, or everything but the requester's notice, which keeps its first refusal.
 use mathlib.Core.Path.{_≡_, refl}
 use Prim.Native.Nat.{_<_, _≤_}
-use Rattle.model.specs.Effect.Words.{notice}
-use Rattle.model.specs.Request.Ladder.{after, answer, noticedOp}
+use Rattle.model.specs.Effect.Notice.{notice}
+use Rattle.model.specs.Request.After.{after, noticedOp}
+use Rattle.model.specs.Request.Ladder.{answer}
 use Rattle.model.specs.Request.Words.{Request}
 use Rattle.model.specs.Tables.Words.{Tables, firstNoticed}
 use Rattle.model.specs.Theorem.Definitions.{Quiet}

@@ -9,7 +9,8 @@ use lib.ListN.{length}
 use Rattle.model.specs.Basics.Agree.{Agrees, agrees-and, agrees-eq}
 use Rattle.model.specs.Basics.Choice.{Below, Same, below, it, other, over, pick, same, under}
 use Rattle.model.specs.Basics.Reading.{is-false, is-true}
-use Rattle.model.specs.Request.Ladder.{after, answer}
+use Rattle.model.specs.Request.After.{after}
+use Rattle.model.specs.Request.Ladder.{answer}
 use Rattle.model.specs.Request.LadderLaws.{answer-is}
 use Rattle.model.specs.Request.Step.{afterOf, answerOf, sized}
 use Rattle.model.specs.Request.Words.{Request, requestOf, requestWords}

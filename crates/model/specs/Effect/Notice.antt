@@ -1,0 +1,25 @@
+-- Rule 8.2: the notice that a refusal leaves.
+use mathlib.Core.Bool.{Bool, false, true}
+use Prim.Native.Nat.{suc, ℕ}
+use lib.Dec.{eqb, ltb}
+use Rattle.model.specs.Tables.Edits.{Edit, _and_, onUser, userWord}
+use Rattle.model.specs.Tables.Words.{Tables, UserWord, held, heldOp, missed, missedLimit}
+
+-- A word of the notice, by whether nothing was held: then what comes now, else what stands there;
+abbrev pub keepFirst : Bool → ℕ → ℕ → ℕ
+keepFirst true new old = new
+keepFirst false new old = old
+
+-- the count, by whether it is still under its limit: one more, else it stops.
+abbrev pub countOn : Bool → ℕ → ℕ
+countOn true m = suc m
+countOn false m = missedLimit
+
+-- The notice of u after a refusal r of an operation o.
+abbrev pub noticing : ℕ → ℕ → ℕ → Tables → Edit UserWord
+noticing u r o d = userWord held (keepFirst (eqb (d .user u held) 0) r (d .user u held))
+    and userWord heldOp (keepFirst (eqb (d .user u held) 0) o (d .user u heldOp))
+    and userWord missed (countOn (ltb (d .user u missed) missedLimit) (d .user u missed))
+
+abbrev pub notice : ℕ → ℕ → ℕ → Tables → Tables
+notice u r o d = onUser u (noticing u r o d) d
