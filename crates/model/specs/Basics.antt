@@ -1,3 +1,4 @@
+-- Choices and tests that compute, and when a test agrees with a statement.
 pub mod Choice
 pub mod Tests
 pub mod Agree

@@ -1,3 +1,4 @@
+-- Case states and their cases, each table proved by one computation.
 pub mod Cases
 pub mod Opened
 pub mod S1

@@ -1,3 +1,4 @@
+-- The twenty effects and the notice, and that each keeps tables well-formed and secure.
 pub mod Words
 pub mod Notice
 pub mod Triples

@@ -1,3 +1,4 @@
+-- Document 01 as definitions, and what is proved of them. A room uses only itself and the rooms above it.
 pub mod Basics
 pub mod Level
 pub mod BitLaws

@@ -1,3 +1,4 @@
+-- What is asked, what it is answered, and what it leaves.
 pub mod Words
 pub mod Reference
 pub mod Asked

@@ -1,3 +1,4 @@
+-- Well-formed and secure: statements, tests, and that they agree.
 pub mod Depth
 pub mod DepthLaws
 pub mod Climb

@@ -1,3 +1,4 @@
+-- The tables: words by name, edits, rows, and the 2,304 words that they stand in.
 pub mod Words
 pub mod Edits
 pub mod EditLaws

@@ -1,3 +1,4 @@
+-- What follows: kept, lawful, framed, noticed, unique; the definitions of the model papers.
 pub mod Definitions
 pub mod MayChange
 pub mod Clear
@@ -18,3 +19,4 @@ pub mod Fixed
 pub mod Unchanged
 pub mod Notices
 pub mod Words
+pub mod Unique

@@ -1,12 +1,13 @@
 -- The step on words: rule 7.1, then the ladder. Any two lists of words have an answer, and words that stand afterwards.
-use mathlib.Core.Bool.{Bool, _&&_}
+use mathlib.Core.Bool.{Bool, _&&_, not}
 use mathlib.Core.List.{List}
+use mathlib.Core.Path.{_≡_}
 use Prim.Native.Nat.{ℕ}
-use lib.Dec.{eqb}
+use lib.Dec.{T, eqb}
 use lib.ListN.{length}
 use Rattle.model.specs.Basics.Choice.{pick}
-use Rattle.model.specs.Request.After.{after}
-use Rattle.model.specs.Request.Ladder.{answer}
+use Rattle.model.specs.Request.After.{after, leaves}
+use Rattle.model.specs.Request.Ladder.{IsAnswer, answer}
 use Rattle.model.specs.Request.Words.{requestOf, requestWords}
 use Rattle.model.specs.Tables.Layout.{tablesOf, wordCount}
 use Rattle.model.specs.Tables.WordsOf.{wordsOf}
@@ -20,3 +21,10 @@ answerOf t q = pick (sized t q) (answer (tablesOf t) (requestOf q)) 1
 
 unfoldable pub afterOf : List ℕ → List ℕ → List ℕ
 afterOf t q = pick (sized t q) (wordsOf (after (tablesOf t) (requestOf q))) t
+
+-- What a step is, said without computing it: a is its answer and r are the words that stand afterwards.
+pub record Settles (t q : List ℕ) (a : ℕ) (r : List ℕ) : Type 0 where
+  pub otherSize : T (not (sized t q)) → (a ≡ 1) × (r ≡ t)
+  pub answered : T (sized t q) → IsAnswer (tablesOf t) (requestOf q) a
+  pub lengthKept : T (sized t q) → length r ≡ wordCount
+  pub left : T (sized t q) → tablesOf r ≡ leaves a (tablesOf t) (requestOf q)
