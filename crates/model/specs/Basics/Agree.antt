@@ -99,8 +99,10 @@ agrees-then {a} {b} p q = record { to = go a b (p .to) (λ x. q x .to); from = �
     back false b s t = s
 
 -- of 1 to n, where the statement holds of every other number
-pub agrees-range : (n : ℕ) (p : ℕ → Bool) (P : ℕ → Type 0) → ((i : ℕ) → Agrees (p i) (P i)) → P 0 → ((i : ℕ) → n < i → P i) → Agrees (every n (λ i. p (suc i))) ((i : ℕ) → P i)
-agrees-range n p P a z out = agrees-as {P = (i : ℕ) → i < n → P (suc i)} (λ f i. all f i) (λ f i h. f (suc i)) (agrees-every n (λ i. p (suc i)) (λ i. P (suc i)) (λ i. a (suc i)))
+pub agrees-range : (n : ℕ) (p : ℕ → Bool) (P : ℕ → Type 0) → ((i : ℕ) → Agrees (p i) (P i)) → P 0 → ((i : ℕ) → n < i → P i)
+    → Agrees (every n (λ i. p (suc i))) ((i : ℕ) → P i)
+agrees-range n p P a z out =
+    agrees-as {P = (i : ℕ) → i < n → P (suc i)} (λ f i. all f i) (λ f i h. f (suc i)) (agrees-every n (λ i. p (suc i)) (λ i. P (suc i)) (λ i. a (suc i)))
   where
     all : ((i : ℕ) → i < n → P (suc i)) → (i : ℕ) → P i
     all f zero = z

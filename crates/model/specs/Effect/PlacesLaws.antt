@@ -168,7 +168,8 @@ module _ (d : Tables) (w : WellFormed d) (s : Secure d) (e c : ℕ) (thing : Thi
   move-wellFormed = put-wellFormed (leave e d) (leave-wellFormed d w e) c e 0 takes
 
   pub move-secure : Secure (move e c d)
-  move-secure = put-secure (leave e d) (leave-wellFormed d w e) c e 0 takes (leave-secure d w e s) low (λ u q. absurd (on-none d w c u box q)) (λ q. absurd (omega arith))
+  move-secure =
+      put-secure (leave e d) (leave-wellFormed d w e) c e 0 takes (leave-secure d w e s) low (λ u q. absurd (on-none d w c u box q)) (λ q. absurd (omega arith))
 
 -- 1 create
 module _ (d : Tables) (w : WellFormed d) (s : Secure d) (e c k t l : ℕ) (gone : kinds d e ≡ 0) (range : (1 ≤ e) × (e ≤ entityCount)) (sort : (1 ≤ k) × (k ≤ 2)) (draft : (t ≡ 0) ⊎ ((k ≡ containerKind) × (t ≡ 1))) (lev : l < levelCount)

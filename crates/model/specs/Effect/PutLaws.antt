@@ -21,7 +21,8 @@ use Rattle.model.specs.Tables.Words.{Tables, clearance, containerKind, c
 use Rattle.model.specs.Tables.Words.{sumLimit, sums}
 
 -- e is put last in c, with the sum s
-put-filled : (k n e s : ℕ) (at sum : ℕ → ℕ) → (2 ≤ k) → n < placeCount → 1 ≤ e → ((i : ℕ) → i < n → at i ≢ e) → (k ≡ deviceKind → (1 ≤ s) × (s ≤ sumLimit)) → (k ≢ deviceKind → s ≡ 0) → Filled k n at sum → Filled k (suc n) (replace n e at) (replace n s sum)
+put-filled : (k n e s : ℕ) (at sum : ℕ → ℕ) → (2 ≤ k) → n < placeCount → 1 ≤ e → ((i : ℕ) → i < n → at i ≢ e)
+    → (k ≡ deviceKind → (1 ≤ s) × (s ≤ sumLimit)) → (k ≢ deviceKind → s ≡ 0) → Filled k n at sum → Filled k (suc n) (replace n e at) (replace n s sum)
 put-filled k n e s at sum hk fits he new on off f = record {
   packed = append-packed at n e (f .packed) fits he new;
   objectEmpty = λ q. absurd (omega arith);
@@ -62,7 +63,9 @@ module _ (d : Tables) (w : WellFormed d) (c e s : ℕ) (t : Takes d c e s) where
   put-grown : (x a : ℕ) → Holds (put c e s d) x a → Holds d x a ⊎ ((x ≡ c) × (a ≡ e))
   put-grown x a h = grown (kinds d) (counts d) (places d) (devices d) (w .links) c e x a h
 
-  pub put-secure : Secure d → AtMost (d .entity e level) (d .entity c level) → ((u : ℕ) → devices d u ≡ c → AtMost (d .entity e level) (d .user u clearance)) → (kinds d c ≡ deviceKind → T (labelled s)) → Secure (put c e s d)
+  pub put-secure : Secure d → AtMost (d .entity e level) (d .entity c level)
+      → ((u : ℕ) → devices d u ≡ c → AtMost (d .entity e level) (d .user u clearance)) → (kinds d c ≡ deviceKind → T (labelled s))
+      → Secure (put c e s d)
   put-secure o low clear label = record {
     contained = λ x a h. in-it x a (put-grown x a h);
     seen = λ u a on h. on-it u a on (put-grown (devices d u) a h);
@@ -79,7 +82,8 @@ module _ (d : Tables) (w : WellFormed d) (c e s : ℕ) (t : Takes d c e s) where
       on-it u a on (inl h) = o .seen u a on h
       on-it u a on (inr q) = rw (q .1) (clear u (q .0))
 
-      shows : (x i : ℕ) → kinds d x ≡ deviceKind → (b : Bool) → Same x c b → i < pick b (suc (counts d c)) (counts d x) → T (labelled (pick b (replace (counts d c) s (sums d c) i) (sums d x i)))
+      shows : (x i : ℕ) → kinds d x ≡ deviceKind → (b : Bool) → Same x c b → i < pick b (suc (counts d c)) (counts d x)
+          → T (labelled (pick b (replace (counts d c) s (sums d c) i) (sums d x i)))
       shows x i k true (it q) l = case (λ (y : ℕ). T (labelled y)) i (counts d c) s (sums d c i) (λ z. label (ap (kinds d) (sym q) ∙ k)) (λ z. o .valueLabelled c i (ap (kinds d) (sym q) ∙ k) (omega arith))
       shows x i k false (other q) l = o .valueLabelled x i k l
 
@@ -101,7 +105,9 @@ module _ (d : Tables) (w : WellFormed d) (e : ℕ) where
   pub stayed : (x c : ℕ) → Holds (leave e d) x c → Holds d x c × (kinds d x ≡ containerKind → c ≢ e)
   stayed x c = go (eqb (kinds d x) containerKind) (same (kinds d x) containerKind)
     where
-      go : (b : Bool) → Same (kinds d x) 2 b → Member (λ i. pick b (without e (places d x) (counts d x) i) (places d x i)) (pick b (left e (places d x) (counts d x)) (counts d x)) c → Holds d x c × (kinds d x ≡ containerKind → c ≢ e)
+      go : (b : Bool) → Same (kinds d x) 2 b
+          → Member (λ i. pick b (without e (places d x) (counts d x) i) (places d x i)) (pick b (left e (places d x) (counts d x)) (counts d x)) c
+          → Holds d x c × (kinds d x ≡ containerKind → c ≢ e)
       go true (it q) m = let y = without-member e (places d x) (counts d x) (w .entities x .filled .packed) c m in (y .0, λ z. y .1)
       go false (other q) m = (m, λ z. absurd (q z))
 

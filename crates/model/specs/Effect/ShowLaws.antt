@@ -19,7 +19,8 @@ use Rattle.model.specs.Tables.Rows.{Member, Sought, replace}
 use Rattle.model.specs.Tables.Words.{Tables, clearance, counts, deviceKind, devices, kinds, level, placeCount, places, sumLimit, sums}
 
 -- the entity is there already: only its sum changes
-again-filled : (n i s : ℕ) (at sum : ℕ → ℕ) (k : ℕ) → k ≡ deviceKind → i < n → (1 ≤ s) × (s ≤ sumLimit) → Filled k n at sum → Filled k n at (replace i s sum)
+again-filled : (n i s : ℕ) (at sum : ℕ → ℕ) (k : ℕ) → k ≡ deviceKind → i < n → (1 ≤ s) × (s ≤ sumLimit) → Filled k n at sum
+    → Filled k n at (replace i s sum)
 again-filled n i s at sum k h l hs f = record {
   packed = f .packed;
   objectEmpty = f .objectEmpty;
@@ -45,7 +46,8 @@ module _ (d : Tables) (w : WellFormed d) (s : Secure d) (u v e a : ℕ) (on : de
     no-more x c h = go (member-cases x v c (counts d v) (counts d x) (replace k e (places d v)) (places d x) h)
       where
         go : ((x ≡ v) × Member (replace k e (places d v)) (counts d v) c) ⊎ ((x ≢ v) × Holds d x c) → Holds d x c
-        go (inl q) = subst (λ (y : ℕ). Holds d y c) (sym (q .0)) (subst (λ (r : ℕ → ℕ). Member r (counts d v) c) (replace-same (places d v) k e at-k) (q .1))
+        go (inl q) =
+            subst (λ (y : ℕ). Holds d y c) (sym (q .0)) (subst (λ (r : ℕ → ℕ). Member r (counts d v) c) (replace-same (places d v) k e at-k) (q .1))
         go (inr q) = q .1
 
     same-count : (x : ℕ) → counts again x ≤ counts d x
@@ -90,7 +92,8 @@ module _ (d : Tables) (w : WellFormed d) (s : Secure d) (u v e a : ℕ) (on : de
   pub show-both : (counts d v ≤ spot v e d → counts d v < placeCount) → Good (show v e a d)
   show-both room = go (ltb (spot v e d) (counts d v)) (below (spot v e d) (counts d v)) (sought e (places d v) (counts d v))
     where
-      go : (b : Bool) → Below (spot v e d) (counts d v) b → Sought e (places d v) (counts d v) (spot v e d) → Good (onEntity v (showing v e a d (spot v e d) (pick b (counts d v) (suc (counts d v)))) d)
+      go : (b : Bool) → Below (spot v e d) (counts d v) b → Sought e (places d v) (counts d v) (spot v e d)
+          → Good (onEntity v (showing v e a d (spot v e d) (pick b (counts d v) (suc (counts d v)))) d)
       go true (under h) (inl z) = (again-wellFormed (spot v e d) (z .0) (z .1), again-secure (spot v e d) (z .0) (z .1))
       go true (under h) (inr z) = absurd (omega (arith, z .0))
       go false (over h) (inl z) = absurd (omega (arith, z .0))

@@ -19,13 +19,16 @@ use Rattle.model.specs.Tables.Words.{Tables, kind, placeCount, triple, t
 good-replace : (t n : ℕ) (r : ℕ → ℕ) → GoodTriple t → ((i : ℕ) → i < n → GoodTriple (r i)) → (i : ℕ) → i < suc n → GoodTriple (replace n t r i)
 good-replace t n r g old i h = case GoodTriple i n t (r i) (λ q. g) (λ q. old i (omega arith))
 
-granted-access : (t n : ℕ) (r : ℕ → ℕ) → GoodTriple t → (seek t r placeCount ≡ placeCount → seek 0 r placeCount < placeCount) → Access n r → (m : ℕ) × Access m (granted t r)
+granted-access : (t n : ℕ) (r : ℕ → ℕ) → GoodTriple t → (seek t r placeCount ≡ placeCount → seek 0 r placeCount < placeCount) → Access n r
+    → (m : ℕ) × Access m (granted t r)
 granted-access t n r g fits a = go (ltb (seek t r placeCount) placeCount) (below (seek t r placeCount) placeCount) (sought t r placeCount)
   where
     z : seek 0 r placeCount ≡ n
     z = first-zero r n (a .packed)
 
-    go : (b : Bool) → Below (seek t r placeCount) placeCount b → ((seek t r placeCount < placeCount) × (r (seek t r placeCount) ≡ t)) ⊎ ((seek t r placeCount ≡ placeCount) × ((i : ℕ) → i < placeCount → r i ≢ t)) → (m : ℕ) × Access m (pick b r (replace (seek 0 r placeCount) t r))
+    go : (b : Bool) → Below (seek t r placeCount) placeCount b
+        → ((seek t r placeCount < placeCount) × (r (seek t r placeCount) ≡ t)) ⊎ ((seek t r placeCount ≡ placeCount) × ((i : ℕ) → i < placeCount → r i ≢ t))
+        → (m : ℕ) × Access m (pick b r (replace (seek 0 r placeCount) t r))
     go true (under h) s = (n, a)
     go false (over h) (inl s) = absurd (omega (arith, s .0))
     go false (over h) (inr s) = (
@@ -44,7 +47,8 @@ closed-access k n r a = go (ltb k n) (below k n)
     go false (over h) = (n, rw (close-idle r n k (a .packed) h) a)
 
 module _ (d : Tables) (w : WellFormed d) (s : Secure d) (e t : ℕ) (here : 1 ≤ d .entity e kind) (g : GoodTriple t) where
-  grant-ok : (seek t (triples d e) placeCount ≡ placeCount → seek 0 (triples d e) placeCount < placeCount) → EntityOk (d .entity e) → EntityOk (written (row triple (granted t (triples d e))) (d .entity e))
+  grant-ok : (seek t (triples d e) placeCount ≡ placeCount → seek 0 (triples d e) placeCount < placeCount) → EntityOk (d .entity e)
+      → EntityOk (written (row triple (granted t (triples d e))) (d .entity e))
   grant-ok fits o = let n = granted-access t (o .access .0) (triples d e) g fits (o .access .1) in search arith
 
   pub grant-wellFormed : (seek t (triples d e) placeCount ≡ placeCount → seek 0 (triples d e) placeCount < placeCount) → WellFormed (grant e t d)

@@ -45,14 +45,16 @@ module _ (d : Tables) (w : WellFormed d) where
   maximum-wellFormed e v t h = let n = each EntityOk (word maximum v) e (d .entity) (w .entities) (maximum-ok e v t h (w .entities e)) in search
 
   -- 19 release
-  release-ok : (u e : ℕ) → d .entity e kind ≡ containerKind → (1 ≤ u) × (u ≤ userCount) → EntityOk (d .entity e) → EntityOk (written (word type releasedType and word releaser u) (d .entity e))
+  release-ok : (u e : ℕ) → d .entity e kind ≡ containerKind → (1 ≤ u) × (u ≤ userCount) → EntityOk (d .entity e)
+      → EntityOk (written (word type releasedType and word releaser u) (d .entity e))
   release-ok u e t h o = search arith
 
   pub release-wellFormed : (u e : ℕ) → d .entity e kind ≡ containerKind → (1 ≤ u) × (u ≤ userCount) → WellFormed (release u e d)
   release-wellFormed u e t h = let n = each EntityOk (word type releasedType and word releaser u) e (d .entity) (w .entities) (release-ok u e t h (w .entities e)) in search
 
   -- 14 current roles
-  current-ok : (u v : ℕ) → d .user u present ≢ 0 → v < roleSets → (d .user u device ≡ 0 → v ≡ 0) → UserOk (d .user u) → UserOk (written (userWord current v) (d .user u))
+  current-ok : (u v : ℕ) → d .user u present ≢ 0 → v < roleSets → (d .user u device ≡ 0 → v ≡ 0) → UserOk (d .user u)
+      → UserOk (written (userWord current v) (d .user u))
   current-ok u v p h off o = search arith
 
   pub current-wellFormed : (u v : ℕ) → d .user u present ≢ 0 → v < roleSets → (d .user u device ≡ 0 → v ≡ 0) → WellFormed (setCurrent u v d)

@@ -29,7 +29,8 @@ use Rattle.model.specs.Tables.Words.{Tables, clearance, count, counts, c
 use Rattle.model.specs.Tables.Words.{level, mark, placeCount, places, tripleOf, triples, userCount, whoRole}
 
 -- some number below n passes
-agrees-some : (n : ℕ) (p : ℕ → Bool) (P : ℕ → Type 0) → ((i : ℕ) → Agrees (p i) (P i)) → Agrees (not (every n (λ i. not (p i)))) ((i : ℕ) × (i < n) × P i)
+agrees-some : (n : ℕ) (p : ℕ → Bool) (P : ℕ → Type 0) → ((i : ℕ) → Agrees (p i) (P i))
+    → Agrees (not (every n (λ i. not (p i)))) ((i : ℕ) × (i < n) × P i)
 unfolding every
 agrees-some zero p P a = record { to = λ t. absurd t; from = λ z. absurd (omega (arith, z .1)) }
 agrees-some (suc n) p P a = go (p n) (every n (λ i. not (p i))) (a n) (agrees-some n p P a)
@@ -58,7 +59,8 @@ permits-agrees d u o k e = agrees-or (member-agrees (triples d e) placeCount (tr
     (λ r. agrees-and (role-agrees d u r) (member-agrees (triples d e) placeCount (tripleOf (whoRole r) o k)))))
 
 -- one more entity on the way
-open-first : (d : Tables) (u e : ℕ) (es : List ℕ) → (d .entity e mark ≢ 0 → AtMost (d .entity e level) (d .user u clearance)) → Open d u es → Open d u (e ∷ es)
+open-first : (d : Tables) (u e : ℕ) (es : List ℕ) → (d .entity e mark ≢ 0 → AtMost (d .entity e level) (d .user u clearance)) → Open d u es
+    → Open d u (e ∷ es)
 open-first d u e es f g z m n = first (List·Memᴰ·cases-cons m)
   where
     first : (z ≡ e) ⊎ List·Memᴰ z es → AtMost (d .entity z level) (d .user u clearance)
@@ -69,13 +71,16 @@ open-first d u e es f g z m n = first (List·Memᴰ·cases-cons m)
 pub open-agrees : (d : Tables) (u : ℕ) (w : List ℕ) → Agrees (not (bars d (d .user u clearance) w)) (Open d u w)
 unfolding bars
 open-agrees d u [] = record { to = λ t y m. absurd (List·Memᴰ·not-nil m); from = λ f. tt }
-open-agrees d u (e ∷ es) = go (eqb (d .entity e mark) 0) (atMost (d .entity e level) (d .user u clearance)) (agrees-eq (d .entity e mark) 0) refl (open-agrees d u es)
+open-agrees d u (e ∷ es) =
+    go (eqb (d .entity e mark) 0) (atMost (d .entity e level) (d .user u clearance)) (agrees-eq (d .entity e mark) 0) refl (open-agrees d u es)
   where
     go : (a b : Bool) → Agrees a (d .entity e mark ≡ 0) → atMost (d .entity e level) (d .user u clearance) ≡ b
         → Agrees (not (bars d (d .user u clearance) es)) (Open d u es)
         → Agrees (not (elim (not a && not b) [ true ↦ true | false ↦ bars d (d .user u clearance) es ])) (Open d u (e ∷ es))
-    go true b x y ih = record { to = λ t. open-first d u e es (λ n. absurd (n (x .to tt))) (ih .to t); from = λ f. ih .from (λ z m. f z (List·Memᴰ·tail m)) }
-    go false true x y ih = record { to = λ t. open-first d u e es (λ n. is-true _ y) (ih .to t); from = λ f. ih .from (λ z m. f z (List·Memᴰ·tail m)) }
+    go true b x y ih =
+        record { to = λ t. open-first d u e es (λ n. absurd (n (x .to tt))) (ih .to t); from = λ f. ih .from (λ z m. f z (List·Memᴰ·tail m)) }
+    go false true x y ih =
+        record { to = λ t. open-first d u e es (λ n. is-true _ y) (ih .to t); from = λ f. ih .from (λ z m. f z (List·Memᴰ·tail m)) }
     go false false x y ih = record { to = λ t. absurd t; from = λ f. subst T y (f e (List·Memᴰ·head refl) (λ q. absurd (x .from q))) }
 
 module _ (d : Tables) (w : WellFormed d) where
@@ -85,7 +90,8 @@ module _ (d : Tables) (w : WellFormed d) where
   -- Rule 6.2: e stands on no device.
   pub screen-agrees : (e : ℕ) → Agrees (not (onScreen d e)) ((x : ℕ) → kinds d x ≡ deviceKind → Holds d x e → ⊥)
   unfolding onScreen
-  screen-agrees e = agrees-twice (agrees-range entityCount (λ v. imp (eqb (kinds d v) deviceKind) (not (ltb (seek e (places d v) (counts d v)) (counts d v))))
+  screen-agrees e =
+      agrees-twice (agrees-range entityCount (λ v. imp (eqb (kinds d v) deviceKind) (not (ltb (seek e (places d v) (counts d v)) (counts d v))))
       (λ x. kinds d x ≡ deviceKind → Holds d x e → ⊥)
       (λ v. agrees-imp (agrees-eq (kinds d v) deviceKind) (agrees-not (member-agrees (places d v) (counts d v) e)))
       (λ k. absurd (omega (arith, bound .entityOut 0 (inl refl) kind))) (λ x r k. absurd (omega (arith, bound .entityOut x (inr r) kind))))

@@ -22,7 +22,8 @@ withNumber-sound n [] o e = absurd (none-some e)
     none-some e = let z : _≡_ {A = ℕ} 0 1 = cc in omega arith
 withNumber-sound n (p ∷ os) o e = go (eqb (numberOf p) n) (same (numberOf p) n) e (withNumber-sound n os o)
   where
-    go : (b : Bool) → Same (numberOf p) n b → elim b [ true ↦ some p | false ↦ withNumber n os ] ≡ some o → (withNumber n os ≡ some o → numberOf o ≡ n) → numberOf o ≡ n
+    go : (b : Bool) → Same (numberOf p) n b → elim b [ true ↦ some p | false ↦ withNumber n os ] ≡ some o
+        → (withNumber n os ≡ some o → numberOf o ≡ n) → numberOf o ≡ n
     go true (it q) e ih = let z : p ≡ o = cc in ap numberOf (sym z) ∙ q
     go false (other q) e ih = ih e
 

@@ -96,7 +96,8 @@ module _ (d : Tables) (s : Asked) where
   pub grantNoRoom-fails : Fails (grantNoRoom d s)
       (seek (namedTriple s) (triples d (s .first)) placeCount ≡ placeCount → seek 0 (triples d (s .first)) placeCount < placeCount)
   unfolding grantNoRoom
-  grantNoRoom-fails = fails-and (at-end (seek (namedTriple s) (triples d (s .first)) placeCount) (sought (namedTriple s) (triples d (s .first)) placeCount))
+  grantNoRoom-fails =
+      fails-and (at-end (seek (namedTriple s) (triples d (s .first)) placeCount) (sought (namedTriple s) (triples d (s .first)) placeCount))
       (fails-le placeCount (seek 0 (triples d (s .first)) placeCount))
     where
       at-end : (k : ℕ) → Sought (namedTriple s) (triples d (s .first)) placeCount k → Agrees (leb placeCount k) (k ≡ placeCount)

@@ -37,7 +37,8 @@ follow-reads d e (p ∷ ps) h = go (placeTest d e p) (place-agrees d e p .to) h 
 pub reads-follow : {d : Tables} {e x : ℕ} {ps w : List ℕ} → Reads d e ps w x → (follow d e ps ≡ x) × (passed d e ps ≡ w)
 unfolding follow passed
 reads-follow here = (refl, refl)
-reads-follow {d} (further {e = e} {p = p} {ps = ps} {x = x} l h r) = (go (placeTest d e p) (place-agrees d e p .from (l, h)) (reads-follow r .0), ap (λ (v : List ℕ). e ∷ v) (reads-follow r .1))
+reads-follow {d} (further {e = e} {p = p} {ps = ps} {x = x} l h r) =
+    (go (placeTest d e p) (place-agrees d e p .from (l, h)) (reads-follow r .0), ap (λ (v : List ℕ). e ∷ v) (reads-follow r .1))
   where
     go : (b : Bool) → T b → follow d (standing d e p) ps ≡ x → elim b [ true ↦ follow d (standing d e p) ps | false ↦ 0 ] ≡ x
     go true t q = q
@@ -49,7 +50,8 @@ unfolding resolve basis
 resolve-leads d [] h = absurd (h refl)
 resolve-leads d (e ∷ ps) h = go (presentTest d e) (present-agrees d e .to) h
   where
-    go : (b : Bool) → (T b → Present d e) → _≢_ {A = ℕ} (elim b [ true ↦ follow d e ps | false ↦ 0 ]) 0 → Leads d (e ∷ ps) (passed d e ps) (elim b [ true ↦ follow d e ps | false ↦ 0 ])
+    go : (b : Bool) → (T b → Present d e) → _≢_ {A = ℕ} (elim b [ true ↦ follow d e ps | false ↦ 0 ]) 0
+        → Leads d (e ∷ ps) (passed d e ps) (elim b [ true ↦ follow d e ps | false ↦ 0 ])
     go true f n = begins (f tt) (follow-reads d e ps n)
     go false f n = absurd (n refl)
 

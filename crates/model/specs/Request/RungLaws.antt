@@ -74,7 +74,8 @@ module _ (d : Tables) (q : Request) where
     -- Rule 7.9: the way to each operand is open.
     pub notCleared-fails : Fails (notCleared d q) ((k : ℕ) → Operand o k → Open d (q .user) (basisOf (asked d q) k))
     unfolding notCleared
-    notCleared-fails = operands-fail (λ o k. bars d (d .user (q .user) clearance) (basisOf (asked d q) k)) (λ k. Open d (q .user) (basisOf (asked d q) k))
+    notCleared-fails =
+        operands-fail (λ o k. bars d (d .user (q .user) clearance) (basisOf (asked d q) k)) (λ k. Open d (q .user) (basisOf (asked d q) k))
         (λ k. fails-where (bars d (d .user (q .user) clearance) (basisOf (asked d q) k)) (open-agrees d (q .user) (basisOf (asked d q) k)))
 
     -- Rule 7.10: each operand is of the kind that is asked.
@@ -87,4 +88,5 @@ module _ (d : Tables) (q : Request) where
     -- Rules 7.11 to 7.16: the operation's own condition of that number does not apply.
     pub ownRung-fails : (n : ℕ) → Fails (ownRung n d q) (T (not (refused n (rowOf o .conditions) d (asked d q))))
     unfolding ownRung
-    ownRung-fails n = ofOp-fails q o named (λ o. refused n (rowOf o .conditions) d (asked d q)) (fails-T (refused n (rowOf o .conditions) d (asked d q)))
+    ownRung-fails n =
+        ofOp-fails q o named (λ o. refused n (rowOf o .conditions) d (asked d q)) (fails-T (refused n (rowOf o .conditions) d (asked d q)))

@@ -55,7 +55,8 @@ module _ (k n : ℕ → ℕ) (at : ℕ → ℕ → ℕ) (dev : ℕ → ℕ) (ent
   unfolding parent spotOf
   parent-top a e x h = go (ltb (spotOf k n at a) entityCount) (below (spotOf k n at a) entityCount) (sought 1 (λ i. pick (inTest k n at (suc i) a) 1 0) entityCount) e x h (boxed x a h)
     where
-      go : (b : Bool) → Below (spotOf k n at a) entityCount b → Sought 1 (λ i. pick (inTest k n at (suc i) a) 1 0) entityCount (spotOf k n at a) → pick b (suc (spotOf k n at a)) 0 ≡ 0 → (x : ℕ) → In k n at x a → (1 ≤ x) × (x ≤ entityCount) → ⊥
+      go : (b : Bool) → Below (spotOf k n at a) entityCount b → Sought 1 (λ i. pick (inTest k n at (suc i) a) 1 0) entityCount (spotOf k n at a)
+          → pick b (suc (spotOf k n at a)) 0 ≡ 0 → (x : ℕ) → In k n at x a → (1 ≤ x) × (x ≤ entityCount) → ⊥
       go true (under l) s e x h r = let z : suc (spotOf k n at a) ≡ 0 = e in omega arith
       go false (over l) (inl s) e x h r = omega (arith, s .0)
       go false (over l) (inr s) e zero h r = omega arith
@@ -63,9 +64,11 @@ module _ (k n : ℕ → ℕ) (at : ℕ → ℕ → ℕ) (dev : ℕ → ℕ) (ent
 
   pub parent-holds : (a : ℕ) → parent k n at a ≢ 0 → In k n at (parent k n at a) a
   unfolding parent spotOf
-  parent-holds a e = go (ltb (spotOf k n at a) entityCount) (below (spotOf k n at a) entityCount) (sought 1 (λ i. pick (inTest k n at (suc i) a) 1 0) entityCount) e
+  parent-holds a e =
+      go (ltb (spotOf k n at a) entityCount) (below (spotOf k n at a) entityCount) (sought 1 (λ i. pick (inTest k n at (suc i) a) 1 0) entityCount) e
     where
-      go : (b : Bool) → Below (spotOf k n at a) entityCount b → Sought 1 (λ i. pick (inTest k n at (suc i) a) 1 0) entityCount (spotOf k n at a) → pick b (suc (spotOf k n at a)) 0 ≢ 0 → In k n at (pick b (suc (spotOf k n at a)) 0) a
+      go : (b : Bool) → Below (spotOf k n at a) entityCount b → Sought 1 (λ i. pick (inTest k n at (suc i) a) 1 0) entityCount (spotOf k n at a)
+          → pick b (suc (spotOf k n at a)) 0 ≢ 0 → In k n at (pick b (suc (spotOf k n at a)) 0) a
       go true (under l) (inl s) e = in-agrees k n at (suc (spotOf k n at a)) a .to (yes-one (inTest k n at (suc (spotOf k n at a)) a) (s .1))
       go true (under l) (inr s) e = absurd (omega (arith, s .0))
       go false (over l) s e = absurd (e refl)
@@ -98,13 +101,16 @@ module _ (k n : ℕ → ℕ) (at : ℕ → ℕ → ℕ) (dev : ℕ → ℕ) (ent
       (λ f i h. complete entityCount (In k n at) (parent k n at) parent-top parent-holds one boxed f (suc i))
       (agrees-every entityCount (λ e. up (parent k n at) (suc entityCount) (suc e)) (λ e. T (up (parent k n at) (suc entityCount) (suc e))) (λ e. record { to = λ t. t; from = λ t. t }))
     where
-      low : ((i : ℕ) → i < entityCount → T (up (parent k n at) (suc entityCount) (suc i))) → (e : ℕ) → Inside (In k n at) e e → (1 ≤ e) × (e ≤ entityCount) → ⊥
+      low : ((i : ℕ) → i < entityCount → T (up (parent k n at) (suc entityCount) (suc i))) → (e : ℕ) → Inside (In k n at) e e
+          → (1 ≤ e) × (e ≤ entityCount) → ⊥
       low g zero p r = omega arith
-      low g (suc e) p r = sound entityCount (In k n at) (parent k n at) parent-top parent-holds one boxed (suc entityCount) (suc e) (g e (omega arith)) p
+      low g (suc e) p r =
+          sound entityCount (In k n at) (parent k n at) parent-top parent-holds one boxed (suc entityCount) (suc e) (g e (omega arith)) p
 
   device-agrees : Agrees (deviceTest k n at dev) ((u : ℕ) → dev u ≢ 0 → k (dev u) ≡ deviceKind)
   unfolding deviceTest
-  device-agrees = agrees-range userCount (λ u. imp (not (eqb (dev u) 0)) (eqb (k (dev u)) deviceKind)) (λ u. dev u ≢ 0 → k (dev u) ≡ deviceKind) (λ u. search agreement)
+  device-agrees =
+      agrees-range userCount (λ u. imp (not (eqb (dev u) 0)) (eqb (k (dev u)) deviceKind)) (λ u. dev u ≢ 0 → k (dev u) ≡ deviceKind) (λ u. search agreement)
       (λ q. absurd (q (userOut 0 (inl refl)))) (λ u o q. absurd (q (userOut u (inr o))))
 
   alone-agrees : Agrees (aloneTest k n at dev) ((u v : ℕ) → dev u ≢ 0 → dev u ≡ dev v → u ≡ v)
@@ -123,7 +129,8 @@ module _ (k n : ℕ → ℕ) (at : ℕ → ℕ → ℕ) (dev : ℕ → ℕ) (ent
       (agrees-range userCount (λ u. not (eqb (dev u) (suc e))) (λ u. dev u ≢ suc e) (λ u. search agreement) (λ q. omega (arith, userOut 0 (inl refl))) (λ u o q. omega (arith, userOut u (inr o))))
       (agrees-eq (n (suc e)) 0))))
     where
-      low : ((e : ℕ) → e < entityCount → k (suc e) ≡ deviceKind → ((u : ℕ) → dev u ≢ suc e) → n (suc e) ≡ 0) → (e : ℕ) → k e ≡ deviceKind → ((u : ℕ) → dev u ≢ e) → (b : Bool) → Below e (suc entityCount) b → n e ≡ 0
+      low : ((e : ℕ) → e < entityCount → k (suc e) ≡ deviceKind → ((u : ℕ) → dev u ≢ suc e) → n (suc e) ≡ 0) → (e : ℕ) → k e ≡ deviceKind
+          → ((u : ℕ) → dev u ≢ e) → (b : Bool) → Below e (suc entityCount) b → n e ≡ 0
       low f zero h z b l = entityOut 0 (inl refl) .1
       low f (suc e) h z true (under l) = f e (omega arith) h z
       low f (suc e) h z false (over l) = entityOut (suc e) (inr (omega arith)) .1

@@ -38,7 +38,8 @@ module _ (d : Tables) (w : WellFormed d) where
       (λ s i h l. s (places d e i) (i, l, refl))
       (search (agreement, agrees-T))
 
-  seen-agrees : (u : ℕ) → Agrees (seenTest d u) ((c : ℕ) → devices d u ≢ 0 → Holds d (devices d u) c → AtMost (d .entity c level) (d .user u clearance))
+  seen-agrees : (u : ℕ)
+      → Agrees (seenTest d u) ((c : ℕ) → devices d u ≢ 0 → Holds d (devices d u) c → AtMost (d .entity c level) (d .user u clearance))
   unfolding seenTest
   seen-agrees u = agrees-as {P = devices d u ≢ 0 → (i : ℕ) → i < placeCount → i < counts d (devices d u) → AtMost (d .entity (places d (devices d u) i) level) (d .user u clearance)}
       (λ f c n m. subst (λ (y : ℕ). AtMost (d .entity y level) (d .user u clearance)) (m .2) (f n (m .0) (omega (arith, m .1, room (devices d u))) (m .1)))
@@ -97,7 +98,8 @@ judge-good d o e = go (wellFormedTest d) (secureTest d) (wellFormed-agrees d o .
 -- and well-formed, secure tables are answered 0
 pub good-judged : (d : Tables) → Good d → judge d ≡ 0
 unfolding judge
-good-judged d g = go (wellFormedTest d) (secureTest d) (wellFormed-agrees d (wellFormed-bounded d (g .0)) .from (g .0)) (secure-agrees d (g .0) .from (g .1))
+good-judged d g =
+    go (wellFormedTest d) (secureTest d) (wellFormed-agrees d (wellFormed-bounded d (g .0)) .from (g .0)) (secure-agrees d (g .0) .from (g .1))
   where
     go : (a b : Bool) → T a → T b → _≡_ {A = ℕ} (pick a (pick b 0 3) 2) 0
     go true true s t = refl

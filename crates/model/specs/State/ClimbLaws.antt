@@ -74,7 +74,8 @@ module _ (n : ℕ) (H : ℕ → ℕ → Type 0) (par : ℕ → ℕ) (top : (a : 
   high zero a e j h = absurd (not-suc-le-zero h)
   high (suc m) a e j h = go (eqb (par a) 0) (same (par a) 0) (high m (par a)) e j h
     where
-      go : (b : Bool) → Same (par a) 0 b → (up par m (par a) ≡ false → (j : ℕ) → j < m → par (chain (par a) j) ≢ 0) → pick b true (up par m (par a)) ≡ false → (j : ℕ) → j < suc m → par (chain a j) ≢ 0
+      go : (b : Bool) → Same (par a) 0 b → (up par m (par a) ≡ false → (j : ℕ) → j < m → par (chain (par a) j) ≢ 0)
+          → pick b true (up par m (par a)) ≡ false → (j : ℕ) → j < suc m → par (chain a j) ≢ 0
       go true (it z) ih e j h = absurd (subst T e tt)
       go false (other z) ih e zero h = z
       go false (other z) ih e (suc j) h = subst (λ (y : ℕ). par y ≢ 0) (shift a j) (ih e j (le-of-suc-le-suc h))
@@ -117,7 +118,8 @@ module _ (n : ℕ) (H : ℕ → ℕ → Type 0) (par : ℕ → ℕ) (top : (a : 
       step z (inl q) = inr (direct (subst (λ (y : ℕ). H y c) q (holds c z)))
       step z (inr p) = inr (lift c (holds c z) p)
 
-      go : (a b : Bool) → Same c e a → Same (par c) 0 b → (T (climb par m (par c) e) → Within H (par c) e) → T (pick a true (pick b false (climb par m (par c) e))) → Within H c e
+      go : (a b : Bool) → Same c e a → Same (par c) 0 b → (T (climb par m (par c) e) → Within H (par c) e)
+          → T (pick a true (pick b false (climb par m (par c) e))) → Within H c e
       go true b (it q) z ih t = inl q
       go false true (other q) (it z) ih t = absurd t
       go false false (other q) (other z) ih t = step z (ih t)
@@ -127,7 +129,8 @@ module _ (n : ℕ) (H : ℕ → ℕ → Type 0) (par : ℕ → ℕ) (top : (a : 
   climb-complete zero c e u w = absurd u
   climb-complete (suc m) c e u w = go (eqb c e) (eqb (par c) 0) (same c e) (same (par c) 0) (climb-complete m (par c) e) u w
     where
-      go : (a b : Bool) → Same c e a → Same (par c) 0 b → (T (up par m (par c)) → Within H (par c) e → T (climb par m (par c) e)) → T (pick b true (up par m (par c))) → Within H c e
+      go : (a b : Bool) → Same c e a → Same (par c) 0 b → (T (up par m (par c)) → Within H (par c) e → T (climb par m (par c) e))
+          → T (pick b true (up par m (par c))) → Within H c e
           → T (pick a true (pick b false (climb par m (par c) e)))
       go true b (it q) z ih u w = tt
       go false true (other q) (it z) ih u (inl r) = q r

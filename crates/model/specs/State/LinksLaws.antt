@@ -40,7 +40,8 @@ module _ (k n : ℕ → ℕ) (at : ℕ → ℕ → ℕ) (dev : ℕ → ℕ) (l :
     pub grown : (x a : ℕ) → Member (place+ x) (count+ x) a → Member (at x) (n x) a ⊎ ((x ≡ c) × (a ≡ e))
     grown x a h = go (member-cases x c a (suc (n c)) (n x) (replace (n c) e (at c)) (at x) h)
       where
-        go : ((x ≡ c) × Member (replace (n c) e (at c)) (suc (n c)) a) ⊎ ((x ≢ c) × Member (at x) (n x) a) → Member (at x) (n x) a ⊎ ((x ≡ c) × (a ≡ e))
+        go : ((x ≡ c) × Member (replace (n c) e (at c)) (suc (n c)) a) ⊎ ((x ≢ c) × Member (at x) (n x) a)
+            → Member (at x) (n x) a ⊎ ((x ≡ c) × (a ≡ e))
         go (inr q) = inl (q .1)
         go (inl q) = last (append-member (at c) (n c) e a (q .1))
           where
@@ -55,7 +56,8 @@ module _ (k n : ℕ → ℕ) (at : ℕ → ℕ → ℕ) (dev : ℕ → ℕ) (l :
         go (inl m) = inl (p .0, m)
         go (inr q) = inr q
 
-    pub attach : (1 ≤ k e) × (k e ≤ 2) → (k c ≡ containerKind → (b : ℕ) → In k n at b e → ⊥) → (Within (In k n at) c e → ⊥) → (k c ≡ deviceKind → (u : ℕ) × (dev u ≡ c)) → Linked k count+ place+ dev
+    pub attach : (1 ≤ k e) × (k e ≤ 2) → (k c ≡ containerKind → (b : ℕ) → In k n at b e → ⊥) → (Within (In k n at) c e → ⊥)
+        → (k c ≡ deviceKind → (u : ℕ) × (dev u ≡ c)) → Linked k count+ place+ dev
     attach thing free apart on = record {
       contents = λ x a h. whole x a (grown x a h);
       oneContainer = λ a x y p q. alone a x y p q (one-more x a p) (one-more y a q);
@@ -69,7 +71,8 @@ module _ (k n : ℕ → ℕ) (at : ℕ → ℕ → ℕ) (dev : ℕ → ℕ) (l :
         whole x a (inl m) = l .contents x a m
         whole x a (inr q) = rw (q .1) thing
 
-        alone : (a x y : ℕ) → In k count+ place+ x a → In k count+ place+ y a → In k n at x a ⊎ ((x ≡ c) × (a ≡ e)) → In k n at y a ⊎ ((y ≡ c) × (a ≡ e)) → x ≡ y
+        alone : (a x y : ℕ) → In k count+ place+ x a → In k count+ place+ y a → In k n at x a ⊎ ((x ≡ c) × (a ≡ e))
+            → In k n at y a ⊎ ((y ≡ c) × (a ≡ e)) → x ≡ y
         alone a x y p′ q′ (inl p) (inl q) = l .oneContainer a x y p q
         alone a x y p′ q′ (inl p) (inr q) = absurd (free (ap k (sym (q .0)) ∙ q′ .0) x (rw (q .1) at p))
         alone a x y p′ q′ (inr p) (inl q) = absurd (free (ap k (sym (p .0)) ∙ p′ .0) y (rw (p .1) at q))
@@ -115,7 +118,8 @@ module _ (k n : ℕ → ℕ) (at : ℕ → ℕ → ℕ) (dev : ℕ → ℕ) (l :
         go (inr q) = q .1
 
     still-in : (b c : ℕ) → In kind- count- place- b c → In k n at b c
-    still-in b c p = (case (λ (y : ℕ). y ≡ containerKind → k b ≡ containerKind) b e 0 (k b) (λ q z. absurd (omega arith)) (λ q z. z) (p .0), still b c (p .1))
+    still-in b c p =
+        (case (λ (y : ℕ). y ≡ containerKind → k b ≡ containerKind) b e 0 (k b) (λ q z. absurd (omega arith)) (λ q z. z) (p .0), still b c (p .1))
 
     pub vanish : Linked kind- count- place- dev
     vanish = record {

@@ -13,7 +13,8 @@ flat true a = refl
 flat false a = refl
 
 -- a property of a record holds of all of them after an edit, if it holds of all before and of those edited
-pub all : {W : Type 0} (P : (W → ℕ) → Type 0) (test : ℕ → Bool) (E : ℕ → Edit W) (r : ℕ → W → ℕ) → ((x : ℕ) → P (r x)) → ((x : ℕ) → T (test x) → P (written (E x) (r x))) → (x : ℕ) → P (edited test E r x)
+pub all : {W : Type 0} (P : (W → ℕ) → Type 0) (test : ℕ → Bool) (E : ℕ → Edit W) (r : ℕ → W → ℕ) → ((x : ℕ) → P (r x))
+    → ((x : ℕ) → T (test x) → P (written (E x) (r x))) → (x : ℕ) → P (edited test E r x)
 all P test E r old new x = go (test x) (new x)
   where
     go : (b : Bool) → (T b → P (written (E x) (r x))) → P (λ f. pick (E x .touched f) (pick b (E x .value f) (r x f)) (r x f))
@@ -21,7 +22,8 @@ all P test E r old new x = go (test x) (new x)
     go false f = subst P (fun-ext (λ f. sym (flat (E x .touched f) (r x f)))) (old x)
 
 -- the same where one record is edited
-pub each : {W : Type 0} (P : (W → ℕ) → Type 0) (E : Edit W) (e : ℕ) (r : ℕ → W → ℕ) → ((x : ℕ) → P (r x)) → P (written E (r e)) → (x : ℕ) → P (edited (λ x. eqb x e) (λ x. E) r x)
+pub each : {W : Type 0} (P : (W → ℕ) → Type 0) (E : Edit W) (e : ℕ) (r : ℕ → W → ℕ) → ((x : ℕ) → P (r x)) → P (written E (r e)) → (x : ℕ)
+    → P (edited (λ x. eqb x e) (λ x. E) r x)
 each P E e r old new = all P (λ x. eqb x e) (λ x. E) r old (λ x t. subst (λ (y : ℕ). P (written E (r y))) (sym (eqb→eq x e t)) new)
 
 -- a column's value at the edited record, or elsewhere

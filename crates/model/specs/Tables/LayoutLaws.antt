@@ -55,14 +55,17 @@ entity-laid = record { named = entity-word-same; apart = apart }
         (omega arith, sym (entity-word-back g (a .2)) ∙ ap entityWordAt o ∙ entity-word-back f (b .2))
 
 -- a store at another spot leaves a word as it was
-told-other : {W : Type 0} (inside : ℕ → W → Bool) (spot : ℕ → W → ℕ) (t : List ℕ) (k v x : ℕ) (g : W) → (T (inside x g) → spot x g ≢ k) → told inside spot (set t k v) x g ≡ told inside spot t x g
-told-other inside spot t k v x g n = guard-same (inside x g) (getD (set t k v) (spot x g) 0) (getD t (spot x g) 0) (λ i. getD-set-other t k (spot x g) v 0 (n i))
+told-other : {W : Type 0} (inside : ℕ → W → Bool) (spot : ℕ → W → ℕ) (t : List ℕ) (k v x : ℕ) (g : W) → (T (inside x g) → spot x g ≢ k)
+    → told inside spot (set t k v) x g ≡ told inside spot t x g
+told-other inside spot t k v x g n =
+    guard-same (inside x g) (getD (set t k v) (spot x g) 0) (getD t (spot x g) 0) (λ i. getD-set-other t k (spot x g) v 0 (n i))
 
 -- a store at the spot of word f of record e is an edit of that word
 told-set : {W : Type 0} (tagOf placeOf : W → ℕ) (inside : ℕ → W → Bool) (spot : ℕ → W → ℕ) → Laid W tagOf placeOf inside spot
     → (t : List ℕ) (e : ℕ) (f : W) (v : ℕ) → T (inside e f) → spot e f < length t → (x : ℕ) (g : W)
     → told inside spot (set t (spot e f) v) x g ≡ edited (λ y. eqb y e) (λ y. one tagOf placeOf f v) (told inside spot t) x g
-told-set {W} tagOf placeOf inside spot l t e f v i r x g = go (eqb (tagOf g) (tagOf f)) (eqb (placeOf g) (placeOf f)) (eqb x e) (same (tagOf g) (tagOf f)) (same (placeOf g) (placeOf f)) (same x e)
+told-set {W} tagOf placeOf inside spot l t e f v i r x g =
+    go (eqb (tagOf g) (tagOf f)) (eqb (placeOf g) (placeOf f)) (eqb x e) (same (tagOf g) (tagOf f)) (same (placeOf g) (placeOf f)) (same x e)
   where
     here : told inside spot (set t (spot e f) v) e f ≡ v
     here = guard-in (inside e f) (getD (set t (spot e f) v) (spot e f) 0) i ∙ getD-set-same t (spot e f) v 0 r

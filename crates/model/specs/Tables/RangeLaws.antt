@@ -46,7 +46,8 @@ user-in u f t =
 
 -- and it passes if that is so
 pub in-user : (u : ℕ) (f : UserWord) → userOffset f < userWidth → 1 ≤ u → u ≤ userCount → T (userIn u f)
-in-user u f h a b = from-three (ltb (userOffset f) userWidth) (leb 1 u) (leb u userCount) (lt→ltb (userOffset f) userWidth h) (le→leb 1 u a) (le→leb u userCount b)
+in-user u f h a b =
+    from-three (ltb (userOffset f) userWidth) (leb 1 u) (leb u userCount) (lt→ltb (userOffset f) userWidth h) (le→leb 1 u a) (le→leb u userCount b)
 
 -- the guard of an entity's word says that there is such an entity, and such a place in the row
 pub entity-in : (e : ℕ) (f : EntityWord) → T (entityIn e f) → (1 ≤ e) × (e ≤ entityCount) × (index f < placeCount)
@@ -56,4 +57,5 @@ entity-in e f t =
 
 -- and it passes if that is so
 pub in-entity : (e : ℕ) (f : EntityWord) → 1 ≤ e → e ≤ entityCount → index f < placeCount → T (entityIn e f)
-in-entity e f a b h = from-three (leb 1 e) (leb e entityCount) (ltb (index f) placeCount) (le→leb 1 e a) (le→leb e entityCount b) (lt→ltb (index f) placeCount h)
+in-entity e f a b h =
+    from-three (leb 1 e) (leb e entityCount) (ltb (index f) placeCount) (le→leb 1 e a) (le→leb e entityCount b) (lt→ltb (index f) placeCount h)

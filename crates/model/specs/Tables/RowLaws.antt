@@ -115,7 +115,8 @@ module _ (v : ℕ) (row : ℕ → ℕ) (n : ℕ) (p : Packed row n) where
   pub without-member : (c : ℕ) → Member (without v row n) (left v row n) c → Member row n c × (c ≢ v)
   without-member c = go (ltb (seek v row n) n) (below (seek v row n) n) (sought v row n)
     where
-      go : (b : Bool) → Below (seek v row n) n b → Sought v row n (seek v row n) → Member (without v row n) (pick b (pred n) n) c → Member row n c × (c ≢ v)
+      go : (b : Bool) → Below (seek v row n) n b → Sought v row n (seek v row n) → Member (without v row n) (pick b (pred n) n) c
+          → Member row n c × (c ≢ v)
       go true (under h) (inl s) m = rw (s .1) at (close-member row n (seek v row n) p h c m)
       go true (under h) (inr s) m = absurd (omega (arith, s .0))
       go false (over h) (inl s) m = absurd (omega (arith, s .0))
@@ -136,7 +137,8 @@ unfolding seek
 before v row zero i h = absurd (not-suc-le-zero h)
 before v row (suc n) i h = go (eqb (row zero) v) (same (row zero) v) (before v (λ j. row (suc j)) n) i h
   where
-    go : (b : Bool) → Same (row zero) v b → ((j : ℕ) → j < seek v (λ j. row (suc j)) n → row (suc j) ≢ v) → (i : ℕ) → i < pick b zero (suc (seek v (λ j. row (suc j)) n)) → row i ≢ v
+    go : (b : Bool) → Same (row zero) v b → ((j : ℕ) → j < seek v (λ j. row (suc j)) n → row (suc j) ≢ v) → (i : ℕ)
+        → i < pick b zero (suc (seek v (λ j. row (suc j)) n)) → row i ≢ v
     go true (it e) ih i h = absurd (not-suc-le-zero h)
     go false (other e) ih zero h = e
     go false (other e) ih (suc i) h = ih i (le-of-suc-le-suc h)

@@ -62,7 +62,8 @@ user-parts missed = omega arith
 user-parts (spare i) = omega arith
 
 -- the same of an entity's word among the first eight places of its row, and that it stands within the width of the record
-entity-parts : (f : EntityWord) → index f < placeCount → (min (offset f) (offset f / 8 + 7) ≡ tag f) × ((offset f - 8) % 8 ≡ index f) × (offset f < entityWidth)
+entity-parts : (f : EntityWord) → index f < placeCount
+    → (min (offset f) (offset f / 8 + 7) ≡ tag f) × ((offset f - 8) % 8 ≡ index f) × (offset f < entityWidth)
 entity-parts kind h = omega arith
 entity-parts type h = omega arith
 entity-parts level h = omega arith

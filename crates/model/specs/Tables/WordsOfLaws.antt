@@ -69,7 +69,8 @@ index-of-user d u f t =
     (omega arith, pick-under i entitiesFrom (userAtIndex d i) (entityAtIndex d (i - entitiesFrom)) (omega arith) ∙ ap₂ (d .user) number (ap userWordAt rest ∙ user-word-back f))
 
 -- the same of an entity's word
-index-of-entity : (d : Tables) (e : ℕ) (f : EntityWord) → T (entityIn e f) → (entityAt e f < wordCount) × (wordAtIndex d (entityAt e f) ≡ d .entity e f)
+index-of-entity : (d : Tables) (e : ℕ) (f : EntityWord) → T (entityIn e f)
+    → (entityAt e f < wordCount) × (wordAtIndex d (entityAt e f) ≡ d .entity e f)
 unfolding wordAtIndex
 index-of-entity d e f t =
     let r = entity-in e f t in

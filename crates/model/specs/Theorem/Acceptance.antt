@@ -23,7 +23,8 @@ use Rattle.model.specs.Tables.Words.{Tables}
 use Rattle.model.specs.Theorem.Clear.{Clear, clear-allowed}
 
 -- Rule 7.5: what fits has its arguments in their ranges.
-fits-ranges : (o : Op) (q : Request) → T (fits o q) → T (rangeAt 0 (rowOf o .arguments) (q .a)) × (T (rangeAt 1 (rowOf o .arguments) (q .b)) × T (rangeAt 2 (rowOf o .arguments) (q .c)))
+fits-ranges : (o : Op) (q : Request) → T (fits o q)
+    → T (rangeAt 0 (rowOf o .arguments) (q .a)) × (T (rangeAt 1 (rowOf o .arguments) (q .b)) × T (rangeAt 2 (rowOf o .arguments) (q .c)))
 unfolding fits
 fits-ranges o q t =
     let z = agrees-and (agrees-T (lengthFits 0 (rowOf o .operands) (q .first))) (agrees-and (agrees-T (lengthFits 1 (rowOf o .operands) (q .second)))

@@ -83,7 +83,8 @@ pub record Released (d : Tables) (q : Request) (d′ : Tables) (x : ℕ) : Type 
 
 -- What is released stays so, with its releaser; what becomes released does so by a release.
 pub record ReleaseSecure (d : Tables) (q : Request) (d′ : Tables) : Type 0 where
-  pub stays : (x : ℕ) → Both d d′ x → d .entity x type ≡ releasedType → (d′ .entity x type ≡ releasedType) × (d′ .entity x releaser ≡ d .entity x releaser)
+  pub stays : (x : ℕ) → Both d d′ x → d .entity x type ≡ releasedType
+      → (d′ .entity x type ≡ releasedType) × (d′ .entity x releaser ≡ d .entity x releaser)
   pub becomes : (x : ℕ) → Both d d′ x → d .entity x type ≢ releasedType → d′ .entity x type ≡ releasedType → Released d q d′ x
 
 -- all seven

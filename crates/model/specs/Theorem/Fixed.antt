@@ -15,7 +15,8 @@ use Rattle.model.specs.Tables.EditLaws.{case}
 use Rattle.model.specs.Tables.Words.{Tables, deviceKind, held, heldOp, kinds, missed, present}
 
 -- Every user that was there is there, and no other (rule 8.4).
-pub users-fixed : (o : Op) (d : Tables) → WellFormed d → (s : Asked) → Allowed o s d → (u : ℕ) → rowOf o .effect s d .user u present ≡ d .user u present
+pub users-fixed : (o : Op) (d : Tables) → WellFormed d → (s : Asked) → Allowed o s d → (u : ℕ)
+    → rowOf o .effect s d .user u present ≡ d .user u present
 users-fixed toCreate d w s a u = refl
 users-fixed toDelete d w s a u = refl
 users-fixed toMove d w s a u = refl
@@ -38,7 +39,8 @@ users-fixed toRelease d w s a u = refl
 users-fixed toAcknowledge d w s a u = refl
 
 -- Every device stays a device, and nothing else becomes one (rule 8.4).
-pub devices-fixed : (o : Op) (d : Tables) → WellFormed d → (s : Asked) → Allowed o s d → (x : ℕ) → (kinds (rowOf o .effect s d) x ≡ deviceKind) ↔ (kinds d x ≡ deviceKind)
+pub devices-fixed : (o : Op) (d : Tables) → WellFormed d → (s : Asked) → Allowed o s d → (x : ℕ)
+    → (kinds (rowOf o .effect s d) x ≡ deviceKind) ↔ (kinds d x ≡ deviceKind)
 devices-fixed toCreate d w s a x = case (λ (k : ℕ). (k ≡ deviceKind) ↔ (kinds d x ≡ deviceKind)) x (vacant d) (sortKind (s .a)) (kinds d x)
     (λ q. (λ h. absurd (sort-plain (s .a) h), λ h. absurd (omega (arith, h, ap (kinds d) q, vacant-absent d (a .number)))))
     (λ q. Iff·rfl)
@@ -69,7 +71,8 @@ abbrev pub SameNotice : Tables → Tables → ℕ → Type 0
 SameNotice d d′ u = (d′ .user u held ≡ d .user u held) × (d′ .user u heldOp ≡ d .user u heldOp) × (d′ .user u missed ≡ d .user u missed)
 
 -- Rule 8.3: every operation but acknowledge leaves the notice of every user.
-pub notices-left : (o : Op) (d : Tables) → WellFormed d → (s : Asked) → Allowed o s d → o ≢ toAcknowledge → (u : ℕ) → SameNotice d (rowOf o .effect s d) u
+pub notices-left : (o : Op) (d : Tables) → WellFormed d → (s : Asked) → Allowed o s d → o ≢ toAcknowledge → (u : ℕ)
+    → SameNotice d (rowOf o .effect s d) u
 notices-left toCreate d w s a n u = (refl, refl, refl)
 notices-left toDelete d w s a n u = (refl, refl, refl)
 notices-left toMove d w s a n u = (refl, refl, refl)

@@ -39,8 +39,10 @@ framed toEdit d w s a = record { users = λ x f t. refl; entities = entity-left 
 framed toCopy d w s a = record { users = λ x f t. refl; entities = entity-left (word-only value) (s .second) d }
 framed toLevel d w s a = record { users = λ x f t. refl; entities = entity-left (word-only level) (s .first) d }
 framed toMark d w s a = record { users = λ x f t. refl; entities = entity-left (word-only mark) (s .first) d }
-framed toGrant d w s a = record { users = λ x f t. refl; entities = entity-left (row-only triple (granted (namedTriple s) (triples d (s .first)))) (s .first) d }
-framed toRevoke d w s a = record { users = λ x f t. refl; entities = entity-left (row-only triple (without (namedTriple s) (triples d (s .first)) placeCount)) (s .first) d }
+framed toGrant d w s a =
+    record { users = λ x f t. refl; entities = entity-left (row-only triple (granted (namedTriple s) (triples d (s .first)))) (s .first) d }
+framed toRevoke d w s a =
+    record { users = λ x f t. refl; entities = entity-left (row-only triple (without (namedTriple s) (triples d (s .first)) placeCount)) (s .first) d }
 framed toShow d w s a =
     let k = spot (own d s) (s .first) d in
     record { users = λ x f t. refl; entities = entity-left (screen-only _ (replace k (s .first) (places d (own d s))) (replace k (s .a) (sums d (own d s)))) (own d s) d }

@@ -35,14 +35,18 @@ alone true t = t
 alone false t = tt
 
 -- Where e leaves, only a container that holds e changes, and of it the count and the places.
-pub leave-left : (d : Tables) → WellFormed d → (e x : ℕ) (f : EntityWord) → T (not (holder d e x && contentWord f)) → leave e d .entity x f ≡ d .entity x f
-leave-left d w e x f t = word-left (λ y. eqb (kinds d y) containerKind) (leaving e d) (d .entity) x f (λ k. stays f t (eqb→eq (kinds d x) containerKind k))
+pub leave-left : (d : Tables) → WellFormed d → (e x : ℕ) (f : EntityWord) → T (not (holder d e x && contentWord f))
+    → leave e d .entity x f ≡ d .entity x f
+leave-left d w e x f t =
+    word-left (λ y. eqb (kinds d y) containerKind) (leaving e d) (d .entity) x f (λ k. stays f t (eqb→eq (kinds d x) containerKind k))
   where
-    same-row : T (not (holder d e x && true)) → kinds d x ≡ containerKind → (left e (places d x) (counts d x) ≡ counts d x) × (without e (places d x) (counts d x) ≡ places d x)
+    same-row : T (not (holder d e x && true)) → kinds d x ≡ containerKind
+        → (left e (places d x) (counts d x) ≡ counts d x) × (without e (places d x) (counts d x) ≡ places d x)
     same-row t k = without-none e (places d x) (counts d x) (w .entities x .filled .packed)
         (λ m. T-not (holder d e x) (alone (holder d e x) t) (in-agrees (kinds d) (counts d) (places d) x e .from (k, m)))
 
-    stays : (f : EntityWord) → T (not (holder d e x && contentWord f)) → kinds d x ≡ containerKind → written (leaving e d x) (d .entity x) f ≡ d .entity x f
+    stays : (f : EntityWord) → T (not (holder d e x && contentWord f)) → kinds d x ≡ containerKind
+        → written (leaving e d x) (d .entity x) f ≡ d .entity x f
     stays kind t k = refl
     stays type t k = refl
     stays level t k = refl
@@ -56,7 +60,8 @@ leave-left d w e x f t = word-left (λ y. eqb (kinds d y) containerKind) (leavin
     stays (triple i) t k = refl
 
 -- Where e is put into c, which shows nothing, only the count and the places of c change.
-pub put-left : (d : Tables) (c e : ℕ) → ((i : ℕ) → sums d c i ≡ 0) → (x : ℕ) (f : EntityWord) → T (not (eqb x c && contentWord f)) → put c e 0 d .entity x f ≡ d .entity x f
+pub put-left : (d : Tables) (c e : ℕ) → ((i : ℕ) → sums d c i ≡ 0) → (x : ℕ) (f : EntityWord) → T (not (eqb x c && contentWord f))
+    → put c e 0 d .entity x f ≡ d .entity x f
 put-left d c e none x f t = word-left (λ y. eqb y c) (λ y. putting) (d .entity) x f (stays f t)
   where
     putting : Edit EntityWord
@@ -72,7 +77,8 @@ put-left d c e none x f t = word-left (λ y. eqb y c) (λ y. putting) (d .entity
     stays maximum t k = refl
     stays count t k = absurd (T-not (eqb x c) (alone (eqb x c) t) k)
     stays (place i) t k = absurd (T-not (eqb x c) (alone (eqb x c) t) k)
-    stays (shown i) t k = case (λ (y : ℕ). y ≡ 0) i (counts d c) 0 (sums d c i) (λ q. refl) (λ q. none i) ∙ sym (ap (λ (y : ℕ). sums d y i) (eqb→eq x c k) ∙ none i)
+    stays (shown i) t k =
+        case (λ (y : ℕ). y ≡ 0) i (counts d c) 0 (sums d c i) (λ q. refl) (λ q. none i) ∙ sym (ap (λ (y : ℕ). sums d y i) (eqb→eq x c k) ∙ none i)
     stays (triple i) t k = refl
 
 -- the words that create gives a new record
@@ -100,19 +106,23 @@ module _ (d : Tables) (w : WellFormed d) (s : Asked) where
       new-only : TouchesOnly (word kind (sortKind (s .a)) and word type (sortType (s .a)) and word level (s .b) and row triple (triples d c)) newWord
       new-only = both-only (word-only kind) (both-only (word-only type) (both-only (word-only level) (row-only triple (triples d c))))
 
-      stays : (x : ℕ) (f : EntityWord) → T (not (eqb x e && newWord f)) × T (not (eqb x c && contentWord f)) → put c e 0 with-it .entity x f ≡ d .entity x f
+      stays : (x : ℕ) (f : EntityWord) → T (not (eqb x e && newWord f)) × T (not (eqb x c && contentWord f))
+          → put c e 0 with-it .entity x f ≡ d .entity x f
       stays x f t = put-left with-it c e (unshown c box) x f (t .1) ∙ entity-left new-only e d x f (t .0)
 
   -- Delete changes the record deleted and its container only.
   pub delete-framed : Frame toDelete s d (rowOf toDelete .effect s d)
-  delete-framed = record { users = λ x f t. refl; entities = λ x f t. stays x f (neither (eqb x (s .first)) (holder d (s .first) x && contentWord f) t) }
+  delete-framed =
+      record { users = λ x f t. refl; entities = λ x f t. stays x f (neither (eqb x (s .first)) (holder d (s .first) x && contentWord f) t) }
     where
-      stays : (x : ℕ) (f : EntityWord) → T (not (eqb x (s .first))) × T (not (holder d (s .first) x && contentWord f)) → delete (s .first) d .entity x f ≡ d .entity x f
+      stays : (x : ℕ) (f : EntityWord) → T (not (eqb x (s .first))) × T (not (holder d (s .first) x && contentWord f))
+          → delete (s .first) d .entity x f ≡ d .entity x f
       stays x f t = word-left (λ y. eqb y (s .first)) (λ y. blank) (leave (s .first) d .entity) x f (λ k. absurd (T-not (eqb x (s .first)) (t .0) k)) ∙ leave-left d w (s .first) x f (t .1)
 
   -- Move changes the container left and the container entered only.
   pub move-framed : kinds d (s .second) ≡ containerKind → Frame toMove s d (rowOf toMove .effect s d)
-  move-framed box = record { users = λ x f t. refl; entities = λ x f t. stays x f (neither-with (eqb x (s .second)) (holder d (s .first) x) (contentWord f) t) }
+  move-framed box =
+      record { users = λ x f t. refl; entities = λ x f t. stays x f (neither-with (eqb x (s .second)) (holder d (s .first) x) (contentWord f) t) }
     where
       stays : (x : ℕ) (f : EntityWord) → T (not (eqb x (s .second) && contentWord f)) × T (not (holder d (s .first) x && contentWord f))
           → move (s .first) (s .second) d .entity x f ≡ d .entity x f

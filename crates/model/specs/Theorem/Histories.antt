@@ -20,6 +20,8 @@ history-good d g [] = g
 history-good d g (q ∷ qs) = history-good (after d q) (request-good d g q) qs
 
 -- Rule 9.4: every state of a history of the desk.
-pub states-good : (start : Tables) → Good start → (tables : ℕ → Tables) (requests : ℕ → Request) → History after start tables requests → (n : ℕ) → Good (tables n)
+pub states-good : (start : Tables) → Good start → (tables : ℕ → Tables) (requests : ℕ → Request) → History after start tables requests → (n : ℕ)
+    → Good (tables n)
 states-good start g tables requests h zero = subst Good (sym (h .starts)) g
-states-good start g tables requests h (suc n) = subst Good (sym (h .goesOn n)) (request-good (tables n) (states-good start g tables requests h n) (requests n))
+states-good start g tables requests h (suc n) =
+    subst Good (sym (h .goesOn n)) (request-good (tables n) (states-good start g tables requests h n) (requests n))

@@ -66,24 +66,32 @@ module _ (d : Tables) (w : WellFormed d) (g : Secure d) (s : Asked) (p : d .user
 
   pub effect-good : (o : Op) → Allowed o s d → Good (rowOf o .effect s d)
   effect-good toCreate h = create-good h
-  effect-good toDelete h = (delete-wellFormed d w g (s .first) (h .thing .1) (h .empty) (h .unseen), delete-secure d w g (s .first) (h .thing .1) (h .empty) (h .unseen))
+  effect-good toDelete h =
+      (delete-wellFormed d w g (s .first) (h .thing .1) (h .empty) (h .unseen), delete-secure d w g (s .first) (h .thing .1) (h .empty) (h .unseen))
   effect-good toMove h = (move-wellFormed d w g (s .first) (s .second) (h .thing) (h .box) (h .room) (h .apart) (h .low), move-secure d w g (s .first) (s .second) (h .thing) (h .box) (h .room) (h .apart) (h .low))
   effect-good toEdit h = (edit-wellFormed d w (s .first) (s .a) h, edit-secure d g (s .first) (s .a))
-  effect-good toCopy h = (edit-wellFormed d w (s .second) (d .entity (s .first) value) (h .thing₂), edit-secure d g (s .second) (d .entity (s .first) value))
+  effect-good toCopy h =
+      (edit-wellFormed d w (s .second) (d .entity (s .first) value) (h .thing₂), edit-secure d g (s .second) (d .entity (s .first) value))
   effect-good toLevel h = (level-wellFormed d w (s .first) (s .a) (h .thing .0) (h .levelIn), h .secure)
   effect-good toMark h = (mark-wellFormed d w (s .first) (s .a) (h .box) (h .flag), mark-secure d g (s .first) (s .a))
-  effect-good toGrant h = (grant-wellFormed d w g (s .first) (namedTriple s) (h .here) (h .good) (h .room), grant-secure d w g (s .first) (namedTriple s) (h .here) (h .good))
-  effect-good toRevoke h = (revoke-wellFormed d w g (s .first) (namedTriple s) (h .here) (h .good), revoke-secure d w g (s .first) (namedTriple s) (h .here) (h .good))
-  effect-good toShow h = show-both d w g (s .user) (own d s) (s .first) (s .a) refl (on-screen (h .on)) (h .thing) (h .sum) (h .label) (h .low) (h .clear) (h .room)
+  effect-good toGrant h =
+      (grant-wellFormed d w g (s .first) (namedTriple s) (h .here) (h .good) (h .room), grant-secure d w g (s .first) (namedTriple s) (h .here) (h .good))
+  effect-good toRevoke h =
+      (revoke-wellFormed d w g (s .first) (namedTriple s) (h .here) (h .good), revoke-secure d w g (s .first) (namedTriple s) (h .here) (h .good))
+  effect-good toShow h =
+      show-both d w g (s .user) (own d s) (s .first) (s .a) refl (on-screen (h .on)) (h .thing) (h .sum) (h .label) (h .low) (h .clear) (h .room)
   effect-good toClear h = (clear-wellFormed d w (own d s) (omega (arith, on-screen h)), clear-secure d w (own d s) g)
-  effect-good toLogin h = (login-wellFormed d w g (s .user) (s .first) p (h .off) (h .screen) (h .free), login-secure d w g (s .user) (s .first) p (h .screen) (h .free))
+  effect-good toLogin h =
+      (login-wellFormed d w g (s .user) (s .first) p (h .off) (h .screen) (h .free), login-secure d w g (s .user) (s .first) p (h .screen) (h .free))
   effect-good toLogout h = (logout-wellFormed d w g (s .user) p h, logout-secure d w g (s .user) p h)
-  effect-good toCurrent h = (current-wellFormed d w (s .a) (s .b) (h .present) (h .rolesIn) (h .off), current-secure d g (s .a) (s .b) (h .authorised))
+  effect-good toCurrent h =
+      (current-wellFormed d w (s .a) (s .b) (h .present) (h .rolesIn) (h .off), current-secure d g (s .a) (s .b) (h .authorised))
   effect-good toClearance h = (clearance-wellFormed d w (s .a) (s .b) (h .present) (h .levelIn), h .secure)
   effect-good toAuthorised h = (authorised-wellFormed d w (s .a) (s .b) (h .present) (h .rolesIn), authorised-secure d g (s .a) (s .b) (h .within))
   effect-good toMaximum h = (maximum-wellFormed d w (s .first) (s .a) (h .screen) (h .levelIn), maximum-secure d g (s .first) (s .a) (h .low))
   effect-good toDeviceLevel h = (level-wellFormed d w (s .first) (s .a) (omega (arith, h .screen)) (h .levelIn), h .secure)
-  effect-good toRelease h = (release-wellFormed d w (s .user) (s .first) (h .box) (w .userNumbers (s .user) p), release-secure d g (s .user) (s .first))
+  effect-good toRelease h =
+      (release-wellFormed d w (s .user) (s .first) (h .box) (w .userNumbers (s .user) p), release-secure d g (s .user) (s .first))
   effect-good toAcknowledge h = (acknowledge-wellFormed d w (s .user) p, acknowledge-secure d g (s .user))
 
 -- The operation that a notice keeps is 0 to 20.
@@ -105,14 +113,16 @@ module _ (d : Tables) (q : Request) where
   unfolding after leaves
   after-unchanged n e l h = subst (λ (m : ℕ). leaves m d q ≡ d) (sym e) (go (eqb n 0) (ltb n firstNoticed) (same n 0) (lt→ltb n firstNoticed h))
     where
-      go : (a b : Bool) → Same n 0 a → T b → elim a [ true ↦ effect d q | false ↦ elim b [ true ↦ d | false ↦ notice (q .user) n (noticedOp q) d ] ] ≡ d
+      go : (a b : Bool) → Same n 0 a → T b
+          → elim a [ true ↦ effect d q | false ↦ elim b [ true ↦ d | false ↦ notice (q .user) n (noticedOp q) d ] ] ≡ d
       go true b (it z) t = absurd (omega arith)
       go false true z t = refl
       go false false z t = absurd t
 
   pub after-noticed : (n : ℕ) → answer d q ≡ n → firstNoticed ≤ n → after d q ≡ notice (q .user) n (noticedOp q) d
   unfolding after leaves
-  after-noticed n e h = subst (λ (m : ℕ). leaves m d q ≡ notice (q .user) n (noticedOp q) d) (sym e) (go (eqb n 0) (ltb n firstNoticed) (same n 0) (below n firstNoticed))
+  after-noticed n e h =
+      subst (λ (m : ℕ). leaves m d q ≡ notice (q .user) n (noticedOp q) d) (sym e) (go (eqb n 0) (ltb n firstNoticed) (same n 0) (below n firstNoticed))
     where
       go : (a b : Bool) → Same n 0 a → Below n firstNoticed b
           → elim a [ true ↦ effect d q | false ↦ elim b [ true ↦ d | false ↦ notice (q .user) n (noticedOp q) d ] ] ≡ notice (q .user) n (noticedOp q) d

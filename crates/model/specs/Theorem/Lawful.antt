@@ -25,7 +25,8 @@ use Rattle.model.specs.Theorem.LawfulShow.{clear-ids, erase-ids, fresh-i
 
 -- The flows of rule 9.6 go upward in every operation that is allowed: copy and show are the only ones that have any.
 pub flows-upward : (o : Op) (s : Asked) (d d′ : Tables) → Allowed o s d → Flows o s d d′
-flows-upward o s d d′ h = record { copied = λ e b c. (copy-allowed e) .low; screen = λ e. (show-allowed e) .on; shown = λ e b c. (show-allowed e) .low }
+flows-upward o s d d′ h =
+    record { copied = λ e b c. (copy-allowed e) .low; screen = λ e. (show-allowed e) .on; shown = λ e b c. (show-allowed e) .low }
   where
     copy-allowed : o ≡ toCopy → MayCopy s d
     copy-allowed e = rw e at h
@@ -96,7 +97,8 @@ module _ (d : Tables) (q : Request) where
   move-changes : ChangedBy toMove
   move-changes a =
       let i : (v x : ℕ) → ShowsId (rowOf toMove .effect (asked d q) d) v x → ShowsId d v x
-      = λ v x m. leave-ids (asked d q .first) d v x (put-ids (asked d q .second) (asked d q .first) 0 (leave (asked d q .first) d) (a .allowed .box) v x m) in
+      =
+      λ v x m. leave-ids (asked d q .first) d v x (put-ids (asked d q .second) (asked d q .first) 0 (leave (asked d q .first) d) (a .allowed .box) v x m) in
       search sames
 
   -- Rules 9.8 to 9.11 of level: the downgrader alone lowers it.
@@ -215,7 +217,8 @@ ids-lawful o d w q a = changes d q o a .ids
 translation-lawful : (d d′ : Tables) (q : Request) → Ids d q d′ → TranslationSecure d q d′
 translation-lawful d d′ q f x b h = go (f (devices d′ (q .user)) x b h)
   where
-    go : ShowsId d (devices d′ (q .user)) x ⊎ ((devices d′ (q .user) ≡ devices d (q .user)) × NamedOpenly d q x) → ShowsId d (devices d′ (q .user)) x ⊎ NamedOpenly d q x
+    go : ShowsId d (devices d′ (q .user)) x ⊎ ((devices d′ (q .user) ≡ devices d (q .user)) × NamedOpenly d q x)
+        → ShowsId d (devices d′ (q .user)) x ⊎ NamedOpenly d q x
     go (inl z) = inl z
     go (inr z) = inr (z .1)
 

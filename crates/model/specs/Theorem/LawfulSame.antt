@@ -35,7 +35,8 @@ pub ids-same : (q : Request) (d d′ : Tables) → ((v x : ℕ) → ShowsId d′
 ids-same q d d′ f v x b h = inl (f v x h)
 
 -- Rule 9.9 holds if maxima, clearances, authorised and current roles are as they were.
-pub set-same : (q : Request) (d d′ : Tables) → AsWas d d′ (λ x. d′ .entity x maximum) (λ x. d .entity x maximum) → ((x : ℕ) → d′ .user x clearance ≡ d .user x clearance)
+pub set-same : (q : Request) (d d′ : Tables) → AsWas d d′ (λ x. d′ .entity x maximum) (λ x. d .entity x maximum)
+    → ((x : ℕ) → d′ .user x clearance ≡ d .user x clearance)
     → ((x : ℕ) → d′ .user x authorised ≡ d .user x authorised) → ((x : ℕ) → d′ .user x current ≡ d .user x current) → SetSecure d q d′
 set-same q d d′ m c a r = record {
   maximum = λ x b n. absurd (n (m x b));
@@ -61,7 +62,8 @@ pub set-officer : (q : Request) (d d′ : Tables) → HasRole d (q .user) office
 set-officer q d d′ h = record { maximum = λ x b n. h; clearance = λ x n. h; authorised = λ x n. h; current = λ x n. inr h }
 
 -- Rule 9.9 holds where the current roles of one user are all that has changed, by that user or the officer.
-pub set-current : (q : Request) (d d′ : Tables) (u v : ℕ) → AsWas d d′ (λ x. d′ .entity x maximum) (λ x. d .entity x maximum) → ((x : ℕ) → d′ .user x clearance ≡ d .user x clearance)
+pub set-current : (q : Request) (d d′ : Tables) (u v : ℕ) → AsWas d d′ (λ x. d′ .entity x maximum) (λ x. d .entity x maximum)
+    → ((x : ℕ) → d′ .user x clearance ≡ d .user x clearance)
     → ((x : ℕ) → d′ .user x authorised ≡ d .user x authorised) → ((x : ℕ) → d′ .user x current ≡ pick (eqb x u) v (d .user x current))
     → (u ≢ q .user → HasRole d (q .user) officer) → SetSecure d q d′
 set-current q d d′ u v m c a r h = record {

@@ -52,7 +52,8 @@ put-ids c e t d box v x h = (h .0, go (eqb v c) (same v c) (h .1))
 pub erase-ids : (e : ℕ) (d : Tables) (v x : ℕ) → ShowsId (erase e d) v x → ShowsId d v x
 erase-ids e d v x h = go (eqb v e) (h .0) (h .1)
   where
-    go : (b : Bool) → pick b 0 (kinds d v) ≡ deviceKind → Shown (pick b 0 (counts d v)) (λ i. pick b 0 (places d v i)) (λ i. pick b 0 (sums d v i)) x → ShowsId d v x
+    go : (b : Bool) → pick b 0 (kinds d v) ≡ deviceKind → Shown (pick b 0 (counts d v)) (λ i. pick b 0 (places d v i)) (λ i. pick b 0 (sums d v i)) x
+        → ShowsId d v x
     go true k m = absurd (not-suc-le-zero (m .1))
     go false k m = (k, m)
 
@@ -66,7 +67,8 @@ clear-ids e d v x h = (h .0, go (eqb v e) (h .1))
 
 -- To make an object or a container shows nothing new.
 pub fresh-ids : (e c k t l : ℕ) (d : Tables) → k ≢ deviceKind → (v x : ℕ) → ShowsId (fresh e c k t l d) v x → ShowsId d v x
-fresh-ids e c k t l d n v x h = (case (λ (y : ℕ). y ≡ deviceKind → kinds d v ≡ deviceKind) v e k (kinds d v) (λ r z. absurd (n z)) (λ r z. z) (h .0), h .1)
+fresh-ids e c k t l d n v x h =
+    (case (λ (y : ℕ). y ≡ deviceKind → kinds d v ≡ deviceKind) v e k (kinds d v) (λ r z. absurd (n z)) (λ r z. z) (h .0), h .1)
 
 -- A place of the screen after show is the place of e, or it is one that was used before.
 used-before : (k n i : ℕ) (t : Bool) → Below k n t → k ≤ n → i ≢ k → i < pick t n (suc n) → i < n
@@ -91,7 +93,8 @@ show-ids v e s d q mine-is named a x b m = mine (eqb a v) (same a v) (m .1)
     found (inl z) = omega (arith, z .0)
     found (inr z) = omega (arith, z .0)
 
-    placed : (i : ℕ) (t : Bool) → Same i k t → a ≡ v → i < pick (ltb k n) n (suc n) → pick t e (places d v i) ≡ x → T (bit idBit (pick t s (sums d v i))) → ShowsId d a x ⊎ ((a ≡ devices d (q .user)) × NamedOpenly d q x)
+    placed : (i : ℕ) (t : Bool) → Same i k t → a ≡ v → i < pick (ltb k n) n (suc n) → pick t e (places d v i) ≡ x
+        → T (bit idBit (pick t s (sums d v i))) → ShowsId d a x ⊎ ((a ≡ devices d (q .user)) × NamedOpenly d q x)
     placed i true (it z) r l p id = inr (r ∙ mine-is, subst (NamedOpenly d q) p named)
     placed i false (other z) r l p id =
         inl (m .0, subst (λ (y : ℕ). ShownOn d y x) (sym r) (i, used-before k n i (ltb k n) (below k n) (found (sought e (places d v) n)) z l, p, id))

@@ -23,10 +23,12 @@ use Rattle.model.specs.Theorem.Fixed.{SameNotice, notices-left}
 use Rattle.model.specs.Theorem.Kept.{after-accepted, after-noticed, after-unchanged, effect-by}
 
 -- A refusal that is held stays held through every notice.
-notice-keeps : (d : Tables) (u r o x : ℕ) → d .user x held ≢ 0 → (notice u r o d .user x held ≡ d .user x held) × (notice u r o d .user x heldOp ≡ d .user x heldOp)
+notice-keeps : (d : Tables) (u r o x : ℕ) → d .user x held ≢ 0
+    → (notice u r o d .user x held ≡ d .user x held) × (notice u r o d .user x heldOp ≡ d .user x heldOp)
 notice-keeps d u r o x h = go (eqb x u) (same x u)
   where
-    inner : x ≡ u → (c : Bool) → Same (d .user u held) 0 c → (keepFirst c r (d .user u held) ≡ d .user x held) × (keepFirst c o (d .user u heldOp) ≡ d .user x heldOp)
+    inner : x ≡ u → (c : Bool) → Same (d .user u held) 0 c
+        → (keepFirst c r (d .user u held) ≡ d .user x held) × (keepFirst c o (d .user u heldOp) ≡ d .user x heldOp)
     inner e true (it z) = absurd (h (ap (λ (v : ℕ). d .user v held) e ∙ z))
     inner e false (other z) = (sym (ap (λ (v : ℕ). d .user v held) e), sym (ap (λ (v : ℕ). d .user v heldOp) e))
 
@@ -51,12 +53,14 @@ notice-counts d u r o x h = go (eqb x u) (same x u)
 acknowledge-other : (d : Tables) (u x : ℕ) → x ≢ u → SameNotice d (acknowledge u d) x
 acknowledge-other d u x n = go (eqb x u) (same x u)
   where
-    go : (b : Bool) → Same x u b → (pick b 0 (d .user x held) ≡ d .user x held) × (pick b 0 (d .user x heldOp) ≡ d .user x heldOp) × (pick b 0 (d .user x missed) ≡ d .user x missed)
+    go : (b : Bool) → Same x u b
+        → (pick b 0 (d .user x held) ≡ d .user x held) × (pick b 0 (d .user x heldOp) ≡ d .user x heldOp) × (pick b 0 (d .user x missed) ≡ d .user x missed)
     go true (it e) = absurd (n e)
     go false (other e) = (refl, refl, refl)
 
 -- Rule 8.3: an accepted request that is no acknowledgement leaves every notice; an acknowledgement leaves every other user's.
-pub accepted-notices : (d : Tables) → WellFormed d → (q : Request) → answer d q ≡ 0 → (x : ℕ) → (opOf (q .operation) ≡ some toAcknowledge → x ≢ q .user) → SameNotice d (after d q) x
+pub accepted-notices : (d : Tables) → WellFormed d → (q : Request) → answer d q ≡ 0 → (x : ℕ)
+    → (opOf (q .operation) ≡ some toAcknowledge → x ≢ q .user) → SameNotice d (after d q) x
 unfolding asked
 accepted-notices d w q e x n =
     let a = accepted d q e w in
@@ -79,13 +83,15 @@ pub record StillHeld (d d′ : Tables) (x : ℕ) : Type 0 where
 
 pub held-kept : (d : Tables) → WellFormed d → (q : Request) (x : ℕ) → d .user x held ≢ 0
     → (answer d q ≡ 0 → opOf (q .operation) ≡ some toAcknowledge → x ≢ q .user) → StillHeld d (after d q) x
-held-kept d w q x h n = go (answer d q) refl (eqb (answer d q) 0) (ltb (answer d q) firstNoticed) (same (answer d q) 0) (below (answer d q) firstNoticed)
+held-kept d w q x h n =
+    go (answer d q) refl (eqb (answer d q) 0) (ltb (answer d q) firstNoticed) (same (answer d q) 0) (below (answer d q) firstNoticed)
   where
     go : (m : ℕ) → answer d q ≡ m → (a b : Bool) → Same m 0 a → Below m firstNoticed b → StillHeld d (after d q) x
     go m e true b (it z) l =
         let k = accepted-notices d w q (e ∙ z) x (n (e ∙ z)) in
         record { refusal = k .0; operation = k .1; count = omega (arith, k .2) }
-    go m e false true (other z) (under l) = rw (after-unchanged d q m e (omega arith) l) record { refusal = refl; operation = refl; count = omega arith }
+    go m e false true (other z) (under l) =
+        rw (after-unchanged d q m e (omega arith) l) record { refusal = refl; operation = refl; count = omega arith }
     go m e false false (other z) (over l) =
         let k = notice-keeps d (q .user) m (noticedOp q) x h in
         rw (after-noticed d q m e l) record { refusal = k .0; operation = k .1; count = notice-counts d (q .user) m (noticedOp q) x (w .users x .notice .countIn) }

@@ -20,7 +20,8 @@ use Rattle.model.specs.Theorem.LawfulNotice.{notice-quiet, quiet-obeys, 
 
 -- Rule 9.12, one request: whatever it is answered, the seven definitions hold of it.
 pub request-obeys : (d : Tables) → Bounded d → (q : Request) → Obeys d q (after d q)
-request-obeys d b q = go (answer d q) refl (eqb (answer d q) 0) (ltb (answer d q) firstNoticed) (same (answer d q) 0) (below (answer d q) firstNoticed)
+request-obeys d b q =
+    go (answer d q) refl (eqb (answer d q) 0) (ltb (answer d q) firstNoticed) (same (answer d q) 0) (below (answer d q) firstNoticed)
   where
     settled : answer d q ≡ 0 → Obeys d q (effect d q)
     settled e =
@@ -38,7 +39,8 @@ pub transform-secure : TransformSecure after
 transform-secure = request-obeys
 
 -- Definition 13, of every history from well-formed, secure tables.
-pub history-secure : (start : Tables) → Good start → (tables : ℕ → Tables) (requests : ℕ → Request) → History after start tables requests → HistorySecure after tables
+pub history-secure : (start : Tables) → Good start → (tables : ℕ → Tables) (requests : ℕ → Request) → History after start tables requests
+    → HistorySecure after tables
 history-secure start g tables requests h = record { states = states-good start g tables requests h; transform = transform-secure }
 
 -- Definition 14: the system that starts in well-formed, secure tables is secure.

@@ -10,7 +10,8 @@ use Rattle.model.specs.Tables.Words.{EntityWord, Tables, UserWord, index
 use Rattle.model.specs.Theorem.MayChange.{oneUserWord, oneWord}
 
 -- A word is as it was after an edit, if it is as it was in case its record is one of those edited.
-pub word-left : {W : Type 0} (test : ℕ → Bool) (E : ℕ → Edit W) (r : ℕ → W → ℕ) (x : ℕ) (f : W) → (T (test x) → written (E x) (r x) f ≡ r x f) → edited test E r x f ≡ r x f
+pub word-left : {W : Type 0} (test : ℕ → Bool) (E : ℕ → Edit W) (r : ℕ → W → ℕ) (x : ℕ) (f : W) → (T (test x) → written (E x) (r x) f ≡ r x f)
+    → edited test E r x f ≡ r x f
 word-left test E r x f = go (test x) (E x .touched f)
   where
     go : (b t : Bool) → (T b → pick t (E x .value f) (r x f) ≡ r x f) → pick t (pick b (E x .value f) (r x f)) (r x f) ≡ r x f

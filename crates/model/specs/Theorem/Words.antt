@@ -68,17 +68,20 @@ after-bounded d b q = go (eqb (answer d q) 0) (ltb (answer d q) firstNoticed) (s
     go : (x y : Bool) → Same (answer d q) 0 x → Below (answer d q) firstNoticed y → Bounded (after d q)
     go true y (it z) l = wellFormed-bounded (after d q) (request-good d (accepted-good d q z b) q .0)
     go false true (other z) (under l) = rw (low-refusal d q (omega arith) l) b
-    go false false (other z) (over l) = wellFormed-bounded (after d q) (request-good d (judged d q b (answer-is d q .below 2 (omega arith)) (answer-is d q .below 3 (omega arith))) q .0)
+    go false false (other z) (over l) =
+        wellFormed-bounded (after d q) (request-good d (judged d q b (answer-is d q .below 2 (omega arith)) (answer-is d q .below 3 (omega arith))) q .0)
 
 -- The words afterwards are the tables afterwards.
 pub afterOf-tables : (t q : List ℕ) → T (sized t q) → tablesOf (afterOf t q) ≡ after (tablesOf t) (requestOf q)
-afterOf-tables t q h = ap tablesOf (afterOf-sized t q h) ∙ tablesOf-wordsOf (after (tablesOf t) (requestOf q)) (after-bounded (tablesOf t) (bounded t) (requestOf q))
+afterOf-tables t q h =
+    ap tablesOf (afterOf-sized t q h) ∙ tablesOf-wordsOf (after (tablesOf t) (requestOf q)) (after-bounded (tablesOf t) (bounded t) (requestOf q))
 
 pub afterOf-length : (t q : List ℕ) → length (afterOf t q) ≡ length t
 unfolding afterOf
 afterOf-length t q = go (sized t q) (sized-agrees t q .to)
   where
-    go : (b : Bool) → (T b → (length t ≡ wordCount) × (length q ≡ requestWords)) → length (pick b (wordsOf (after (tablesOf t) (requestOf q))) t) ≡ length t
+    go : (b : Bool) → (T b → (length t ≡ wordCount) × (length q ≡ requestWords))
+        → length (pick b (wordsOf (after (tablesOf t) (requestOf q))) t) ≡ length t
     go true f = wordsOf-length (after (tablesOf t) (requestOf q)) ∙ sym (f tt .0)
     go false f = refl
 
