@@ -68,7 +68,8 @@ agrees-as f g a = record { to = λ t. f (a .to t); from = λ q. a .from (g q) }
 pub agrees-every : (n : ℕ) (p : ℕ → Bool) (P : ℕ → Type 0) → ((i : ℕ) → Agrees (p i) (P i)) → Agrees (every n p) ((i : ℕ) → i < n → P i)
 unfolding every
 agrees-every zero p P a = record { to = λ t i h. absurd (not-suc-le-zero h); from = λ f. tt }
-agrees-every (suc n) p P a = agrees-as {P = P n × ((i : ℕ) → i < n → P i)} (λ z i h. one z i (eq-or-lt-of-le (le-of-suc-le-suc h))) (λ f. (f n (omega arith), λ i h. f i (omega arith))) (agrees-and (a n) (agrees-every n p P a))
+agrees-every (suc n) p P a = agrees-as {P = P n × ((i : ℕ) → i < n → P i)} (λ z i h. one z i (eq-or-lt-of-le (le-of-suc-le-suc h)))
+    (λ f. (f n (omega arith), λ i h. f i (omega arith))) (agrees-and (a n) (agrees-every n p P a))
   where
     one : P n × ((i : ℕ) → i < n → P i) → (i : ℕ) → (i ≡ n) ⊎ (i < n) → P i
     one z i (inl e) = subst P (sym e) (z .0)

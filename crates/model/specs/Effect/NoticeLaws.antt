@@ -23,7 +23,8 @@ next h p m r o hr ho a = go (eqb h 0) (ltb m missedLimit) (same h 0) (below m mi
     go false true (other q) (under l) = search (arith, inr)
     go false false (other q) (over l) = search (arith, inr)
 
-module _ (d : Tables) (w : WellFormed d) (s : Secure d) (u r o : ℕ) (p : d .user u present ≢ 0) (hr : (firstNoticed ≤ r) × (r ≤ lastNoticed)) (ho : o ≤ operationCount) where
+module _ (d : Tables) (w : WellFormed d) (s : Secure d) (u r o : ℕ) (p : d .user u present ≢ 0) (hr : (firstNoticed ≤ r) × (r ≤ lastNoticed))
+    (ho : o ≤ operationCount) where
   notice-ok : UserOk (d .user u) → UserOk (written (noticing u r o d) (d .user u))
   notice-ok a = let n = next (d .user u held) (d .user u heldOp) (d .user u missed) r o hr ho (a .notice) in search arith
 

@@ -32,10 +32,12 @@ module _ (d : Tables) (s : Secure d) (e l : ℕ) (nothing : (c : ℕ) → Holds 
       (λ q. case (AtMost (d .entity c level)) x e l (d .entity x level) (λ r. absurd (nothing c (subst (λ (y : ℕ). Holds d y c) r h))) (λ r. s .contained x c h))
 
   seen-by : (u c : ℕ) → devices d u ≢ 0 → Holds d (devices d u) c → AtMost (pick (eqb c e) l (d .entity c level)) (d .user u clearance)
-  seen-by u c on h = case (λ (y : ℕ). AtMost y (d .user u clearance)) c e l (d .entity c level) (λ q. absurd (nowhere (devices d u) (subst (Holds d (devices d u)) q h))) (λ q. s .seen u c on h)
+  seen-by u c on h = case (λ (y : ℕ). AtMost y (d .user u clearance)) c e l (d .entity c level)
+      (λ q. absurd (nowhere (devices d u) (subst (Holds d (devices d u)) q h))) (λ q. s .seen u c on h)
 
 -- a record at an absent number
-module _ (d : Tables) (w : WellFormed d) (e c k t l : ℕ) (gone : kinds d e ≡ 0) (range : (1 ≤ e) × (e ≤ entityCount)) (sort : (1 ≤ k) × (k ≤ 2)) (draft : (t ≡ 0) ⊎ ((k ≡ containerKind) × (t ≡ 1))) (lev : l < levelCount) where
+module _ (d : Tables) (w : WellFormed d) (e c k t l : ℕ) (gone : kinds d e ≡ 0) (range : (1 ≤ e) × (e ≤ entityCount)) (sort : (1 ≤ k) × (k ≤ 2))
+    (draft : (t ≡ 0) ⊎ ((k ≡ containerKind) × (t ≡ 1))) (lev : l < levelCount) where
   zero-here : (f : EntityWord) → d .entity e f ≡ 0
   zero-here = w .entities e .absent gone
 
@@ -76,7 +78,8 @@ module _ (d : Tables) (w : WellFormed d) (e c k t l : ℕ) (gone : kinds d e ≡
     seen = seen-by d s e l nothing nowhere;
     valueLabelled = λ x i h. s .valueLabelled x i (same-kind x h);
     roles = s .roles;
-    ceiling = λ x h. case (λ (y : ℕ). AtMost y (d .entity x maximum)) x e l (d .entity x level) (λ q. absurd (omega (arith, ap (kinds d) q, same-kind x h))) (λ q. s .ceiling x (same-kind x h));
+    ceiling = λ x h. case (λ (y : ℕ). AtMost y (d .entity x maximum)) x e l (d .entity x level)
+        (λ q. absurd (omega (arith, ap (kinds d) q, same-kind x h))) (λ q. s .ceiling x (same-kind x h));
   }
     where
       same-kind : (x : ℕ) → kinds (fresh e c k t l d) x ≡ deviceKind → kinds d x ≡ deviceKind
@@ -114,7 +117,8 @@ module _ (d : Tables) (w : WellFormed d) (e : ℕ) (thing : kinds d e ≤ 2) (em
       top x false h = s .ceiling x h
 
 -- 2 delete: an entity with no contents, on no device
-module _ (d : Tables) (w : WellFormed d) (s : Secure d) (e : ℕ) (thing : kinds d e ≤ 2) (empty : counts d e ≡ 0) (unseen : (x : ℕ) → kinds d x ≡ deviceKind → Holds d x e → ⊥) where
+module _ (d : Tables) (w : WellFormed d) (s : Secure d) (e : ℕ) (thing : kinds d e ≤ 2) (empty : counts d e ≡ 0)
+    (unseen : (x : ℕ) → kinds d x ≡ deviceKind → Holds d x e → ⊥) where
   nowhere-now : (x : ℕ) → Holds (leave e d) x e → ⊥
   nowhere-now x h =
       let m = stayed d w e x e h in
@@ -172,7 +176,8 @@ module _ (d : Tables) (w : WellFormed d) (s : Secure d) (e c : ℕ) (thing : Thi
       put-secure (leave e d) (leave-wellFormed d w e) c e 0 takes (leave-secure d w e s) low (λ u q. absurd (on-none d w c u box q)) (λ q. absurd (omega arith))
 
 -- 1 create
-module _ (d : Tables) (w : WellFormed d) (s : Secure d) (e c k t l : ℕ) (gone : kinds d e ≡ 0) (range : (1 ≤ e) × (e ≤ entityCount)) (sort : (1 ≤ k) × (k ≤ 2)) (draft : (t ≡ 0) ⊎ ((k ≡ containerKind) × (t ≡ 1))) (lev : l < levelCount)
+module _ (d : Tables) (w : WellFormed d) (s : Secure d) (e c k t l : ℕ) (gone : kinds d e ≡ 0) (range : (1 ≤ e) × (e ≤ entityCount))
+    (sort : (1 ≤ k) × (k ≤ 2)) (draft : (t ≡ 0) ⊎ ((k ≡ containerKind) × (t ≡ 1))) (lev : l < levelCount)
     (box : kinds d c ≡ containerKind) (room : counts d c < placeCount) (low : AtMost l (d .entity c level)) where
   abbrev with-it : Tables
   with-it = fresh e c k t l d

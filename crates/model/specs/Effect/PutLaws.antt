@@ -84,7 +84,8 @@ module _ (d : Tables) (w : WellFormed d) (c e s : ℕ) (t : Takes d c e s) where
 
       shows : (x i : ℕ) → kinds d x ≡ deviceKind → (b : Bool) → Same x c b → i < pick b (suc (counts d c)) (counts d x)
           → T (labelled (pick b (replace (counts d c) s (sums d c) i) (sums d x i)))
-      shows x i k true (it q) l = case (λ (y : ℕ). T (labelled y)) i (counts d c) s (sums d c i) (λ z. label (ap (kinds d) (sym q) ∙ k)) (λ z. o .valueLabelled c i (ap (kinds d) (sym q) ∙ k) (omega arith))
+      shows x i k true (it q) l = case (λ (y : ℕ). T (labelled y)) i (counts d c) s (sums d c i) (λ z. label (ap (kinds d) (sym q) ∙ k))
+          (λ z. o .valueLabelled c i (ap (kinds d) (sym q) ∙ k) (omega arith))
       shows x i k false (other q) l = o .valueLabelled x i k l
 
 -- e leaves its container
@@ -112,14 +113,16 @@ module _ (d : Tables) (w : WellFormed d) (e : ℕ) where
       go false (other q) m = (m, λ z. absurd (q z))
 
   pub fewer-there : (x : ℕ) → counts (leave e d) x ≤ counts d x
-  fewer-there x = case (λ (y : ℕ). y ≤ counts d x) (kinds d x) 2 (left e (places d x) (counts d x)) (counts d x) (λ q. without-fewer e (places d x) (counts d x) (w .entities x .filled .packed)) (λ q. omega arith)
+  fewer-there x = case (λ (y : ℕ). y ≤ counts d x) (kinds d x) 2 (left e (places d x) (counts d x)) (counts d x)
+      (λ q. without-fewer e (places d x) (counts d x) (w .entities x .filled .packed)) (λ q. omega arith)
 
   pub leave-wellFormed : WellFormed (leave e d)
   leave-wellFormed = record {
     userNumbers = w .userNumbers;
     entityNumbers = w .entityNumbers;
     users = w .users;
-    entities = all EntityOk (λ x. eqb (kinds d x) containerKind) (leaving e d) (d .entity) (w .entities) (λ x t. leave-ok x (eqb→eq (kinds d x) containerKind t) (w .entities x));
+    entities = all EntityOk (λ x. eqb (kinds d x) containerKind) (leaving e d) (d .entity) (w .entities)
+        (λ x t. leave-ok x (eqb→eq (kinds d x) containerKind t) (w .entities x));
     links = shrink (kinds d) (counts d) (places d) (devices d) (w .links) (counts (leave e d)) (places (leave e d)) (λ x c h. stayed x c h .0) fewer-there;
   }
 

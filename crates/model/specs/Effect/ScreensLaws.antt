@@ -103,9 +103,11 @@ module _ (d : Tables) (w : WellFormed d) (s : Secure d) (u : ℕ) (p : d .user u
   off-secure : Secure (off u d)
   off-secure = record {
     contained = s .contained;
-    seen = λ x c. case (λ (y : ℕ). y ≢ 0 → Holds d y c → AtMost (d .entity c level) (d .user x clearance)) x u 0 (devices d x) (λ q z. absurd (z refl)) (λ q z m. s .seen x c z m);
+    seen = λ x c. case (λ (y : ℕ). y ≢ 0 → Holds d y c → AtMost (d .entity c level) (d .user x clearance)) x u 0 (devices d x)
+        (λ q z. absurd (z refl)) (λ q z m. s .seen x c z m);
     valueLabelled = s .valueLabelled;
-    roles = λ x. case (λ (y : ℕ). Subset roleCount y (d .user x authorised)) x u 0 (d .user x current) (λ q. subset-zero roleCount (d .user x authorised)) (λ q. s .roles x);
+    roles = λ x. case (λ (y : ℕ). Subset roleCount y (d .user x authorised)) x u 0 (d .user x current)
+        (λ q. subset-zero roleCount (d .user x authorised)) (λ q. s .roles x);
     ceiling = s .ceiling;
   }
 
@@ -115,7 +117,8 @@ module _ (d : Tables) (w : WellFormed d) (s : Secure d) (u : ℕ) (p : d .user u
 
   pub logout-wellFormed : WellFormed (logout u d)
   logout-wellFormed =
-      off-wellFormed (clear (devices d u) d) (clear-wellFormed d w (devices d u) (omega (arith, w .links .deviceIs u on))) (clear-secure d w (devices d u) s) u p none-left
+      off-wellFormed (clear (devices d u) d) (clear-wellFormed d w (devices d u) (omega (arith, w .links .deviceIs u on)))
+      (clear-secure d w (devices d u) s) u p none-left
 
   pub logout-secure : Secure (logout u d)
   logout-secure =

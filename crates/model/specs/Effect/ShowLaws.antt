@@ -29,7 +29,8 @@ again-filled n i s at sum k h l hs f = record {
   restSums = λ j lj. case (λ (y : ℕ). y ≡ 0) j i s (sum j) (λ z. absurd (omega arith)) (λ z. f .restSums j lj);
 }
 
-module _ (d : Tables) (w : WellFormed d) (s : Secure d) (u v e a : ℕ) (on : devices d u ≡ v) (screen : kinds d v ≡ deviceKind) (thing : Thing d e) (sum : (1 ≤ a) × (a ≤ sumLimit))
+module _ (d : Tables) (w : WellFormed d) (s : Secure d) (u v e a : ℕ) (on : devices d u ≡ v) (screen : kinds d v ≡ deviceKind) (thing : Thing d e)
+    (sum : (1 ≤ a) × (a ≤ sumLimit))
     (label : T (labelled a)) (low : AtMost (d .entity e level) (d .entity v level)) (clear : AtMost (d .entity e level) (d .user u clearance)) where
   -- already there, at k
   module _ (k : ℕ) (l : k < counts d v) (at-k : places d v k ≡ e) where
@@ -64,7 +65,8 @@ module _ (d : Tables) (w : WellFormed d) (s : Secure d) (u v e a : ℕ) (on : de
       contained = λ x c h. s .contained x c (no-more x c h);
       seen = λ x c o h. s .seen x c o (no-more (devices d x) c h);
       valueLabelled = λ x j h m. case (λ (y : ℕ). T (labelled y)) x v (replace k a (sums d v) j) (sums d x j)
-          (λ q. case (λ (y : ℕ). T (labelled y)) j k a (sums d v j) (λ z. label) (λ z. subst (λ (y : ℕ). T (labelled (sums d y j))) q (s .valueLabelled x j h (omega (arith, same-count x)))))
+          (λ q. case (λ (y : ℕ). T (labelled y)) j k a (sums d v j) (λ z. label)
+          (λ z. subst (λ (y : ℕ). T (labelled (sums d y j))) q (s .valueLabelled x j h (omega (arith, same-count x)))))
           (λ q. s .valueLabelled x j h (omega (arith, same-count x)));
       roles = s .roles;
       ceiling = s .ceiling;
@@ -99,4 +101,5 @@ module _ (d : Tables) (w : WellFormed d) (s : Secure d) (u v e a : ℕ) (on : de
       go false (over h) (inl z) = absurd (omega (arith, z .0))
       go false (over h) (inr z) =
           let t = takes-shown (room h) (z .1) in
-          subst (λ (k : ℕ). Good (onEntity v (showing v e a d k (suc (counts d v))) d)) (sym (z .0)) (put-wellFormed d w v e a t, put-secure d w v e a t s low cleared-for (λ q. label))
+          subst (λ (k : ℕ). Good (onEntity v (showing v e a d k (suc (counts d v))) d)) (sym (z .0))
+          (put-wellFormed d w v e a t, put-secure d w v e a t s low cleared-for (λ q. label))

@@ -50,7 +50,8 @@ module _ (d : Tables) (w : WellFormed d) where
   release-ok u e t h o = search arith
 
   pub release-wellFormed : (u e : ℕ) → d .entity e kind ≡ containerKind → (1 ≤ u) × (u ≤ userCount) → WellFormed (release u e d)
-  release-wellFormed u e t h = let n = each EntityOk (word type releasedType and word releaser u) e (d .entity) (w .entities) (release-ok u e t h (w .entities e)) in search
+  release-wellFormed u e t h = let n = each EntityOk (word type releasedType and word releaser u) e (d .entity) (w .entities)
+      (release-ok u e t h (w .entities e)) in search
 
   -- 14 current roles
   current-ok : (u v : ℕ) → d .user u present ≢ 0 → v < roleSets → (d .user u device ≡ 0 → v ≡ 0) → UserOk (d .user u)

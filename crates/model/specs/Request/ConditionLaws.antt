@@ -37,7 +37,11 @@ agrees-some (suc n) p P a = go (p n) (every n (λ i. not (p i))) (a n) (agrees-s
   where
     go : (b c : Bool) → Agrees b (P n) → Agrees (not c) ((i : ℕ) × (i < n) × P i) → Agrees (not (not b && c)) ((i : ℕ) × (i < suc n) × P i)
     go true c x y = record { to = λ t. (n, omega arith, x .to tt); from = λ z. tt }
-    go false c x y = record { to = λ t. let z = y .to t in (z .0, omega (arith, z .1), z .2); from = λ z. y .from (lower-one z (eq-or-lt-of-le (le-of-suc-le-suc (z .1)))) }
+    go false c x y = record {
+      to = λ t. let z = y .to t in (z .0, omega (arith, z .1), z .2);
+      from = λ z. y .from
+          (lower-one z (eq-or-lt-of-le (le-of-suc-le-suc (z .1))));
+    }
       where
         lower-one : (z : (i : ℕ) × (i < suc n) × P i) → (z .0 ≡ n) ⊎ (z .0 < n) → (i : ℕ) × (i < n) × P i
         lower-one z (inl e) = absurd (x .from (subst P e (z .2)))
@@ -105,7 +109,8 @@ module _ (d : Tables) (w : WellFormed d) where
   pub inside-agrees : (c e : ℕ) → Agrees (climb (parent (kinds d) (counts d) (places d)) (suc entityCount) c e) (Within (InTables d) c e)
   inside-agrees c e = record {
     to = climb-sound entityCount (InTables d) par top holds one range (suc entityCount) c e;
-    from = climb-complete entityCount (InTables d) par top holds one range (suc entityCount) c e (complete entityCount (InTables d) par top holds one range (w .links .noLoop) c);
+    from = climb-complete entityCount (InTables d) par top holds one range (suc entityCount) c e
+        (complete entityCount (InTables d) par top holds one range (w .links .noLoop) c);
   }
     where
       par : ℕ → ℕ

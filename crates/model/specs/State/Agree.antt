@@ -43,9 +43,12 @@ module _ (d : Tables) (o : Bounded d) where
   wellFormed-agrees = agrees-as {P = ((u : ℕ) → UserOk (d .user u)) × (((e : ℕ) → EntityOk (d .entity e)) × Links d)}
       (λ z. record { userNumbers = λ u p. number-u u p; entityNumbers = λ e p. number-e e p; users = z .0; entities = z .1 .0; links = z .1 .1 })
       (λ w. (w .users, (w .entities, w .links)))
-      (agrees-and (agrees-range userCount (λ u. userTest (d .user u)) (λ u. UserOk (d .user u)) (λ u. user-agrees (d .user u) (o .sparesOut u)) (zero-users 0 (inl refl)) (λ u q. zero-users u (inr q)))
-      (agrees-then (agrees-range entityCount (λ e. entityTest (d .entity e)) (λ e. EntityOk (d .entity e)) (λ e. entity-agrees (d .entity e) (eights e)) (zero-entities 0 (inl refl)) (λ e q. zero-entities e (inr q)))
-      (λ ok. links-agrees (kinds d) (counts d) (places d) (devices d) (λ e q. (o .entityOut e q kind, o .entityOut e q count)) (λ u q. o .userOut u q device) (λ e. ok e .filled .packed .room))))
+      (agrees-and (agrees-range userCount (λ u. userTest (d .user u)) (λ u. UserOk (d .user u)) (λ u. user-agrees (d .user u) (o .sparesOut u))
+      (zero-users 0 (inl refl)) (λ u q. zero-users u (inr q)))
+      (agrees-then (agrees-range entityCount (λ e. entityTest (d .entity e)) (λ e. EntityOk (d .entity e))
+      (λ e. entity-agrees (d .entity e) (eights e)) (zero-entities 0 (inl refl)) (λ e q. zero-entities e (inr q)))
+      (λ ok. links-agrees (kinds d) (counts d) (places d) (devices d) (λ e q. (o .entityOut e q kind, o .entityOut e q count))
+      (λ u q. o .userOut u q device) (λ e. ok e .filled .packed .room))))
     where
       number-u : (u : ℕ) → d .user u present ≢ 0 → (1 ≤ u) × (u ≤ userCount)
       number-u u p =

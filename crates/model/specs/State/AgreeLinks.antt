@@ -44,7 +44,8 @@ one-yes true t = refl
 one-yes false t = absurd t
 
 -- the columns of tables that are zero outside their ranges
-module _ (k n : ℕ → ℕ) (at : ℕ → ℕ → ℕ) (dev : ℕ → ℕ) (entityOut : (e : ℕ) → (e ≡ 0) ⊎ (entityCount < e) → (k e ≡ 0) × (n e ≡ 0)) (userOut : (u : ℕ) → (u ≡ 0) ⊎ (userCount < u) → dev u ≡ 0) (room : (e : ℕ) → n e ≤ placeCount) where
+module _ (k n : ℕ → ℕ) (at : ℕ → ℕ → ℕ) (dev : ℕ → ℕ) (entityOut : (e : ℕ) → (e ≡ 0) ⊎ (entityCount < e) → (k e ≡ 0) × (n e ≡ 0))
+    (userOut : (u : ℕ) → (u ≡ 0) ⊎ (userCount < u) → dev u ≡ 0) (room : (e : ℕ) → n e ≤ placeCount) where
   pub boxed : (b a : ℕ) → In k n at b a → (1 ≤ b) × (b ≤ entityCount)
   boxed b a h =
       let no0 : b ≢ 0 = λ q. omega (arith, entityOut b (inl q), h .0) in
@@ -53,7 +54,8 @@ module _ (k n : ℕ → ℕ) (at : ℕ → ℕ → ℕ) (dev : ℕ → ℕ) (ent
 
   pub parent-top : (a : ℕ) → parent k n at a ≡ 0 → (x : ℕ) → In k n at x a → ⊥
   unfolding parent spotOf
-  parent-top a e x h = go (ltb (spotOf k n at a) entityCount) (below (spotOf k n at a) entityCount) (sought 1 (λ i. pick (inTest k n at (suc i) a) 1 0) entityCount) e x h (boxed x a h)
+  parent-top a e x h = go (ltb (spotOf k n at a) entityCount) (below (spotOf k n at a) entityCount)
+      (sought 1 (λ i. pick (inTest k n at (suc i) a) 1 0) entityCount) e x h (boxed x a h)
     where
       go : (b : Bool) → Below (spotOf k n at a) entityCount b → Sought 1 (λ i. pick (inTest k n at (suc i) a) 1 0) entityCount (spotOf k n at a)
           → pick b (suc (spotOf k n at a)) 0 ≡ 0 → (x : ℕ) → In k n at x a → (1 ≤ x) × (x ≤ entityCount) → ⊥
@@ -78,28 +80,37 @@ module _ (k n : ℕ → ℕ) (at : ℕ → ℕ → ℕ) (dev : ℕ → ℕ) (ent
   contents-agrees = agrees-as {P = (e : ℕ) → (i : ℕ) → i < placeCount → i < n e → (1 ≤ k (at e i)) × (k (at e i) ≤ 2)}
       (λ f e c m. subst (λ (y : ℕ). (1 ≤ k y) × (k y ≤ 2)) (m .2) (f e (m .0) (omega (arith, m .1, room e)) (m .1)))
       (λ f e i h l. f e (at e i) (i, l, refl))
-      (agrees-range entityCount (λ e. every placeCount (λ i. imp (ltb i (n e)) (leb 1 (k (at e i)) && leb (k (at e i)) 2))) (λ e. (i : ℕ) → i < placeCount → i < n e → (1 ≤ k (at e i)) × (k (at e i) ≤ 2))
+      (agrees-range entityCount (λ e. every placeCount (λ i. imp (ltb i (n e)) (leb 1 (k (at e i)) && leb (k (at e i)) 2)))
+      (λ e. (i : ℕ) → i < placeCount → i < n e → (1 ≤ k (at e i)) × (k (at e i) ≤ 2))
       (λ e. search agreement depth 20) (λ i h l. absurd (omega (arith, entityOut 0 (inl refl)))) (λ e o i h l. absurd (omega (arith, entityOut e (inr o)))))
 
   one-agrees : Agrees (oneTest k n at dev) ((c a b : ℕ) → In k n at a c → In k n at b c → a ≡ b)
   unfolding oneTest
-  one-agrees = agrees-as {P = (a : ℕ) → k a ≡ containerKind → (b : ℕ) → k b ≡ containerKind → (i : ℕ) → i < placeCount → (j : ℕ) → j < placeCount → i < n a → j < n b → at a i ≡ at b j → a ≡ b}
-      (λ f c a b p q. f a (p .0) b (q .0) (p .1 .0) (omega (arith, p .1 .1, room a)) (q .1 .0) (omega (arith, q .1 .1, room b)) (p .1 .1) (q .1 .1) (p .1 .2 ∙ sym (q .1 .2)))
+  one-agrees = agrees-as {P = (a : ℕ) → k a ≡ containerKind → (b : ℕ) → k b ≡ containerKind → (i : ℕ) → i < placeCount → (j : ℕ) → j < placeCount
+      → i < n a → j < n b → at a i ≡ at b j → a ≡ b}
+      (λ f c a b p q. f a (p .0) b (q .0) (p .1 .0) (omega (arith, p .1 .1, room a)) (q .1 .0) (omega (arith, q .1 .1, room b)) (p .1 .1) (q .1 .1)
+      (p .1 .2 ∙ sym (q .1 .2)))
       (λ f a p b q i h j l r s e. f (at a i) a b (p, (i, r, refl)) (q, (j, s, sym e)))
-      (agrees-range entityCount (λ a. imp (eqb (k a) containerKind) (every entityCount (λ b. row a (suc b)))) (λ a. k a ≡ containerKind → (b : ℕ) → k b ≡ containerKind → (i : ℕ) → i < placeCount → (j : ℕ) → j < placeCount → i < n a → j < n b → at a i ≡ at b j → a ≡ b)
-      (λ a. agrees-imp (agrees-eq (k a) containerKind) (agrees-range entityCount (row a) (λ b. k b ≡ containerKind → (i : ℕ) → i < placeCount → (j : ℕ) → j < placeCount → i < n a → j < n b → at a i ≡ at b j → a ≡ b) (λ b. search agreement depth 20)
+      (agrees-range entityCount (λ a. imp (eqb (k a) containerKind) (every entityCount (λ b. row a (suc b))))
+      (λ a. k a ≡ containerKind → (b : ℕ) → k b ≡ containerKind → (i : ℕ) → i < placeCount → (j : ℕ) → j < placeCount → i < n a → j < n b
+      → at a i ≡ at b j → a ≡ b)
+      (λ a. agrees-imp (agrees-eq (k a) containerKind) (agrees-range entityCount (row a)
+      (λ b. k b ≡ containerKind → (i : ℕ) → i < placeCount → (j : ℕ) → j < placeCount → i < n a → j < n b → at a i ≡ at b j → a ≡ b)
+      (λ b. search agreement depth 20)
       (λ q. absurd (omega (arith, entityOut 0 (inl refl)))) (λ b o q. absurd (omega (arith, entityOut b (inr o))))))
       (λ p. absurd (omega (arith, entityOut 0 (inl refl)))) (λ a o p. absurd (omega (arith, entityOut a (inr o)))))
     where
       row : ℕ → ℕ → Bool
-      row a b = imp (eqb (k b) containerKind) (every placeCount (λ i. every placeCount (λ j. imp (ltb i (n a)) (imp (ltb j (n b)) (imp (eqb (at a i) (at b j)) (eqb a b))))))
+      row a b = imp (eqb (k b) containerKind) (every placeCount (λ i. every placeCount
+          (λ j. imp (ltb i (n a)) (imp (ltb j (n b)) (imp (eqb (at a i) (at b j)) (eqb a b))))))
 
   loop-agrees : ((c a b : ℕ) → In k n at a c → In k n at b c → a ≡ b) → Agrees (loopTest k n at dev) ((e : ℕ) → Inside (In k n at) e e → ⊥)
   unfolding loopTest
   loop-agrees one = agrees-as {P = (i : ℕ) → i < entityCount → T (up (parent k n at) (suc entityCount) (suc i))}
       (λ g e p. low g e p (let x = holds-one p in boxed e (x .0) (x .1)))
       (λ f i h. complete entityCount (In k n at) (parent k n at) parent-top parent-holds one boxed f (suc i))
-      (agrees-every entityCount (λ e. up (parent k n at) (suc entityCount) (suc e)) (λ e. T (up (parent k n at) (suc entityCount) (suc e))) (λ e. record { to = λ t. t; from = λ t. t }))
+      (agrees-every entityCount (λ e. up (parent k n at) (suc entityCount) (suc e)) (λ e. T (up (parent k n at) (suc entityCount) (suc e)))
+      (λ e. record { to = λ t. t; from = λ t. t }))
     where
       low : ((i : ℕ) → i < entityCount → T (up (parent k n at) (suc entityCount) (suc i))) → (e : ℕ) → Inside (In k n at) e e
           → (1 ≤ e) × (e ≤ entityCount) → ⊥
@@ -115,8 +126,10 @@ module _ (k n : ℕ → ℕ) (at : ℕ → ℕ → ℕ) (dev : ℕ → ℕ) (ent
 
   alone-agrees : Agrees (aloneTest k n at dev) ((u v : ℕ) → dev u ≢ 0 → dev u ≡ dev v → u ≡ v)
   unfolding aloneTest
-  alone-agrees = agrees-range userCount (λ u. every userCount (λ v. imp (not (eqb (dev u) 0)) (imp (eqb (dev u) (dev (suc v))) (eqb u (suc v))))) (λ u. (v : ℕ) → dev u ≢ 0 → dev u ≡ dev v → u ≡ v)
-      (λ u. agrees-range userCount (λ v. imp (not (eqb (dev u) 0)) (imp (eqb (dev u) (dev v)) (eqb u v))) (λ v. dev u ≢ 0 → dev u ≡ dev v → u ≡ v) (λ v. search agreement)
+  alone-agrees = agrees-range userCount (λ u. every userCount (λ v. imp (not (eqb (dev u) 0)) (imp (eqb (dev u) (dev (suc v))) (eqb u (suc v)))))
+      (λ u. (v : ℕ) → dev u ≢ 0 → dev u ≡ dev v → u ≡ v)
+      (λ u. agrees-range userCount (λ v. imp (not (eqb (dev u) 0)) (imp (eqb (dev u) (dev v)) (eqb u v))) (λ v. dev u ≢ 0 → dev u ≡ dev v → u ≡ v)
+      (λ v. search agreement)
       (λ q e. absurd (q (e ∙ userOut 0 (inl refl)))) (λ v o q e. absurd (q (e ∙ userOut v (inr o)))))
       (λ v q. absurd (q (userOut 0 (inl refl)))) (λ u o v q. absurd (q (userOut u (inr o))))
 
@@ -124,9 +137,12 @@ module _ (k n : ℕ → ℕ) (at : ℕ → ℕ → ℕ) (dev : ℕ → ℕ) (ent
   unfolding idleTest
   idle-agrees = agrees-as {P = (e : ℕ) → e < entityCount → k (suc e) ≡ deviceKind → ((u : ℕ) → dev u ≢ suc e) → n (suc e) ≡ 0}
       (λ f e h z. low f e h z (ltb e (suc entityCount)) (below e (suc entityCount))) (λ f e l h z. f (suc e) h z)
-      (agrees-every entityCount (λ e. imp (eqb (k (suc e)) deviceKind) (imp (every userCount (λ u. not (eqb (dev (suc u)) (suc e)))) (eqb (n (suc e)) 0))) (λ e. k (suc e) ≡ deviceKind → ((u : ℕ) → dev u ≢ suc e) → n (suc e) ≡ 0)
+      (agrees-every entityCount (λ e. imp (eqb (k (suc e)) deviceKind)
+      (imp (every userCount (λ u. not (eqb (dev (suc u)) (suc e)))) (eqb (n (suc e)) 0)))
+      (λ e. k (suc e) ≡ deviceKind → ((u : ℕ) → dev u ≢ suc e) → n (suc e) ≡ 0)
       (λ e. agrees-imp (agrees-eq (k (suc e)) deviceKind) (agrees-imp
-      (agrees-range userCount (λ u. not (eqb (dev u) (suc e))) (λ u. dev u ≢ suc e) (λ u. search agreement) (λ q. omega (arith, userOut 0 (inl refl))) (λ u o q. omega (arith, userOut u (inr o))))
+      (agrees-range userCount (λ u. not (eqb (dev u) (suc e))) (λ u. dev u ≢ suc e) (λ u. search agreement) (λ q. omega (arith, userOut 0 (inl refl)))
+      (λ u o q. omega (arith, userOut u (inr o))))
       (agrees-eq (n (suc e)) 0))))
     where
       low : ((e : ℕ) → e < entityCount → k (suc e) ≡ deviceKind → ((u : ℕ) → dev u ≢ suc e) → n (suc e) ≡ 0) → (e : ℕ) → k e ≡ deviceKind
@@ -139,7 +155,8 @@ module _ (k n : ℕ → ℕ) (at : ℕ → ℕ → ℕ) (dev : ℕ → ℕ) (ent
   unfolding linksTest
   links-agrees = agrees-as
       (λ (z : ((e c : ℕ) → Member (at e) (n e) c → (1 ≤ k c) × (k c ≤ 2)) × (((c a b : ℕ) → In k n at a c → In k n at b c → a ≡ b) × (((e : ℕ) → Inside (In k n at) e e → ⊥)
-      × (((u : ℕ) → dev u ≢ 0 → k (dev u) ≡ deviceKind) × (((u v : ℕ) → dev u ≢ 0 → dev u ≡ dev v → u ≡ v) × ((e : ℕ) → k e ≡ deviceKind → ((u : ℕ) → dev u ≢ e) → n e ≡ 0)))))).
+      × (((u : ℕ) → dev u ≢ 0 → k (dev u) ≡ deviceKind) × (((u v : ℕ) → dev u ≢ 0 → dev u ≡ dev v → u ≡ v)
+      × ((e : ℕ) → k e ≡ deviceKind → ((u : ℕ) → dev u ≢ e) → n e ≡ 0)))))).
       record { contents = z .0; oneContainer = z .1 .0; noLoop = z .1 .1 .0; deviceIs = z .1 .1 .1 .0; oneUser = z .1 .1 .1 .1 .0; idle = z .1 .1 .1 .1 .1 })
       (λ l. (l .contents, (l .oneContainer, (l .noLoop, (l .deviceIs, (l .oneUser, l .idle))))))
       (agrees-and contents-agrees (agrees-then one-agrees (λ o. agrees-and (loop-agrees o) (agrees-and device-agrees (agrees-and alone-agrees idle-agrees)))))

@@ -23,7 +23,8 @@ use Rattle.model.specs.Tables.Words.{whoLimit, whoOf}
 pub shape-agrees : (k t l m v r x : ℕ) → Agrees (shapeTest k t l m v r x) (Shape k t l m v r x)
 unfolding shapeTest
 shape-agrees k t l m v r x = agrees-as
-    {P = (k ≤ deviceKind) × ((t ≤ releasedType) × ((l < levelCount) × ((m ≤ 1) × ((x < levelCount) × ((t ≢ plainType → k ≡ containerKind) × ((m ≢ 0 → k ≡ containerKind)
+    {P = (k ≤ deviceKind) × ((t ≤ releasedType) × ((l < levelCount) × ((m ≤ 1)
+    × ((x < levelCount) × ((t ≢ plainType → k ≡ containerKind) × ((m ≢ 0 → k ≡ containerKind)
     × ((t ≡ releasedType → (1 ≤ r) × (r ≤ userCount)) × ((t ≢ releasedType → r ≡ 0) × ((k ≢ deviceKind → x ≡ 0) × (k ≡ deviceKind → v ≡ 0))))))))))}
     (λ z. search) (λ s. search) (search agreement depth 20)
 
@@ -31,7 +32,9 @@ shape-agrees k t l m v r x = agrees-as
 pub packed-agrees : (row : ℕ → ℕ) (n : ℕ) → ((i : ℕ) → placeCount ≤ i → row i ≡ 0) → Agrees (packedTest row n) (Packed row n)
 unfolding packedTest
 packed-agrees row n out = agrees-as
-    {P = (n ≤ placeCount) × (((i : ℕ) → i < placeCount → i < n → 1 ≤ row i) × (((i : ℕ) → i < placeCount → n ≤ i → row i ≡ 0) × ((i : ℕ) → i < placeCount → (j : ℕ) → j < placeCount → i < n → j < n → row i ≡ row j → i ≡ j)))}
+    {P = (n ≤ placeCount) × (((i : ℕ) → i < placeCount → i < n → 1 ≤ row i)
+    × (((i : ℕ) → i < placeCount → n ≤ i → row i ≡ 0) × ((i : ℕ) → i < placeCount → (j : ℕ) → j < placeCount → i < n → j < n → row i ≡ row j
+    → i ≡ j)))}
     (λ z. record {
       room = z .0;
       used = λ i h. z .1 .0 i (omega arith) h;
@@ -41,7 +44,9 @@ packed-agrees row n out = agrees-as
     (λ p. (p .room, (λ i l h. p .used i h, (λ i l h. p .rest i h, λ i l j m h k e. p .distinct i j h k e))))
     (search agreement depth 20)
   where
-    rest : (n ≤ placeCount) × (((i : ℕ) → i < placeCount → i < n → 1 ≤ row i) × (((i : ℕ) → i < placeCount → n ≤ i → row i ≡ 0) × ((i : ℕ) → i < placeCount → (j : ℕ) → j < placeCount → i < n → j < n → row i ≡ row j → i ≡ j)))
+    rest : (n ≤ placeCount) × (((i : ℕ) → i < placeCount → i < n → 1 ≤ row i)
+        × (((i : ℕ) → i < placeCount → n ≤ i → row i ≡ 0) × ((i : ℕ) → i < placeCount → (j : ℕ) → j < placeCount → i < n → j < n → row i ≡ row j
+        → i ≡ j)))
         → (i : ℕ) → n ≤ i → {b : Bool} → Below i placeCount b → row i ≡ 0
     rest z i h (under l) = z .1 .1 .0 i l h
     rest z i h (over l) = out i l
@@ -49,7 +54,8 @@ packed-agrees row n out = agrees-as
 notice-agrees : (h o n : ℕ) → Agrees (noticeTest h o n) (Notice h o n)
 unfolding noticeTest
 notice-agrees h o n = agrees-as
-    {P = ((h ≡ 0) ⊎ ((firstNoticed ≤ h) × (h ≤ lastNoticed))) × ((o ≤ operationCount) × ((n ≤ missedLimit) × ((h ≡ 0 → n ≡ 0) × ((n ≡ 0 → h ≡ 0) × (h ≡ 0 → o ≡ 0)))))}
+    {P = ((h ≡ 0) ⊎ ((firstNoticed ≤ h) × (h ≤ lastNoticed))) × ((o ≤ operationCount)
+    × ((n ≤ missedLimit) × ((h ≡ 0 → n ≡ 0) × ((n ≡ 0 → h ≡ 0) × (h ≡ 0 → o ≡ 0)))))}
     (λ z. search) (λ s. search) (search agreement depth 20)
 
 -- a row of eight is zero from its eighth place on
@@ -66,7 +72,8 @@ within r out f i = go (ltb i placeCount) (below i placeCount)
 filled-agrees : (k n : ℕ) (at sum : ℕ → ℕ) → Eight at → Eight sum → Agrees (filledTest k n at sum) (Filled k n at sum)
 unfolding filledTest
 filled-agrees k n at sum ea es = agrees-as
-    {P = Packed at n × ((k ≡ objectKind → n ≡ 0) × ((k ≡ deviceKind → (i : ℕ) → i < placeCount → i < n → (1 ≤ sum i) × (sum i ≤ sumLimit)) × ((k ≢ deviceKind → (i : ℕ) → i < placeCount → sum i ≡ 0) × ((i : ℕ) → i < placeCount → n ≤ i → sum i ≡ 0))))}
+    {P = Packed at n × ((k ≡ objectKind → n ≡ 0) × ((k ≡ deviceKind → (i : ℕ) → i < placeCount → i < n → (1 ≤ sum i) × (sum i ≤ sumLimit))
+    × ((k ≢ deviceKind → (i : ℕ) → i < placeCount → sum i ≡ 0) × ((i : ℕ) → i < placeCount → n ≤ i → sum i ≡ 0))))}
     (λ z. record {
       packed = z .0;
       objectEmpty = z .1 .0;
@@ -77,7 +84,8 @@ filled-agrees k n at sum ea es = agrees-as
     (λ f. (f .packed, (f .objectEmpty, (λ q i h l. f .sums q i l, (λ q i h. f .noSums q i, λ i h l. f .restSums i l)))))
     (agrees-and (packed-agrees at n ea) (search agreement depth 20))
   where
-    go : Packed at n × ((k ≡ objectKind → n ≡ 0) × ((k ≡ deviceKind → (i : ℕ) → i < placeCount → i < n → (1 ≤ sum i) × (sum i ≤ sumLimit)) × ((k ≢ deviceKind → (i : ℕ) → i < placeCount → sum i ≡ 0) × ((i : ℕ) → i < placeCount → n ≤ i → sum i ≡ 0))))
+    go : Packed at n × ((k ≡ objectKind → n ≡ 0) × ((k ≡ deviceKind → (i : ℕ) → i < placeCount → i < n → (1 ≤ sum i) × (sum i ≤ sumLimit))
+        × ((k ≢ deviceKind → (i : ℕ) → i < placeCount → sum i ≡ 0) × ((i : ℕ) → i < placeCount → n ≤ i → sum i ≡ 0))))
         → (i : ℕ) → n ≤ i → (b : Bool) → Below i placeCount b → sum i ≡ 0
     go z i h true (under l) = z .1 .1 .1 .1 i l h
     go z i h false (over l) = es i l
@@ -94,7 +102,8 @@ access-agrees r out = agrees-as
     {P = Packed r (seek 0 r placeCount) × ((i : ℕ) → i < placeCount → i < seek 0 r placeCount → GoodTriple (r i))}
     (λ z. (seek 0 r placeCount, record { packed = z .0; good = λ i h. z .1 i (omega (arith, z .0 .room)) h }))
     (λ a. let e = first-zero r (a .0) (a .1 .packed) in (rw e (a .1 .packed), λ i h l. a .1 .good i (omega arith)))
-    (agrees-and (packed-agrees r (seek 0 r placeCount) out) (agrees-every placeCount (λ i. imp (ltb i (seek 0 r placeCount)) (goodTest (r i))) (λ i. i < seek 0 r placeCount → GoodTriple (r i)) (λ i. agrees-imp (agrees-le (suc i) (seek 0 r placeCount)) (good-agrees (r i)))))
+    (agrees-and (packed-agrees r (seek 0 r placeCount) out) (agrees-every placeCount (λ i. imp (ltb i (seek 0 r placeCount)) (goodTest (r i)))
+    (λ i. i < seek 0 r placeCount → GoodTriple (r i)) (λ i. agrees-imp (agrees-le (suc i) (seek 0 r placeCount)) (good-agrees (r i)))))
 
 pub record Eights (w : EntityWord → ℕ) : Type 0 where
   pub place8 : Eight (λ i. w (place i))
@@ -129,7 +138,8 @@ entity-agrees w o = agrees-as
     × (Filled (w kind) (w count) (λ i. w (place i)) (λ i. w (shown i)) × ((n : ℕ) × Access n (λ i. w (triple i)))))}
     (λ z. record { absent = z .0; shape = z .1 .0; filled = z .1 .1 .0; access = z .1 .1 .1 })
     (λ e. (e .absent, (e .shape, (e .filled, e .access))))
-    (agrees-and (agrees-imp (agrees-eq (w kind) 0) (none-agrees w o)) (agrees-and (shape-agrees (w kind) (w type) (w level) (w mark) (w value) (w releaser) (w maximum))
+    (agrees-and (agrees-imp (agrees-eq (w kind) 0) (none-agrees w o)) (agrees-and
+    (shape-agrees (w kind) (w type) (w level) (w mark) (w value) (w releaser) (w maximum))
     (agrees-and (filled-agrees (w kind) (w count) (λ i. w (place i)) (λ i. w (shown i)) (o .place8) (o .shown8)) (access-agrees (λ i. w (triple i)) (o .triple8)))))
 
 nobody-agrees : (w : UserWord → ℕ) → Agrees (nobodyTest w)
@@ -141,8 +151,11 @@ nobody-agrees w = search agreement depth 20
 pub user-agrees : (w : UserWord → ℕ) → Eight (λ i. w (spare i)) → Agrees (userTest w) (UserOk w)
 unfolding userTest
 user-agrees w o = agrees-as
-    {P = (w present ≡ 0 → (w present ≡ 0) × ((w clearance ≡ 0) × ((w authorised ≡ 0) × ((w current ≡ 0) × ((w device ≡ 0) × ((w held ≡ 0) × ((w heldOp ≡ 0) × (w missed ≡ 0))))))))
-    × ((w present ≤ 1) × ((w clearance < levelCount) × ((w authorised < roleSets) × ((w current < roleSets) × (((i : ℕ) → i < placeCount → w (spare i) ≡ 0) × ((w device ≡ 0 → w current ≡ 0) × Notice (w held) (w heldOp) (w missed)))))))}
+    {P = (w present ≡ 0 → (w present ≡ 0) × ((w clearance ≡ 0) × ((w authorised ≡ 0)
+    × ((w current ≡ 0) × ((w device ≡ 0) × ((w held ≡ 0) × ((w heldOp ≡ 0) × (w missed ≡ 0))))))))
+    × ((w present ≤ 1) × ((w clearance < levelCount) × ((w authorised < roleSets)
+    × ((w current < roleSets) × (((i : ℕ) → i < placeCount → w (spare i) ≡ 0)
+    × ((w device ≡ 0 → w current ≡ 0) × Notice (w held) (w heldOp) (w missed)))))))}
     (λ z. record {
       absent = λ q. let y = z .0 q in elim [
         | present ↦ y .0

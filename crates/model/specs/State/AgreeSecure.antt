@@ -41,7 +41,8 @@ module _ (d : Tables) (w : WellFormed d) where
   seen-agrees : (u : ℕ)
       → Agrees (seenTest d u) ((c : ℕ) → devices d u ≢ 0 → Holds d (devices d u) c → AtMost (d .entity c level) (d .user u clearance))
   unfolding seenTest
-  seen-agrees u = agrees-as {P = devices d u ≢ 0 → (i : ℕ) → i < placeCount → i < counts d (devices d u) → AtMost (d .entity (places d (devices d u) i) level) (d .user u clearance)}
+  seen-agrees u = agrees-as {P = devices d u ≢ 0 → (i : ℕ) → i < placeCount → i < counts d (devices d u) → AtMost
+      (d .entity (places d (devices d u) i) level) (d .user u clearance)}
       (λ f c n m. subst (λ (y : ℕ). AtMost (d .entity y level) (d .user u clearance)) (m .2) (f n (m .0) (omega (arith, m .1, room (devices d u))) (m .1)))
       (λ s n i h l. s (places d (devices d u) i) n (i, l, refl))
       (search (agreement, agrees-T))
@@ -68,12 +69,14 @@ module _ (d : Tables) (w : WellFormed d) where
       {P = ((e c : ℕ) → Holds d e c → AtMost (d .entity c level) (d .entity e level))
       × (((u c : ℕ) → devices d u ≢ 0 → Holds d (devices d u) c → AtMost (d .entity c level) (d .user u clearance))
       × (((e i : ℕ) → kinds d e ≡ deviceKind → i < counts d e → T (labelled (sums d e i)))
-      × (((u : ℕ) → Subset roleCount (d .user u current) (d .user u authorised)) × ((e : ℕ) → kinds d e ≡ deviceKind → AtMost (d .entity e level) (d .entity e maximum)))))}
+      × (((u : ℕ) → Subset roleCount (d .user u current) (d .user u authorised))
+      × ((e : ℕ) → kinds d e ≡ deviceKind → AtMost (d .entity e level) (d .entity e maximum)))))}
       (λ z. record { contained = z .0; seen = z .1 .0; valueLabelled = z .1 .1 .0; roles = z .1 .1 .1 .0; ceiling = z .1 .1 .1 .1 })
       (λ s. (s .contained, (s .seen, (s .valueLabelled, (s .roles, s .ceiling)))))
       (agrees-and (agrees-range entityCount (containedTest d) (λ e. (c : ℕ) → Holds d e c → AtMost (d .entity c level) (d .entity e level)) contained-agrees
       (λ c m. absurd (omega (arith, m .1, no-entity 0 (inl refl)))) (λ e q c m. absurd (omega (arith, m .1, no-entity e (inr q)))))
-      (agrees-and (agrees-range userCount (seenTest d) (λ u. (c : ℕ) → devices d u ≢ 0 → Holds d (devices d u) c → AtMost (d .entity c level) (d .user u clearance)) seen-agrees
+      (agrees-and (agrees-range userCount (seenTest d) (λ u. (c : ℕ) → devices d u ≢ 0 → Holds d (devices d u) c → AtMost (d .entity c level)
+      (d .user u clearance)) seen-agrees
       (λ c n m. absurd (n (o .userOut 0 (inl refl) device))) (λ u q c n m. absurd (n (o .userOut u (inr q) device))))
       (agrees-and (agrees-range entityCount (labelledTest d) (λ e. (i : ℕ) → kinds d e ≡ deviceKind → i < counts d e → T (labelled (sums d e i))) labelled-agrees
       (λ i k l. absurd (omega (arith, no-entity 0 (inl refl)))) (λ e q i k l. absurd (omega (arith, no-entity e (inr q)))))

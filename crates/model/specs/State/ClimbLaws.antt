@@ -37,8 +37,10 @@ pub pigeon : (n : ℕ) (f : ℕ → ℕ) → ((i : ℕ) → i ≤ n → f i < n)
 pigeon zero f small apart = not-suc-le-zero (small 0 (omega arith))
 pigeon (suc n) f small apart =
     pigeon n (λ i. squeeze (f (suc n)) (f i))
-    (λ i h. squeeze-lt n (f (suc n)) (f i) (omega (arith, small (suc n) (omega arith))) (omega (arith, small i (omega arith))) (apart i (suc n) (omega arith) (omega arith)))
-    (λ i j l h e. apart i j l (omega arith) (squeeze-inj (f (suc n)) (f i) (f j) (apart i (suc n) (omega arith) (omega arith)) (apart j (suc n) (omega arith) (omega arith)) e))
+    (λ i h. squeeze-lt n (f (suc n)) (f i) (omega (arith, small (suc n) (omega arith))) (omega (arith, small i (omega arith)))
+    (apart i (suc n) (omega arith) (omega arith)))
+    (λ i j l h e. apart i j l (omega arith) (squeeze-inj (f (suc n)) (f i) (f j) (apart i (suc n) (omega arith) (omega arith))
+    (apart j (suc n) (omega arith) (omega arith)) e))
 
 -- par a is what a stands in, or 0
 module _ (n : ℕ) (H : ℕ → ℕ → Type 0) (par : ℕ → ℕ) (top : (a : ℕ) → par a ≡ 0 → (x : ℕ) → H x a → ⊥) (holds : (a : ℕ) → par a ≢ 0 → H (par a) a)
@@ -99,10 +101,12 @@ module _ (n : ℕ) (H : ℕ → ℕ → Type 0) (par : ℕ → ℕ) (top : (a : 
       go true e = tt
       go false e =
           let h = high (suc n) a e in
-          let r : (j : ℕ) → j < (suc n) → (1 ≤ chain a (suc j)) × (chain a (suc j) ≤ n) = λ j l. unfold chain in range (par (chain a j)) (chain a j) (holds (chain a j) (h j l)) in
+          let r : (j : ℕ) → j < (suc n) → (1 ≤ chain a (suc j)) × (chain a (suc j) ≤ n) = λ j l. unfold chain in range (par (chain a j)) (chain a j)
+          (holds (chain a j) (h j l)) in
           absurd (pigeon n (λ i. pred (chain a (suc i))) (λ i l. omega (arith, r i (omega arith)))
           (λ i j l k q. no-loop (chain a (suc i))
-          (subst (Inside H (chain a (suc i))) (omega (arith, r i (omega arith), r j (omega arith))) (above (suc n) a h (suc i) (suc j) (omega arith) (omega arith)))))
+          (subst (Inside H (chain a (suc i))) (omega (arith, r i (omega arith), r j (omega arith)))
+          (above (suc n) a h (suc i) (suc j) (omega arith) (omega arith)))))
 
   -- the test for "it or inside it"
   lift : {x e : ℕ} (c : ℕ) → H x c → Inside H x e → Inside H c e
@@ -136,4 +140,5 @@ module _ (n : ℕ) (H : ℕ → ℕ → Type 0) (par : ℕ → ℕ) (top : (a : 
       go false true (other q) (it z) ih u (inl r) = q r
       go false true (other q) (it z) ih u (inr p) = let r = first-step p in top c z (r .0) (r .1)
       go false false (other q) (other z) ih u (inl r) = absurd (q r)
-      go false false (other q) (other z) ih u (inr p) = let r = first-step p in ih u (subst (λ (y : ℕ). Within H y e) (one c (r .0) (par c) (r .1) (holds c z)) (r .2))
+      go false false (other q) (other z) ih u (inr p) = let r = first-step p in ih u
+          (subst (λ (y : ℕ). Within H y e) (one c (r .0) (par c) (r .1) (holds c z)) (r .2))

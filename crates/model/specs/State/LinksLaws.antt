@@ -64,7 +64,8 @@ module _ (k n : ℕ → ℕ) (at : ℕ → ℕ → ℕ) (dev : ℕ → ℕ) (l :
       noLoop = no-loop (In k n at) (In k count+ place+) c e one-more (l .noLoop) apart;
       deviceIs = l .deviceIs;
       oneUser = l .oneUser;
-      idle = λ x h z. case (λ (y : ℕ). y ≡ 0) x c (suc (n c)) (n x) (λ q. let o = on (subst (λ (y : ℕ). k y ≡ deviceKind) q h) in absurd (z (o .0) (o .1 ∙ sym q))) (λ q. l .idle x h z);
+      idle = λ x h z. case (λ (y : ℕ). y ≡ 0) x c (suc (n c)) (n x) (λ q. let o = on (subst (λ (y : ℕ). k y ≡ deviceKind) q h) in absurd
+          (z (o .0) (o .1 ∙ sym q))) (λ q. l .idle x h z);
     }
       where
         whole : (x a : ℕ) → Member (at x) (n x) a ⊎ ((x ≡ c) × (a ≡ e)) → (1 ≤ k a) × (k a ≤ 2)
@@ -86,8 +87,11 @@ module _ (k n : ℕ → ℕ) (at : ℕ → ℕ → ℕ) (dev : ℕ → ℕ) (l :
   -- a number that was absent gets a kind, with nothing in it
   module _ (e s : ℕ) (gone : k e ≡ 0) (none : n e ≡ 0) (thing : (1 ≤ s) × (s ≤ 2)) where
     empty-in : (b c : ℕ) → In (at-e e s k) n at b c → In k n at b c
-    empty-in b c p =
-        (case (λ (y : ℕ). y ≡ containerKind → k b ≡ containerKind) b e s (k b) (λ q z. absurd (omega (arith, p .1 .1, subst (λ (y : ℕ). n y ≡ 0) (sym q) none))) (λ q z. z) (p .0), p .1)
+    empty-in b c p = (
+      case (λ (y : ℕ). y ≡ containerKind → k b ≡ containerKind) b e s (k b)
+          (λ q z. absurd (omega (arith, p .1 .1, subst (λ (y : ℕ). n y ≡ 0) (sym q) none))) (λ q z. z) (p .0),
+      p .1,
+    )
 
     pub appear : Linked (at-e e s k) n at dev
     appear = record {
@@ -123,12 +127,14 @@ module _ (k n : ℕ → ℕ) (at : ℕ → ℕ → ℕ) (dev : ℕ → ℕ) (l :
 
     pub vanish : Linked kind- count- place- dev
     vanish = record {
-      contents = λ x c h. case (λ (y : ℕ). (1 ≤ y) × (y ≤ 2)) c e 0 (k c) (λ q. absurd (nowhere x (subst (Member (at x) (n x)) q (still x c h)))) (λ q. l .contents x c (still x c h));
+      contents = λ x c h. case (λ (y : ℕ). (1 ≤ y) × (y ≤ 2)) c e 0 (k c) (λ q. absurd (nowhere x (subst (Member (at x) (n x)) q (still x c h))))
+          (λ q. l .contents x c (still x c h));
       oneContainer = λ c a b p q. l .oneContainer c a b (still-in a c p) (still-in b c q);
       noLoop = λ x p. l .noLoop x (fewer still-in p);
       deviceIs = λ u h. case (λ (y : ℕ). y ≡ deviceKind) (dev u) e 0 (k (dev u)) (λ q. absurd (omega (arith, l .deviceIs u h, ap k q))) (λ q. l .deviceIs u h);
       oneUser = l .oneUser;
-      idle = λ x h z. case (λ (y : ℕ). y ≡ 0) x e 0 (n x) (λ q. refl) (λ q. l .idle x (case (λ (y : ℕ). y ≡ deviceKind → k x ≡ deviceKind) x e 0 (k x) (λ q z. absurd (omega arith)) (λ q z. z) h) z);
+      idle = λ x h z. case (λ (y : ℕ). y ≡ 0) x e 0 (n x) (λ q. refl) (λ q. l .idle x
+          (case (λ (y : ℕ). y ≡ deviceKind → k x ≡ deviceKind) x e 0 (k x) (λ q z. absurd (omega arith)) (λ q z. z) h) z);
     }
 
   -- a user who was off goes on to a free device

@@ -40,7 +40,8 @@ module _ (w : ℕ) (r s : List ℕ) (size : length r ≡ w) where
   first-at j h = let q : 0 * w + j ≡ j = omega arith in ap (λ (k : ℕ). getD (r ++ s) k 0) q ∙ List·getD-append r s 0 j (omega arith)
 
   later-at : (i j : ℕ) → getD (r ++ s) (suc i * w + j) 0 ≡ getD s (i * w + j) 0
-  later-at i j = let q : suc i * w + j ≡ length r + (i * w + j) = omega (arith, suc-mul i w) in ap (λ (k : ℕ). getD (r ++ s) k 0) q ∙ getD-append-add r s (i * w + j) 0
+  later-at i j = let q : suc i * w + j ≡ length r + (i * w + j) = omega (arith, suc-mul i w) in ap (λ (k : ℕ). getD (r ++ s) k 0) q
+      ∙ getD-append-add r s (i * w + j) 0
 
 -- n records of w words have n times w words
 pub records-length : (n w : ℕ) (l : List (List ℕ)) → length (paddedRecords n w l) ≡ n * w
@@ -61,7 +62,8 @@ records-at (suc n) w (r ∷ l) (suc i) j h k = later-at w (padded w r) (paddedRe
 -- a sheet has 2,304 words
 pub sheetWords-length : (s : Sheet) → length (sheetWords s) ≡ wordCount
 unfolding sheetWords
-sheetWords-length s = length-append (sheetUsers s) (sheetEntities s) ∙ ap₂ _+_ (records-length userCount userWidth (s .users)) (records-length entityCount entityWidth (s .entities))
+sheetWords-length s = length-append (sheetUsers s) (sheetEntities s) ∙ ap₂ _+_ (records-length userCount userWidth (s .users))
+    (records-length entityCount entityWidth (s .entities))
 
 module _ (s : Sheet) where
   -- at the index of a user's word stands that word of the sheet
@@ -70,7 +72,8 @@ module _ (s : Sheet) where
   sheet-user u f t =
       let r = user-in u f t in
       let n = records-length userCount userWidth (s .users) in
-      List·getD-append (sheetUsers s) (sheetEntities s) 0 (userAt u f) (omega arith) ∙ records-at userCount userWidth (s .users) (u - 1) (userOffset f) (omega arith) (omega arith)
+      List·getD-append (sheetUsers s) (sheetEntities s) 0 (userAt u f) (omega arith) ∙ records-at userCount userWidth (s .users) (u - 1)
+      (userOffset f) (omega arith) (omega arith)
 
   -- and at the index of an entity's word that one
   sheet-entity : (e : ℕ) (f : EntityWord) → T (entityIn e f) → getD (sheetWords s) (entityAt e f) 0 ≡ recordWord (s .entities) e (offset f)
@@ -88,7 +91,8 @@ module _ (s : Sheet) where
   unfolding tablesOf sheetTables
   sheet-tables = λ i. record {
     user = fun-ext (λ u. fun-ext (λ f. guard-same (userIn u f) (getD (sheetWords s) (userAt u f) 0) (recordWord (s .users) u (userOffset f)) (sheet-user u f))) i;
-    entity = fun-ext (λ e. fun-ext (λ f. guard-same (entityIn e f) (getD (sheetWords s) (entityAt e f) 0) (recordWord (s .entities) e (offset f)) (sheet-entity e f))) i;
+    entity = fun-ext (λ e. fun-ext (λ f. guard-same (entityIn e f) (getD (sheetWords s) (entityAt e f) 0) (recordWord (s .entities) e (offset f))
+        (sheet-entity e f))) i;
   }
 
   -- so they are zero outside their ranges

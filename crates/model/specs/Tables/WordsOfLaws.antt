@@ -65,8 +65,11 @@ index-of-user d u f t =
     let r = user-in u f t in
     let i : ℕ = userAt u f in
     let number : suc (userAt u f / userWidth) ≡ u = omega arith in
-    let rest : userAt u f % userWidth ≡ userOffset f = omega arith in
-    (omega arith, pick-under i entitiesFrom (userAtIndex d i) (entityAtIndex d (i - entitiesFrom)) (omega arith) ∙ ap₂ (d .user) number (ap userWordAt rest ∙ user-word-back f))
+    let rest : userAt u f % userWidth ≡ userOffset f = omega arith in (
+      omega arith,
+      pick-under i entitiesFrom (userAtIndex d i) (entityAtIndex d (i - entitiesFrom)) (omega arith) ∙ ap₂ (d .user) number
+          (ap userWordAt rest ∙ user-word-back f),
+    )
 
 -- the same of an entity's word
 index-of-entity : (d : Tables) (e : ℕ) (f : EntityWord) → T (entityIn e f)
@@ -77,8 +80,11 @@ index-of-entity d e f t =
     let o = offset-below f (r .2) in
     let i : ℕ = entityAt e f in
     let number : suc ((entityAt e f - entitiesFrom) / entityWidth) ≡ e = omega arith in
-    let rest : (entityAt e f - entitiesFrom) % entityWidth ≡ offset f = omega arith in
-    (omega arith, pick-over i entitiesFrom (userAtIndex d i) (entityAtIndex d (i - entitiesFrom)) (omega arith) ∙ ap₂ (d .entity) number (ap entityWordAt rest ∙ entity-word-back f (r .2)))
+    let rest : (entityAt e f - entitiesFrom) % entityWidth ≡ offset f = omega arith in (
+      omega arith,
+      pick-over i entitiesFrom (userAtIndex d i) (entityAtIndex d (i - entitiesFrom)) (omega arith) ∙ ap₂ (d .entity) number
+          (ap entityWordAt rest ∙ entity-word-back f (r .2)),
+    )
 
 -- a value is zero, if it is where the number is out of its range, and where the place is, and one of the two is
 zero-outside : (x n o w v : ℕ) → ((x ≡ 0) ⊎ (n < x) → v ≡ 0) → (w ≤ o → v ≡ 0) → ¬ ((1 ≤ x) × (x ≤ n) × (o < w)) → v ≡ 0
@@ -127,7 +133,8 @@ module _ (d : Tables) (b : Bounded d) where
   entity-told : (e : ℕ) (f : EntityWord) → pick (entityIn e f) (getD (wordsOf d) (entityAt e f) 0) 0 ≡ d .entity e f
   entity-told e f = guard-is (entityIn e f) (getD (wordsOf d) (entityAt e f) 0) (d .entity e f)
       (λ t. let r = index-of-entity d e f t in wordsOf-at d (entityAt e f) (r .0) ∙ r .1)
-      (λ k. zero-outside e entityCount (index f) placeCount (d .entity e f) (λ q. b .entityOut e q f) (entity-past e f) (λ r. k (in-entity e f (r .0) (r .1) (r .2))))
+      (λ k. zero-outside e entityCount (index f) placeCount (d .entity e f) (λ q. b .entityOut e q f) (entity-past e f)
+      (λ r. k (in-entity e f (r .0) (r .1) (r .2))))
 
   -- the tables of the words of bounded tables are those tables
   pub tablesOf-wordsOf : tablesOf (wordsOf d) ≡ d
@@ -152,7 +159,8 @@ entity-known t i h =
     let f = entityWordAt (i % entityWidth) in
     let o : offset f ≡ i % entityWidth = offset-at (i % entityWidth) (omega arith) in
     let s : entityAt e f ≡ entitiesFrom + i = omega arith in
-    guard-in (entityIn e f) (getD t (entityAt e f) 0) (in-entity e f (omega arith) (omega arith) (index-below (i % entityWidth) (omega arith))) ∙ ap (λ (k : ℕ). getD t k 0) s
+    guard-in (entityIn e f) (getD t (entityAt e f) 0) (in-entity e f (omega arith) (omega arith) (index-below (i % entityWidth) (omega arith))) ∙ ap
+    (λ (k : ℕ). getD t k 0) s
 
 -- so every word of the list is told by its tables
 index-known : (t : List ℕ) (i : ℕ) → i < wordCount → wordAtIndex (tablesOf t) i ≡ getD t i 0

@@ -45,7 +45,11 @@ framed toRevoke d w s a =
     record { users = λ x f t. refl; entities = entity-left (row-only triple (without (namedTriple s) (triples d (s .first)) placeCount)) (s .first) d }
 framed toShow d w s a =
     let k = spot (own d s) (s .first) d in
-    record { users = λ x f t. refl; entities = entity-left (screen-only _ (replace k (s .first) (places d (own d s))) (replace k (s .a) (sums d (own d s)))) (own d s) d }
+    record {
+      users = λ x f t. refl;
+      entities = entity-left (screen-only _ (replace k (s .first) (places d (own d s)))
+          (replace k (s .a) (sums d (own d s)))) (own d s) d;
+    }
 framed toClear d w s a = record { users = λ x f t. refl; entities = entity-left (screen-only 0 (λ i. 0) (λ i. 0)) (own d s) d }
 framed toLogin d w s a = record { users = user-left (user-word-only device) (s .user) d; entities = λ x f t. refl }
 framed toLogout d w s a = record {

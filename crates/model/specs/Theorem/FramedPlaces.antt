@@ -117,7 +117,8 @@ module _ (d : Tables) (w : WellFormed d) (s : Asked) where
     where
       stays : (x : ℕ) (f : EntityWord) → T (not (eqb x (s .first))) × T (not (holder d (s .first) x && contentWord f))
           → delete (s .first) d .entity x f ≡ d .entity x f
-      stays x f t = word-left (λ y. eqb y (s .first)) (λ y. blank) (leave (s .first) d .entity) x f (λ k. absurd (T-not (eqb x (s .first)) (t .0) k)) ∙ leave-left d w (s .first) x f (t .1)
+      stays x f t = word-left (λ y. eqb y (s .first)) (λ y. blank) (leave (s .first) d .entity) x f (λ k. absurd (T-not (eqb x (s .first)) (t .0) k))
+          ∙ leave-left d w (s .first) x f (t .1)
 
   -- Move changes the container left and the container entered only.
   pub move-framed : kinds d (s .second) ≡ containerKind → Frame toMove s d (rowOf toMove .effect s d)

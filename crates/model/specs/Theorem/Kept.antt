@@ -60,15 +60,21 @@ module _ (d : Tables) (w : WellFormed d) (g : Secure d) (s : Asked) (p : d .user
 
   create-good : MayCreate s d → Good (rowOf toCreate .effect s d)
   create-good h = (
-    create-wellFormed d w g (vacant d) (s .first) (sortKind (s .a)) (sortType (s .a)) (s .b) (vacant-absent d (h .number)) (omega arith, h .number) (sort-kind (s .a)) (sort-type (s .a)) (h .levelIn) (h .box) (h .room) (h .low),
-    create-secure d w g (vacant d) (s .first) (sortKind (s .a)) (sortType (s .a)) (s .b) (vacant-absent d (h .number)) (omega arith, h .number) (sort-kind (s .a)) (sort-type (s .a)) (h .levelIn) (h .box) (h .room) (h .low),
+    create-wellFormed d w g (vacant d) (s .first) (sortKind (s .a)) (sortType (s .a)) (s .b) (vacant-absent d (h .number)) (omega arith, h .number)
+        (sort-kind (s .a)) (sort-type (s .a)) (h .levelIn) (h .box) (h .room) (h .low),
+    create-secure d w g (vacant d) (s .first) (sortKind (s .a)) (sortType (s .a)) (s .b) (vacant-absent d (h .number)) (omega arith, h .number)
+        (sort-kind (s .a)) (sort-type (s .a)) (h .levelIn) (h .box) (h .room) (h .low),
   )
 
   pub effect-good : (o : Op) → Allowed o s d → Good (rowOf o .effect s d)
   effect-good toCreate h = create-good h
   effect-good toDelete h =
       (delete-wellFormed d w g (s .first) (h .thing .1) (h .empty) (h .unseen), delete-secure d w g (s .first) (h .thing .1) (h .empty) (h .unseen))
-  effect-good toMove h = (move-wellFormed d w g (s .first) (s .second) (h .thing) (h .box) (h .room) (h .apart) (h .low), move-secure d w g (s .first) (s .second) (h .thing) (h .box) (h .room) (h .apart) (h .low))
+  effect-good toMove h = (
+    move-wellFormed d w g (s .first) (s .second) (h .thing) (h .box) (h .room) (h .apart) (h .low),
+    move-secure d w g (s .first)
+        (s .second) (h .thing) (h .box) (h .room) (h .apart) (h .low),
+  )
   effect-good toEdit h = (edit-wellFormed d w (s .first) (s .a) h, edit-secure d g (s .first) (s .a))
   effect-good toCopy h =
       (edit-wellFormed d w (s .second) (d .entity (s .first) value) (h .thing₂), edit-secure d g (s .second) (d .entity (s .first) value))

@@ -164,7 +164,10 @@ module _ (d : Tables) (q : Request) where
   release-changes : ChangedBy toRelease
   unfolding asked
   release-changes a =
-      let n : ReleaseSecure d q (rowOf toRelease .effect (asked d q) d) = record { stays = λ x b t. kept x t (eqb x e) (same x e); becomes = λ x b t k. made x t (eqb x e) (same x e) k } in
+      let n : ReleaseSecure d q (rowOf toRelease .effect (asked d q) d) = record {
+        stays = λ x b t. kept x t (eqb x e) (same x e);
+        becomes = λ x b t k. made x t (eqb x e) (same x e) k;
+      } in
       search sames
     where
       e : ℕ

@@ -25,7 +25,8 @@ quiet-obeys d d′ q c = record {
   copy = inl c;
   ccr = inl c;
   translation = λ x b h. inl (quiet-ids d d′ (q .user) c (devices d′ (q .user)) x h);
-  setting = set-same q d d′ (λ x b. c .entities x maximum) (λ x. c .users x clearance (λ e t. t)) (λ x. c .users x authorised (λ e t. t)) (λ x. c .users x current (λ e t. t));
+  setting = set-same q d d′ (λ x b. c .entities x maximum) (λ x. c .users x clearance (λ e t. t)) (λ x. c .users x authorised (λ e t. t))
+      (λ x. c .users x current (λ e t. t));
   downgrade = downgrade-same q d d′ (λ x b. c .entities x level);
   release = release-same q d d′ (λ x b. c .entities x type) (λ x b. c .entities x releaser);
 }

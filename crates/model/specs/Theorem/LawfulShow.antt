@@ -34,7 +34,8 @@ pub leave-ids : (e : ℕ) (d : Tables) (v x : ℕ) → ShowsId (leave e d) v x �
 leave-ids e d v x h = (h .0, go (eqb (kinds d v) containerKind) (same (kinds d v) containerKind) (h .1))
   where
     go : (b : Bool) → Same (kinds d v) containerKind b
-        → Shown (pick b (left e (places d v) (counts d v)) (counts d v)) (λ i. pick b (without e (places d v) (counts d v) i) (places d v i)) (sums d v) x → ShownOn d v x
+        → Shown (pick b (left e (places d v) (counts d v)) (counts d v)) (λ i. pick b (without e (places d v) (counts d v) i) (places d v i))
+        (sums d v) x → ShownOn d v x
     go true (it k) m = absurd (omega (arith, h .0))
     go false (other k) m = m
 
@@ -43,7 +44,8 @@ pub put-ids : (c e t : ℕ) (d : Tables) → kinds d c ≡ containerKind → (v 
 put-ids c e t d box v x h = (h .0, go (eqb v c) (same v c) (h .1))
   where
     go : (b : Bool) → Same v c b
-        → Shown (pick b (suc (counts d c)) (counts d v)) (λ i. pick b (replace (counts d c) e (places d c) i) (places d v i)) (λ i. pick b (replace (counts d c) t (sums d c) i) (sums d v i)) x
+        → Shown (pick b (suc (counts d c)) (counts d v)) (λ i. pick b (replace (counts d c) e (places d c) i) (places d v i))
+        (λ i. pick b (replace (counts d c) t (sums d c) i) (sums d v i)) x
         → ShownOn d v x
     go true (it k) m = absurd (omega (arith, h .0, ap (kinds d) k))
     go false (other k) m = m
@@ -100,7 +102,8 @@ show-ids v e s d q mine-is named a x b m = mine (eqb a v) (same a v) (m .1)
         inl (m .0, subst (λ (y : ℕ). ShownOn d y x) (sym r) (i, used-before k n i (ltb k n) (below k n) (found (sought e (places d v) n)) z l, p, id))
 
     mine : (t : Bool) → Same a v t
-        → Shown (pick t (pick (ltb k n) n (suc n)) (counts d a)) (λ i. pick t (replace k e (places d v) i) (places d a i)) (λ i. pick t (replace k s (sums d v) i) (sums d a i)) x
+        → Shown (pick t (pick (ltb k n) n (suc n)) (counts d a)) (λ i. pick t (replace k e (places d v) i) (places d a i))
+        (λ i. pick t (replace k s (sums d v) i) (sums d a i)) x
         → ShowsId d a x ⊎ ((a ≡ devices d (q .user)) × NamedOpenly d q x)
     mine true (it r) h = placed (h .0) (eqb (h .0) k) (same (h .0) k) r (h .1) (h .2) (h .3)
     mine false (other r) h = inl (m .0, h)

@@ -64,7 +64,8 @@ pub accepted-notices : (d : Tables) → WellFormed d → (q : Request) → answe
 unfolding asked
 accepted-notices d w q e x n =
     let a = accepted d q e w in
-    subst (λ (d′ : Tables). SameNotice d d′ x) (sym (after-accepted d q e ∙ effect-by d q (a .0) (a .1 .meant .named))) (each-op (a .0) (a .1 .meant .named) (a .1 .allowed))
+    subst (λ (d′ : Tables). SameNotice d d′ x) (sym (after-accepted d q e ∙ effect-by d q (a .0) (a .1 .meant .named)))
+    (each-op (a .0) (a .1 .meant .named) (a .1 .allowed))
   where
     each-op : (o : Op) → opOf (q .operation) ≡ some o → Allowed o (asked d q) d → SameNotice d (rowOf o .effect (asked d q) d) x
     each-op o m h = go (eqb (numberOf o) (numberOf toAcknowledge)) (same (numberOf o) (numberOf toAcknowledge))
