@@ -15,7 +15,7 @@ use Rattle.model.specs.Request.Ladder.{notUnderstood, notLoggedOn, leads
 use Rattle.model.specs.Request.Ladder.{refused, ownRung, ladder, lowest, answer, never, rungAt, applies}
 use Rattle.model.specs.Request.Operations.{operations, withNumber, opOf}
 use Rattle.model.specs.Request.Reference.{presentTest, placeTest, follow, resolve, passed, basis}
-use Rattle.model.specs.Request.Words.{referenceAt, requestOf, names, operandOf}
+use Rattle.model.specs.Request.Words.{referenceAt, requestOf, names}
 use Rattle.model.specs.State.Check.{inTest, spotOf, parent, contentsTest, oneTest, loopTest, deviceTest, aloneTest, idleTest}
 use Rattle.model.specs.State.Check.{linksTest, wellFormedTest, containedTest, seenTest, labelledTest, rolesTest, ceilingTest}
 use Rattle.model.specs.State.Check.{secureTest, judge, check}
@@ -40,11 +40,18 @@ unfolding tablesOf seek sheetTables padded paddedRecords sheetWords
 openedTables = tt
 
 unfoldable pub openedState : Unit {0}
-unfolding inTest spotOf parent contentsTest oneTest loopTest deviceTest aloneTest idleTest linksTest wellFormedTest containedTest seenTest labelledTest rolesTest ceilingTest secureTest judge check up climb labelled packedTest shapeTest filledTest goodTest accessTest noneTest entityTest noticeTest nobodyTest userTest
+unfolding inTest spotOf parent contentsTest oneTest loopTest deviceTest aloneTest idleTest linksTest wellFormedTest containedTest seenTest
+    labelledTest rolesTest ceilingTest secureTest judge check up climb labelled packedTest shapeTest filledTest goodTest accessTest noneTest
+    entityTest noticeTest nobodyTest userTest
 openedState = tt
 
 unfoldable pub openedRequest : Unit {0}
-unfolding effect noticedOp leaves after asked hasRole isAny isEntity isContainer isDevice isDraft between free unused aLevel someRoles aUser aSort aFlag aSum aWho anOperation aPosition lacks createAbove createNoRoom onScreen deleteForbidden firstAbove moveNoRoom moveInside levelLowered insecure grantNoRoom showAbove showNoRoom showUnlabelled loginTaken userAbsent rolesOff rolesOfAnother rolesUnauthorised currentOutside deviceAbove deviceLowered notAcknowledged ofOp someOperand notWellFormed notSecure unknownUser lengthFits namesFit rangeAt fits notUnderstood notLoggedOn leadsNowhere permits noAccess bars notCleared wrongKind refused ownRung ladder lowest answer never rungAt applies operations withNumber opOf presentTest placeTest follow resolve passed basis referenceAt requestOf names operandOf
+unfolding effect noticedOp leaves after asked hasRole isAny isEntity isContainer isDevice isDraft between free unused aLevel someRoles aUser
+    aSort aFlag aSum aWho anOperation aPosition lacks createAbove createNoRoom onScreen deleteForbidden firstAbove moveNoRoom moveInside
+    levelLowered insecure grantNoRoom showAbove showNoRoom showUnlabelled loginTaken userAbsent rolesOff rolesOfAnother rolesUnauthorised
+    currentOutside deviceAbove deviceLowered notAcknowledged ofOp someOperand notWellFormed notSecure unknownUser lengthFits namesFit
+    rangeAt fits notUnderstood notLoggedOn leadsNowhere permits noAccess bars notCleared wrongKind refused ownRung ladder lowest answer
+    never rungAt applies operations withNumber opOf presentTest placeTest follow resolve passed basis referenceAt requestOf names
 openedRequest = tt
 
 unfoldable pub openedCase : Unit {0}

@@ -1,9 +1,7 @@
 -- Rule 5.1: a request is sixteen words. Rule 5.2: a reference has a length and four name words.
 use mathlib.Core.List.{List, [], _∷_}
 use Prim.Native.Nat.{_+_, suc, ℕ}
-use lib.Dec.{eqb}
 use lib.ListN.{getD, take}
-use Rattle.model.specs.Basics.Choice.{pick}
 
 pub record Reference : Type 0 where
   pub length : ℕ
@@ -45,10 +43,3 @@ requestOf q = record {
 -- the names of a reference: its first name words, as many as its length says
 unfoldable pub names : Reference → List ℕ
 names r = take (r .length) (r .name 0 ∷ r .name 1 ∷ r .name 2 ∷ r .name 3 ∷ [])
-
--- the reference that is operand 1 or 2
-unfoldable pub operandOf : Request → ℕ → Reference
-operandOf q k = record {
-  length = pick (eqb k 1) (q .first .length) (q .second .length);
-  name = λ i. pick (eqb k 1) (q .first .name i) (q .second .name i);
-}

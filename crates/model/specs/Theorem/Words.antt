@@ -10,8 +10,10 @@ use Rattle.model.specs.Basics.Agree.{Agrees, agrees-and, agrees-eq}
 use Rattle.model.specs.Basics.Choice.{Below, Same, below, it, other, over, pick, same, under}
 use Rattle.model.specs.Basics.Reading.{is-false, is-true}
 use Rattle.model.specs.Request.After.{after}
+use Rattle.model.specs.Request.Allowed.{Accepted}
 use Rattle.model.specs.Request.Ladder.{answer}
 use Rattle.model.specs.Request.LadderLaws.{answer-is}
+use Rattle.model.specs.Request.Operations.{Op}
 use Rattle.model.specs.Request.Step.{afterOf, answerOf, sized}
 use Rattle.model.specs.Request.Words.{Request, requestOf, requestWords}
 use Rattle.model.specs.State.Agree.{wellFormed-bounded}
@@ -23,7 +25,7 @@ use Rattle.model.specs.Tables.LayoutLaws.{bounded}
 use Rattle.model.specs.Tables.Words.{Tables, firstNoticed}
 use Rattle.model.specs.Tables.WordsOf.{wordsOf}
 use Rattle.model.specs.Tables.WordsOfLaws.{tablesOf-injective, tablesOf-wordsOf, wordsOf-length, wordsOf-tablesOf}
-use Rattle.model.specs.Theorem.Acceptance.{accepted-good, judged}
+use Rattle.model.specs.Theorem.Acceptance.{accepted, accepted-good, judged}
 use Rattle.model.specs.Theorem.Definitions.{Obeys}
 use Rattle.model.specs.Theorem.Kept.{request-good}
 use Rattle.model.specs.Theorem.System.{request-obeys}
@@ -130,3 +132,13 @@ history-checked t (q ∷ qs) e = history-checked (afterOf t q) qs (check-kept t 
 -- Definitions 5 to 11 of words: whatever the words of tables and request, the step obeys them.
 pub words-obey : (t q : List ℕ) → T (sized t q) → Obeys (tablesOf t) (requestOf q) (tablesOf (afterOf t q))
 words-obey t q h = subst (Obeys (tablesOf t) (requestOf q)) (sym (afterOf-tables t q h)) (request-obeys (tablesOf t) (bounded t) (requestOf q))
+
+-- An answer 0 of words gives every condition that the effect relies on.
+pub words-accepted : (t q : List ℕ) → answerOf t q ≡ 0 → (o : Op) × Accepted o (tablesOf t) (requestOf q)
+words-accepted t q e = go (sized t q) refl
+  where
+    go : (b : Bool) → sized t q ≡ b → (o : Op) × Accepted o (tablesOf t) (requestOf q)
+    go true z =
+        let a = sym (answerOf-sized t q (is-true (sized t q) z)) ∙ e in
+        accepted (tablesOf t) (requestOf q) a (accepted-good (tablesOf t) (requestOf q) a (bounded t) .0)
+    go false z = absurd (omega (arith, unsized t q (is-false (sized t q) z) .0))
