@@ -20,6 +20,7 @@ use Rattle.model.specs.Tables.Words.{objectKind, operationCount, operati
 use Rattle.model.specs.Tables.Words.{present, releasedType, releaser, shown, spare, sumLimit, triple, type, userCount, value}
 use Rattle.model.specs.Tables.Words.{whoLimit, whoOf}
 
+-- Rules 3.3 and 3.8 to 3.11.
 pub shape-agrees : (k t l m v r x : ℕ) → Agrees (shapeTest k t l m v r x) (Shape k t l m v r x)
 unfolding shapeTest
 shape-agrees k t l m v r x = agrees-as
@@ -28,29 +29,38 @@ shape-agrees k t l m v r x = agrees-as
     × ((t ≡ releasedType → (1 ≤ r) × (r ≤ userCount)) × ((t ≢ releasedType → r ≡ 0) × ((k ≢ deviceKind → x ≡ 0) × (k ≡ deviceKind → v ≡ 0))))))))))}
     (λ z. search) (λ s. search) (search agreement depth 20)
 
--- a row of eight has nothing past its end
-pub packed-agrees : (row : ℕ → ℕ) (n : ℕ) → ((i : ℕ) → placeCount ≤ i → row i ≡ 0) → Agrees (packedTest row n) (Packed row n)
+-- a row of eight is zero from its eighth place on
+abbrev pub Eight : (ℕ → ℕ) → Type 0
+Eight r = (i : ℕ) → placeCount ≤ i → r i ≡ 0
+
+-- such a row that is zero in its places from n on is zero from n on
+zero-from : (n : ℕ) (r : ℕ → ℕ) → Eight r → ((i : ℕ) → i < placeCount → n ≤ i → r i ≡ 0) → (i : ℕ) → n ≤ i → r i ≡ 0
+zero-from n r out f i h = go (ltb i placeCount) (below i placeCount)
+  where
+    go : (b : Bool) → Below i placeCount b → r i ≡ 0
+    go true (under l) = f i l h
+    go false (over l) = out i l
+
+-- and one that is zero in all its places is zero
+within : (r : ℕ → ℕ) → Eight r → ((i : ℕ) → i < placeCount → r i ≡ 0) → (i : ℕ) → r i ≡ 0
+within r out f i = zero-from 0 r out (λ j l h. f j l) i (omega arith)
+
+-- Rules 3.4 and 3.5.
+pub packed-agrees : (row : ℕ → ℕ) (n : ℕ) → Eight row → Agrees (packedTest row n) (Packed row n)
 unfolding packedTest
 packed-agrees row n out = agrees-as
-    {P = (n ≤ placeCount) × (((i : ℕ) → i < placeCount → i < n → 1 ≤ row i)
-    × (((i : ℕ) → i < placeCount → n ≤ i → row i ≡ 0) × ((i : ℕ) → i < placeCount → (j : ℕ) → j < placeCount → i < n → j < n → row i ≡ row j
-    → i ≡ j)))}
+    {P = (n ≤ placeCount) × (((i : ℕ) → i < placeCount → i < n → 1 ≤ row i) × (((i : ℕ) → i < placeCount → n ≤ i → row i ≡ 0)
+    × ((i : ℕ) → i < placeCount → (j : ℕ) → j < placeCount → i < n → j < n → row i ≡ row j → i ≡ j)))}
     (λ z. record {
       room = z .0;
       used = λ i h. z .1 .0 i (omega arith) h;
-      rest = λ i h. rest z i h (below i placeCount);
+      rest = zero-from n row out (z .1 .1 .0);
       distinct = λ i j h l e. z .1 .1 .1 i (omega arith) j (omega arith) h l e;
     })
     (λ p. (p .room, (λ i l h. p .used i h, (λ i l h. p .rest i h, λ i l j m h k e. p .distinct i j h k e))))
     (search agreement depth 20)
-  where
-    rest : (n ≤ placeCount) × (((i : ℕ) → i < placeCount → i < n → 1 ≤ row i)
-        × (((i : ℕ) → i < placeCount → n ≤ i → row i ≡ 0) × ((i : ℕ) → i < placeCount → (j : ℕ) → j < placeCount → i < n → j < n → row i ≡ row j
-        → i ≡ j)))
-        → (i : ℕ) → n ≤ i → {b : Bool} → Below i placeCount b → row i ≡ 0
-    rest z i h (under l) = z .1 .1 .0 i l h
-    rest z i h (over l) = out i l
 
+-- Rules 3.19 to 3.21.
 notice-agrees : (h o n : ℕ) → Agrees (noticeTest h o n) (Notice h o n)
 unfolding noticeTest
 notice-agrees h o n = agrees-as
@@ -58,17 +68,7 @@ notice-agrees h o n = agrees-as
     × ((n ≤ missedLimit) × ((h ≡ 0 → n ≡ 0) × ((n ≡ 0 → h ≡ 0) × (h ≡ 0 → o ≡ 0)))))}
     (λ z. search) (λ s. search) (search agreement depth 20)
 
--- a row of eight is zero from its eighth place on
-abbrev pub Eight : (ℕ → ℕ) → Type 0
-Eight r = (i : ℕ) → placeCount ≤ i → r i ≡ 0
-
-within : (r : ℕ → ℕ) → Eight r → ((i : ℕ) → i < placeCount → r i ≡ 0) → (i : ℕ) → r i ≡ 0
-within r out f i = go (ltb i placeCount) (below i placeCount)
-  where
-    go : (b : Bool) → Below i placeCount b → r i ≡ 0
-    go true (under h) = f i h
-    go false (over h) = out i h
-
+-- Rules 3.4, 3.7 and 3.12.
 filled-agrees : (k n : ℕ) (at sum : ℕ → ℕ) → Eight at → Eight sum → Agrees (filledTest k n at sum) (Filled k n at sum)
 unfolding filledTest
 filled-agrees k n at sum ea es = agrees-as
@@ -79,23 +79,19 @@ filled-agrees k n at sum ea es = agrees-as
       objectEmpty = z .1 .0;
       sums = λ q i h. z .1 .1 .0 q i (omega (arith, z .0 .room)) h;
       noSums = λ q. within sum es (z .1 .1 .1 .0 q);
-      restSums = λ i h. go z i h (ltb i placeCount) (below i placeCount);
+      restSums = zero-from n sum es (z .1 .1 .1 .1);
     })
     (λ f. (f .packed, (f .objectEmpty, (λ q i h l. f .sums q i l, (λ q i h. f .noSums q i, λ i h l. f .restSums i l)))))
     (agrees-and (packed-agrees at n ea) (search agreement depth 20))
-  where
-    go : Packed at n × ((k ≡ objectKind → n ≡ 0) × ((k ≡ deviceKind → (i : ℕ) → i < placeCount → i < n → (1 ≤ sum i) × (sum i ≤ sumLimit))
-        × ((k ≢ deviceKind → (i : ℕ) → i < placeCount → sum i ≡ 0) × ((i : ℕ) → i < placeCount → n ≤ i → sum i ≡ 0))))
-        → (i : ℕ) → n ≤ i → (b : Bool) → Below i placeCount b → sum i ≡ 0
-    go z i h true (under l) = z .1 .1 .1 .1 i l h
-    go z i h false (over l) = es i l
 
+-- Rule 3.22.
 good-agrees : (t : ℕ) → Agrees (goodTest t) (GoodTriple t)
 unfolding goodTest
 good-agrees t = agrees-as
     {P = ((1 ≤ whoOf t) × (whoOf t ≤ whoLimit)) × (((1 ≤ operationIn t) × (operationIn t ≤ operationCount)) × ((1 ≤ positionOf t) × (positionOf t ≤ positionCount)))}
     (λ z. search) (λ s. search) (search agreement depth 20)
 
+-- Rule 3.5.
 access-agrees : (r : ℕ → ℕ) → Eight r → Agrees (accessTest r) ((n : ℕ) × Access n r)
 unfolding accessTest
 access-agrees r out = agrees-as
@@ -110,9 +106,10 @@ pub record Eights (w : EntityWord → ℕ) : Type 0 where
   pub shown8 : Eight (λ i. w (shown i))
   pub triple8 : Eight (λ i. w (triple i))
 
-none-agrees : (w : EntityWord → ℕ) → Eights w → Agrees (noneTest w) ((f : EntityWord) → w f ≡ 0)
+-- Rule 3.1 of an entity.
+absent-entity-agrees : (w : EntityWord → ℕ) → Eights w → Agrees (noneTest w) ((f : EntityWord) → w f ≡ 0)
 unfolding noneTest
-none-agrees w o = agrees-as
+absent-entity-agrees w o = agrees-as
     {P = (w kind ≡ 0) × ((w type ≡ 0) × ((w level ≡ 0) × ((w mark ≡ 0) × ((w value ≡ 0) × ((w releaser ≡ 0) × ((w maximum ≡ 0) × ((w count ≡ 0)
     × (((i : ℕ) → i < placeCount → w (place i) ≡ 0) × (((i : ℕ) → i < placeCount → w (shown i) ≡ 0) × ((i : ℕ) → i < placeCount → w (triple i) ≡ 0))))))))))}
     (λ z. elim [
@@ -131,6 +128,7 @@ none-agrees w o = agrees-as
     (λ f. (f kind, (f type, (f level, (f mark, (f value, (f releaser, (f maximum, (f count, (λ i h. f (place i), (λ i h. f (shown i), λ i h. f (triple i))))))))))))
     (search agreement depth 20)
 
+-- An entity's record by itself.
 pub entity-agrees : (w : EntityWord → ℕ) → Eights w → Agrees (entityTest w) (EntityOk w)
 unfolding entityTest
 entity-agrees w o = agrees-as
@@ -138,16 +136,17 @@ entity-agrees w o = agrees-as
     × (Filled (w kind) (w count) (λ i. w (place i)) (λ i. w (shown i)) × ((n : ℕ) × Access n (λ i. w (triple i)))))}
     (λ z. record { absent = z .0; shape = z .1 .0; filled = z .1 .1 .0; access = z .1 .1 .1 })
     (λ e. (e .absent, (e .shape, (e .filled, e .access))))
-    (agrees-and (agrees-imp (agrees-eq (w kind) 0) (none-agrees w o)) (agrees-and
+    (agrees-and (agrees-imp (agrees-eq (w kind) 0) (absent-entity-agrees w o)) (agrees-and
     (shape-agrees (w kind) (w type) (w level) (w mark) (w value) (w releaser) (w maximum))
     (agrees-and (filled-agrees (w kind) (w count) (λ i. w (place i)) (λ i. w (shown i)) (o .place8) (o .shown8)) (access-agrees (λ i. w (triple i)) (o .triple8)))))
 
-nobody-agrees : (w : UserWord → ℕ) → Agrees (nobodyTest w)
+-- Rule 3.1 of a user.
+absent-user-agrees : (w : UserWord → ℕ) → Agrees (nobodyTest w)
     ((w present ≡ 0) × ((w clearance ≡ 0) × ((w authorised ≡ 0) × ((w current ≡ 0) × ((w device ≡ 0) × ((w held ≡ 0) × ((w heldOp ≡ 0) × (w missed ≡ 0))))))))
 unfolding nobodyTest
-nobody-agrees w = search agreement depth 20
+absent-user-agrees w = search agreement depth 20
 
--- Rules 3.1, 3.2, 3.17, 3.19 to 3.21.
+-- A user's record by itself.
 pub user-agrees : (w : UserWord → ℕ) → Eight (λ i. w (spare i)) → Agrees (userTest w) (UserOk w)
 unfolding userTest
 user-agrees w o = agrees-as
@@ -180,4 +179,4 @@ user-agrees w o = agrees-as
       λ q. let f = u .absent q in (f present, (f clearance, (f authorised, (f current, (f device, (f held, (f heldOp, f missed))))))),
       (u .presentIn, (u .clearanceIn, (u .authorisedIn, (u .currentIn, (λ i h. u .spareZero i, (u .off, u .notice)))))),
     ))
-    (search (agreement, notice-agrees, nobody-agrees) depth 20)
+    (search (agreement, notice-agrees, absent-user-agrees) depth 20)
