@@ -16,6 +16,7 @@ pub mod Untouched
 pub mod FramedPlaces
 pub mod Framed
 pub mod Fixed
+pub mod Changed
 pub mod Unchanged
 pub mod Notices
 pub mod Words
