@@ -8,7 +8,7 @@ use native.Mathlib.Omega.{arith}
 use lib.Bits.{and-le-l, and-le-r, and-mod, and-shr, bitAnd}
 use lib.Dec.{T, eqb}
 use lib.Pow.{field, high, low, mod-mod-pow, mod-pow-add, ones-lt, ones-split}
-use Rattle.model.specs.Basics.Agree.{Agrees, agrees-as, agrees-eq, agrees-every, agrees-imp}
+use Rattle.model.specs.Basics.Agree.{Agrees, agrees-T, agrees-as, agrees-eq, agrees-every, agrees-imp}
 use Rattle.model.specs.Basics.Choice.{Same, it, other, same}
 use Rattle.model.specs.Basics.Tests.{every, imp}
 use Rattle.model.specs.Level.{Bit, Subset, bit, subset}
@@ -67,10 +67,7 @@ same-bits (suc k) a b h =
 -- a set is in another if each of its bits is
 pub subset-agrees : (k a b : ℕ) → Agrees (subset k a b) ((i : ℕ) → i < k → Bit i a → Bit i b)
 unfolding subset
-subset-agrees k a b = agrees-every k (λ i. imp (bit i a) (bit i b)) (λ i. Bit i a → Bit i b) (λ i. agrees-imp (itself i a) (itself i b))
-  where
-    itself : (i n : ℕ) → Agrees (bit i n) (Bit i n)
-    itself i n = record { to = λ t. t; from = λ t. t }
+subset-agrees k a b = agrees-every k (λ i. imp (bit i a) (bit i b)) (λ i. Bit i a → Bit i b) (λ i. agrees-imp (agrees-T (bit i a)) (agrees-T (bit i b)))
 
 -- every set is in itself
 pub subset-refl : (k a : ℕ) → Subset k a a

@@ -7,7 +7,7 @@ use native.Mathlib.Omega.{arith}
 use lib.Arith.{mul-pred}
 use lib.Dec.{T}
 use lib.Pow.{high, ones-lt, pow-pos, split}
-use Rattle.model.specs.Basics.Agree.{Agrees, agrees-and, agrees-eq, agrees-le, agrees-not}
+use Rattle.model.specs.Basics.Agree.{Agrees, agrees-T, agrees-and, agrees-eq, agrees-le, agrees-not}
 use Rattle.model.specs.Basics.Tests.{every, imp}
 use Rattle.model.specs.BitLaws.{bit-above, bit-ones, bit-zero, subset-agrees, subset-low, subset→≤}
 use Rattle.model.specs.Level.{AtMost, AtMostOver, Bit, Lower, Subset, atMost, atMostOver, bit, compartmentCount, levelCount, lower}
@@ -102,7 +102,7 @@ incomparable = (λ t. t, λ t. t)
 -- the test of `Lower` and its reading
 pub lower-agrees : (a b : ℕ) → Agrees (lower a b) (Lower a b)
 unfolding lower
-lower-agrees a b = agrees-and {a = atMost a b} (record { to = λ t. t; from = λ t. t }) (agrees-not (agrees-eq a b))
+lower-agrees a b = agrees-and (agrees-T (atMost a b)) (agrees-not (agrees-eq a b))
 
 -- a lower level is another one
 pub lower-differs : (a b : ℕ) → Lower a b → a ≢ b

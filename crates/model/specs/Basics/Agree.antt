@@ -39,16 +39,20 @@ agrees-twice {b} a = go b (a .to) (a .from)
     go true f g = record { to = f; from = g }
     go false f g = record { to = f; from = g }
 
-pub agrees-and : {a b : Bool} {P Q : Type 0} → Agrees a P → Agrees b Q → Agrees (a && b) (P × Q)
-agrees-and {a} {b} p q = record { to = go a b (p .to) (q .to); from = λ z. back a b (p .from (z .0)) (q .from (z .1)) }
+-- the second test is judged where the first holds
+pub agrees-then : {a b : Bool} {P Q : Type 0} → Agrees a P → (P → Agrees b Q) → Agrees (a && b) (P × Q)
+agrees-then {a} {b} p q = record { to = go a b (p .to) (λ x. q x .to); from = λ z. back a b (p .from (z .0)) (q (z .0) .from (z .1)) }
   where
-    go : {P Q : Type 0} (a b : Bool) → (T a → P) → (T b → Q) → T (a && b) → P × Q
-    go true b f g t = (f tt, g t)
+    go : {P Q : Type 0} (a b : Bool) → (T a → P) → (P → T b → Q) → T (a && b) → P × Q
+    go true b f g t = (f tt, g (f tt) t)
     go false b f g t = absurd t
 
     back : (a b : Bool) → T a → T b → T (a && b)
     back true b s t = t
     back false b s t = s
+
+pub agrees-and : {a b : Bool} {P Q : Type 0} → Agrees a P → Agrees b Q → Agrees (a && b) (P × Q)
+agrees-and p q = agrees-then p (λ x. q)
 
 pub agrees-imp : {a b : Bool} {P Q : Type 0} → Agrees a P → Agrees b Q → Agrees (imp a b) (P → Q)
 unfolding imp
@@ -86,18 +90,6 @@ agrees-or {a} {b} p q = record { to = go a b (p .to) (q .to); from = back a b (p
     back true b f g z = tt
     back false b f g (inl x) = absurd (f x)
     back false b f g (inr y) = g y
-
--- the second test is judged where the first holds
-pub agrees-then : {a b : Bool} {P Q : Type 0} → Agrees a P → (P → Agrees b Q) → Agrees (a && b) (P × Q)
-agrees-then {a} {b} p q = record { to = go a b (p .to) (λ x. q x .to); from = λ z. back a b (p .from (z .0)) (q (z .0) .from (z .1)) }
-  where
-    go : {P Q : Type 0} (a b : Bool) → (T a → P) → (P → T b → Q) → T (a && b) → P × Q
-    go true b f g t = (f tt, g (f tt) t)
-    go false b f g t = absurd t
-
-    back : (a b : Bool) → T a → T b → T (a && b)
-    back true b s t = t
-    back false b s t = s
 
 -- of 1 to n, where the statement holds of every other number
 pub agrees-range : (n : ℕ) (p : ℕ → Bool) (P : ℕ → Type 0) → ((i : ℕ) → Agrees (p i) (P i)) → P 0 → ((i : ℕ) → n < i → P i)

@@ -6,8 +6,8 @@ use Prim.Native.Nat.{_<_, _≤_, suc, ℕ}
 use native.Mathlib.Nat.{not-suc-le-zero}
 use native.Mathlib.Omega.{arith}
 use lib.Dec.{T, eqb}
-use Rattle.model.specs.Basics.Choice.{pick}
-use Rattle.model.specs.Effect.Places.{bearing, create, delete, erase, fresh, leave, move, objectSort, sortKind, vacant}
+use Rattle.model.specs.Basics.Choice.{Same, it, other, pick, same}
+use Rattle.model.specs.Effect.Places.{bearing, create, delete, draftSort, erase, fresh, leave, move, objectSort, sortKind, sortType, vacant}
 use Rattle.model.specs.Effect.PutLaws.{Takes, fewer-there, leave-secure, leave-wellFormed, put-secure, put-wellFormed, stayed}
 use Rattle.model.specs.Level.{AtMost, levelCount}
 use Rattle.model.specs.State.Agree.{zero-ok}
@@ -22,7 +22,7 @@ use Rattle.model.specs.Tables.RowLaws.{sought}
 use Rattle.model.specs.Tables.Rows.{Sought, seek}
 use Rattle.model.specs.Tables.Words.{EntityWord, Tables, absentKind, clearance, containerKind, count, counts, deviceKind, devices}
 use Rattle.model.specs.Tables.Words.{entityCount, kinds, level, mark, maximum, objectKind, placeCount, places, releaser, shown, sums}
-use Rattle.model.specs.Tables.Words.{value}
+use Rattle.model.specs.Tables.Words.{draftType, plainType, value}
 
 -- the level of e changes, and e neither holds anything nor is held
 module _ (d : Tables) (s : Secure d) (e l : ℕ) (nothing : (c : ℕ) → Holds d e c → ⊥) (nowhere : (x : ℕ) → Holds d x e → ⊥) where
@@ -229,10 +229,19 @@ vacant-absent d h = go (sought 0 (λ i. kinds d (suc i)) entityCount)
     go (inl s) = s .1
     go (inr s) = absurd (omega (arith, s .0))
 
--- A sort is an object or a container, and no device.
-pub sort-plain : (s : ℕ) → sortKind s ≢ deviceKind
-sort-plain s = go (eqb s objectSort)
+-- the sort of a new entity gives its kind and type
+pub sort-kind : (s : ℕ) → (objectKind ≤ sortKind s) × (sortKind s ≤ containerKind)
+sort-kind s = go (eqb s objectSort)
   where
-    go : (b : Bool) → pick b objectKind containerKind ≢ deviceKind
-    go true z = let y : _≡_ {A = ℕ} 1 3 = z in omega arith
-    go false z = let y : _≡_ {A = ℕ} 2 3 = z in omega arith
+    go : (b : Bool) → (objectKind ≤ pick b objectKind containerKind) × (pick b objectKind containerKind ≤ containerKind)
+    go true = search arith
+    go false = search arith
+
+pub sort-type : (s : ℕ) → (sortType s ≡ plainType) ⊎ ((sortKind s ≡ containerKind) × (sortType s ≡ draftType))
+sort-type s = go (eqb s draftSort) (eqb s objectSort) (same s draftSort) (same s objectSort)
+  where
+    go : (x y : Bool) → Same s draftSort x → Same s objectSort y → (pick {A = ℕ} x 1 0 ≡ 0) ⊎ ((pick {A = ℕ} y 1 2 ≡ 2) × (pick {A = ℕ} x 1 0 ≡ 1))
+    go true true (it e) (it f) = absurd (omega arith)
+    go true false (it e) (other f) = inr (refl, refl)
+    go false true (other e) (it f) = inl refl
+    go false false (other e) (other f) = inl refl

@@ -7,7 +7,6 @@ use native.Mathlib.Omega.{arith}
 use lib.Dec.{T, eqb, eqb→eq}
 use Rattle.model.specs.Basics.Choice.{Same, it, other, pick, same}
 use Rattle.model.specs.Effect.Places.{leave, leaving, put, putting}
-use Rattle.model.specs.Effect.Screens.{clear}
 use Rattle.model.specs.Level.{AtMost}
 use Rattle.model.specs.State.Depth.{Within}
 use Rattle.model.specs.State.LinksLaws.{attach, grown, shrink}

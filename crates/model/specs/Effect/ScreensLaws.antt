@@ -1,6 +1,6 @@
 -- Clearing a screen, login and logout keep tables well-formed and secure.
 use mathlib.Core.Bool.{Bool, false, true}
-use mathlib.Core.Logic.{_≢_, _⊎_, inl, inr}
+use mathlib.Core.Logic.{_≢_}
 use mathlib.Core.Path.{_≡_, refl}
 use Prim.Native.Nat.{_<_, _≤_, ℕ}
 use native.Mathlib.Nat.{not-suc-le-zero}
@@ -13,10 +13,9 @@ use Rattle.model.specs.Level.{AtMost, Subset, roleCount}
 use Rattle.model.specs.State.LinksLaws.{arrive, depart, shrink}
 use Rattle.model.specs.State.Secure.{Secure, labelled}
 use Rattle.model.specs.State.WellFormed.{EntityOk, Filled, Holds, UserOk, WellFormed}
-use Rattle.model.specs.Tables.EditLaws.{case, each, member-cases}
+use Rattle.model.specs.Tables.EditLaws.{case, each, member-emptied}
 use Rattle.model.specs.Tables.Edits.{userWord, written}
 use Rattle.model.specs.Tables.RowLaws.{packed-none}
-use Rattle.model.specs.Tables.Rows.{Member}
 use Rattle.model.specs.Tables.Words.{Tables, authorised, clearance, counts, current, device, deviceKind, devices, kinds, level}
 use Rattle.model.specs.Tables.Words.{places, present, sums}
 
@@ -29,11 +28,7 @@ module _ (d : Tables) (w : WellFormed d) (v : ℕ) where
   clear-ok h o = let f = empty-filled (kinds d v) in search arith
 
   emptied : (x c : ℕ) → Holds (clear v d) x c → Holds d x c
-  emptied x c h = go (member-cases x v c 0 (counts d x) (λ i. 0) (places d x) h)
-    where
-      go : ((x ≡ v) × Member (λ i. 0) 0 c) ⊎ ((x ≢ v) × Holds d x c) → Holds d x c
-      go (inl q) = absurd (omega (arith, q .1 .1))
-      go (inr q) = q .1
+  emptied x c = member-emptied x v c (counts d x) (places d x)
 
   none-more : (x : ℕ) → counts (clear v d) x ≤ counts d x
   none-more x = case (λ (y : ℕ). y ≤ counts d x) x v 0 (counts d x) (λ q. omega arith) (λ q. omega arith)

@@ -7,7 +7,7 @@ use native.Mathlib.Omega.{arith}
 use lib.Dec.{T, ltb}
 use Rattle.model.specs.Basics.Choice.{Below, below, over, pick, under}
 use Rattle.model.specs.Effect.PutLaws.{Takes, put-secure, put-wellFormed}
-use Rattle.model.specs.Effect.Screens.{clear, show, showing, spot}
+use Rattle.model.specs.Effect.Screens.{show, showing, spot}
 use Rattle.model.specs.Level.{AtMost}
 use Rattle.model.specs.State.LinksLaws.{device-apart, shrink}
 use Rattle.model.specs.State.Secure.{Good, Secure, labelled}

@@ -17,15 +17,14 @@ use Rattle.model.specs.Request.Operations.{Op, clearanceEffect, levelEff
 use Rattle.model.specs.Request.Operations.{toAuthorised, toClear, toClearance, toCopy, toCreate, toCurrent, toDelete, toDeviceLevel}
 use Rattle.model.specs.Request.Operations.{toEdit, toGrant, toLevel, toLogin, toLogout, toMark, toMaximum, toMove, toRelease}
 use Rattle.model.specs.Request.Operations.{toRevoke, toShow}
-use Rattle.model.specs.Request.Reference.{here}
 use Rattle.model.specs.Request.Words.{Request}
 use Rattle.model.specs.State.Depth.{Within}
 use Rattle.model.specs.State.Secure.{Secure, labelled}
 use Rattle.model.specs.State.WellFormed.{GoodTriple, Holds, InTables, Thing}
 use Rattle.model.specs.Tables.Rows.{Member, seek}
-use Rattle.model.specs.Tables.Words.{Tables, authorised, clearance, containerKind, count, counts, current, deviceKind, devices}
+use Rattle.model.specs.Tables.Words.{Tables, authorised, clearance, containerKind, counts, current, deviceKind, devices}
 use Rattle.model.specs.Tables.Words.{draftType, entityCount, held, kinds, level, mark, missed, objectKind, placeCount, present}
-use Rattle.model.specs.Tables.Words.{releasedType, releaser, sumLimit, tripleOf, triples, type, userCount, whoRole}
+use Rattle.model.specs.Tables.Words.{releasedType, sumLimit, tripleOf, triples, type, userCount, whoRole}
 
 -- Rule 7.4: the requester is one of the users that are there.
 pub record Known (d : Tables) (u : ℕ) : Type 0 where

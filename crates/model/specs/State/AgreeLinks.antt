@@ -5,7 +5,7 @@ use mathlib.Core.Path.{_∙_, _≡_, refl, subst, sym}
 use Prim.Native.Nat.{_<_, _≤_, suc, zero, ℕ}
 use native.Mathlib.Omega.{arith}
 use lib.Dec.{T, eqb, leb, ltb}
-use Rattle.model.specs.Basics.Agree.{Agrees, agreement, agrees-and, agrees-as, agrees-eq, agrees-every, agrees-imp, agrees-range}
+use Rattle.model.specs.Basics.Agree.{Agrees, agrees-T, agreement, agrees-and, agrees-as, agrees-eq, agrees-every, agrees-imp, agrees-range}
 use Rattle.model.specs.Basics.Agree.{agrees-then}
 use Rattle.model.specs.Basics.Choice.{Below, below, over, pick, under}
 use Rattle.model.specs.Basics.Tests.{every, imp}
@@ -16,7 +16,6 @@ use Rattle.model.specs.State.ClimbLaws.{complete, sound}
 use Rattle.model.specs.State.Depth.{Inside}
 use Rattle.model.specs.State.DepthLaws.{holds-one}
 use Rattle.model.specs.State.WellFormed.{In, Linked}
-use Rattle.model.specs.Tables.Edits.{row}
 use Rattle.model.specs.Tables.RowLaws.{sought}
 use Rattle.model.specs.Tables.Rows.{Member, Sought, seek}
 use Rattle.model.specs.Tables.Words.{containerKind, deviceKind, entityCount, placeCount, userCount}
@@ -110,7 +109,7 @@ module _ (k n : ℕ → ℕ) (at : ℕ → ℕ → ℕ) (dev : ℕ → ℕ) (ent
       (λ g e p. low g e p (let x = holds-one p in boxed e (x .0) (x .1)))
       (λ f i h. complete entityCount (In k n at) (parent k n at) parent-top parent-holds one boxed f (suc i))
       (agrees-every entityCount (λ e. up (parent k n at) (suc entityCount) (suc e)) (λ e. T (up (parent k n at) (suc entityCount) (suc e)))
-      (λ e. record { to = λ t. t; from = λ t. t }))
+      (λ e. agrees-T (up (parent k n at) (suc entityCount) (suc e))))
     where
       low : ((i : ℕ) → i < entityCount → T (up (parent k n at) (suc entityCount) (suc i))) → (e : ℕ) → Inside (In k n at) e e
           → (1 ≤ e) × (e ≤ entityCount) → ⊥

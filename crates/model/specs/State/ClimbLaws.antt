@@ -9,7 +9,7 @@ use lib.Dec.{T, eqb, ltb}
 use Rattle.model.specs.Basics.Choice.{Below, Same, below, it, other, over, pick, same, under}
 use Rattle.model.specs.State.Climb.{climb, up}
 use Rattle.model.specs.State.Depth.{Inside, Within, deeper, direct}
-use Rattle.model.specs.State.DepthLaws.{first-step}
+use Rattle.model.specs.State.DepthLaws.{chained, first-step}
 
 -- more numbers than there are values: two are alike
 squeeze : (t x : ℕ) → ℕ
@@ -109,10 +109,6 @@ module _ (n : ℕ) (H : ℕ → ℕ → Type 0) (par : ℕ → ℕ) (top : (a : 
           (above (suc n) a h (suc i) (suc j) (omega arith) (omega arith)))))
 
   -- the test for "it or inside it"
-  lift : {x e : ℕ} (c : ℕ) → H x c → Inside H x e → Inside H c e
-  lift c h (direct k) = deeper (direct h) k
-  lift c h (deeper p k) = deeper (lift c h p) k
-
   pub climb-sound : (m c e : ℕ) → T (climb par m c e) → Within H c e
   unfolding climb
   climb-sound zero c e t = absurd t
@@ -120,7 +116,7 @@ module _ (n : ℕ) (H : ℕ → ℕ → Type 0) (par : ℕ → ℕ) (top : (a : 
     where
       step : par c ≢ 0 → Within H (par c) e → Within H c e
       step z (inl q) = inr (direct (subst (λ (y : ℕ). H y c) q (holds c z)))
-      step z (inr p) = inr (lift c (holds c z) p)
+      step z (inr p) = inr (chained (direct (holds c z)) p)
 
       go : (a b : Bool) → Same c e a → Same (par c) 0 b → (T (climb par m (par c) e) → Within H (par c) e)
           → T (pick a true (pick b false (climb par m (par c) e))) → Within H c e

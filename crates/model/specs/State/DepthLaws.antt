@@ -8,9 +8,15 @@ pub fewer : {H K : ℕ → ℕ → Type 0} → ((b a : ℕ) → K b a → H b a)
 fewer f (direct {a} {b} h) = direct (f b a h)
 fewer f (deeper {b = b} {c = c} p h) = deeper (fewer f p) (f c b h)
 
-onward : {H : ℕ → ℕ → Type 0} {a b c : ℕ} → Within H a b → H c b → Within H a c
-onward {H} {c = c} (inl e) h = inr (direct (subst (λ (y : ℕ). H c y) (sym e) h))
-onward (inr p) h = inr (deeper p h)
+-- one step further out
+onward : {H : ℕ → ℕ → Type 0} {a b c : ℕ} → Within H a b → H c b → Inside H a c
+onward {H} {c = c} (inl e) h = direct (subst (λ (y : ℕ). H c y) (sym e) h)
+onward (inr p) h = deeper p h
+
+-- a way in after a way in
+pub chained : {H : ℕ → ℕ → Type 0} {a b c : ℕ} → Inside H a b → Inside H b c → Inside H a c
+chained p (direct h) = deeper p h
+chained p (deeper q h) = deeper (chained p q) h
 
 -- K is H and one more edge, e in c: a way in K is a way in H, or goes over that edge
 abbrev pub OneMore : (H K : ℕ → ℕ → Type 0) → ℕ → ℕ → Type 0
@@ -32,17 +38,13 @@ module _ (H K : ℕ → ℕ → Type 0) (c e : ℕ) (more : OneMore H K c e) whe
       go : Over a b → H z b ⊎ ((z ≡ c) × (b ≡ e)) → Over a z
       go (inl w) (inl h) = inl (deeper w h)
       go (inl w) (inr q) = inr (inr (rw (q .1) at w), inl (sym (q .0)))
-      go (inr w) (inl h) = inr (w .0, onward (w .1) h)
+      go (inr w) (inl h) = inr (w .0, inr (onward (w .1) h))
       go (inr w) (inr q) = inr (w .0, inl (sym (q .0)))
 
   join : {a b d : ℕ} → Within H a b → Within H b d → Within H a d
   join (inl p) w = rw p w
   join (inr p) (inl q) = inr (rw q at p)
-  join (inr p) (inr q) = inr (chain p q)
-    where
-      chain : {a b d : ℕ} → Inside H a b → Inside H b d → Inside H a d
-      chain p (direct h) = deeper p h
-      chain p (deeper q h) = deeper (chain p q) h
+  join (inr p) (inr q) = inr (chained p q)
 
   -- no loop in H, and c is neither e nor inside it: no loop in K
   pub no-loop : ((a : ℕ) → Inside H a a → ⊥) → (Within H c e → ⊥) → (a : ℕ) → Inside K a a → ⊥
@@ -67,7 +69,3 @@ holds-one (deeper {b = b} p h) = (b, h)
 pub first-step : {H : ℕ → ℕ → Type 0} {a b : ℕ} → Inside H a b → (x : ℕ) × H x a × Within H x b
 first-step (direct {b = b} h) = (b, h, inl refl)
 first-step (deeper {c = c} p h) = let r = first-step p in (r .0, r .1, inr (onward (r .2) h))
-  where
-    onward : {H : ℕ → ℕ → Type 0} {x b c : ℕ} → Within H x b → H c b → Inside H x c
-    onward {H} {c = c} (inl e) h = direct (subst (λ (y : ℕ). H c y) (sym e) h)
-    onward (inr q) h = deeper q h

@@ -9,7 +9,7 @@ use Rattle.model.specs.Basics.Choice.{Same, it, other, pick, same}
 use Rattle.model.specs.State.Depth.{Within}
 use Rattle.model.specs.State.DepthLaws.{OneMore, fewer, held-by, no-loop}
 use Rattle.model.specs.State.WellFormed.{In, Linked}
-use Rattle.model.specs.Tables.EditLaws.{case, member-cases}
+use Rattle.model.specs.Tables.EditLaws.{case, member-cases, member-emptied}
 use Rattle.model.specs.Tables.RowLaws.{append-member}
 use Rattle.model.specs.Tables.Rows.{Member, replace}
 use Rattle.model.specs.Tables.Words.{containerKind, deviceKind}
@@ -115,11 +115,7 @@ module _ (k n : ℕ → ℕ) (at : ℕ → ℕ → ℕ) (dev : ℕ → ℕ) (l :
     place- x i = pick (eqb x e) 0 (at x i)
 
     pub still : (x c : ℕ) → Member (place- x) (count- x) c → Member (at x) (n x) c
-    still x c h = go (member-cases x e c 0 (n x) (λ i. 0) (at x) h)
-      where
-        go : ((x ≡ e) × Member (λ i. 0) 0 c) ⊎ ((x ≢ e) × Member (at x) (n x) c) → Member (at x) (n x) c
-        go (inl q) = absurd (omega (arith, q .1 .1))
-        go (inr q) = q .1
+    still x c = member-emptied x e c (n x) (at x)
 
     still-in : (b c : ℕ) → In kind- count- place- b c → In k n at b c
     still-in b c p =

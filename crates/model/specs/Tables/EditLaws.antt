@@ -3,14 +3,12 @@ use mathlib.Core.Bool.{Bool, false, true}
 use mathlib.Core.Logic.{_≢_, _⊎_, inl, inr}
 use mathlib.Core.Path.{_≡_, fun-ext, refl, subst, sym}
 use Prim.Native.Nat.{ℕ}
+use native.Mathlib.Omega.{arith}
 use lib.Dec.{T, eqb, eqb→eq}
 use Rattle.model.specs.Basics.Choice.{Same, it, other, pick, same}
+use Rattle.model.specs.Basics.Reading.{pick-same}
 use Rattle.model.specs.Tables.Edits.{Edit, edited, written}
 use Rattle.model.specs.Tables.Rows.{Member}
-
-flat : {A : Type 0} (b : Bool) (a : A) → pick b a a ≡ a
-flat true a = refl
-flat false a = refl
 
 -- a property of a record holds of all of them after an edit, if it holds of all before and of those edited
 pub all : {W : Type 0} (P : (W → ℕ) → Type 0) (test : ℕ → Bool) (E : ℕ → Edit W) (r : ℕ → W → ℕ) → ((x : ℕ) → P (r x))
@@ -19,7 +17,7 @@ all P test E r old new x = go (test x) (new x)
   where
     go : (b : Bool) → (T b → P (written (E x) (r x))) → P (λ f. pick (E x .touched f) (pick b (E x .value f) (r x f)) (r x f))
     go true f = f tt
-    go false f = subst P (fun-ext (λ f. sym (flat (E x .touched f) (r x f)))) (old x)
+    go false f = subst P (fun-ext (λ f. sym (pick-same (E x .touched f) (r x f)))) (old x)
 
 -- the same where one record is edited
 pub each : {W : Type 0} (P : (W → ℕ) → Type 0) (E : Edit W) (e : ℕ) (r : ℕ → W → ℕ) → ((x : ℕ) → P (r x)) → P (written E (r e)) → (x : ℕ)
@@ -42,3 +40,15 @@ member-cases x e c n m r s = go (eqb x e) (same x e)
     go : (b : Bool) → Same x e b → Member (λ i. pick b (r i) (s i)) (pick b n m) c → ((x ≡ e) × Member r n c) ⊎ ((x ≢ e) × Member s m c)
     go true (it q) h = inl (q, h)
     go false (other q) h = inr (q, h)
+
+-- another record's value is as it was
+pub elsewhere : (x e v a : ℕ) → x ≢ e → pick (eqb x e) v a ≡ a
+elsewhere x e v a n = case (λ (y : ℕ). y ≡ a) x e v a (λ q. absurd (n q)) (λ q. refl)
+
+-- what stands in record x after record e was emptied stood there before
+pub member-emptied : (x e c m : ℕ) (s : ℕ → ℕ) → Member (λ i. pick (eqb x e) 0 (s i)) (pick (eqb x e) 0 m) c → Member s m c
+member-emptied x e c m s h = go (member-cases x e c 0 m (λ i. 0) s h)
+  where
+    go : ((x ≡ e) × Member (λ i. 0) 0 c) ⊎ ((x ≢ e) × Member s m c) → Member s m c
+    go (inl q) = absurd (omega (arith, q .1 .1))
+    go (inr q) = q .1

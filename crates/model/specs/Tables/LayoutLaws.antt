@@ -15,7 +15,7 @@ use Rattle.model.specs.Tables.RangeLaws.{entity-in, guard-in, guard-out,
 use Rattle.model.specs.Tables.WordAt.{entityWordAt, userWordAt}
 use Rattle.model.specs.Tables.WordAtLaws.{entity-word-back, entity-word-same, offset-below, user-word-back, user-word-same}
 use Rattle.model.specs.Tables.Words.{EntityWord, UserWord, entityCount, index, place, placeCount, shown, spare, tag, triple}
-use Rattle.model.specs.Tables.Words.{userCount, userIndex, userTag, value}
+use Rattle.model.specs.Tables.Words.{userCount, userIndex, userTag}
 
 -- Words W of numbered records, as they stand in a list: which there are, and where.
 abbrev told : {W : Type 0} → (ℕ → W → Bool) → (ℕ → W → ℕ) → List ℕ → ℕ → W → ℕ

@@ -4,6 +4,7 @@ use mathlib.Core.Path.{_∙_, _≡_, fun-ext, refl, sym}
 use Prim.Native.Nat.{ℕ}
 use lib.Dec.{eqb}
 use Rattle.model.specs.Basics.Choice.{Same, it, other, pick, same}
+use Rattle.model.specs.Basics.Reading.{pick-same}
 use Rattle.model.specs.Tables.Edits.{Edit, _and_, edited, onEntity, onUser, written}
 use Rattle.model.specs.Tables.Words.{EntityWord, Tables, UserWord}
 
@@ -26,14 +27,10 @@ pub edited-alike : {W : Type 0} (e : ℕ) (A B : Edit W) (r : ℕ → W → ℕ)
     → edited (λ x. eqb x e) (λ x. A) r ≡ edited (λ x. eqb x e) (λ x. B) r
 edited-alike {W} e A B r h = fun-ext λ x. fun-ext λ f. go x f (eqb x e) (same x e)
   where
-    flat : (b : Bool) (v : ℕ) → pick b v v ≡ v
-    flat true v = refl
-    flat false v = refl
-
     go : (x : ℕ) (f : W) (c : Bool) → Same x e c
         → pick (A .touched f) (pick c (A .value f) (r x f)) (r x f) ≡ pick (B .touched f) (pick c (B .value f) (r x f)) (r x f)
     go x f true (it q) = rw q (h f)
-    go x f false (other q) = flat (A .touched f) (r x f) ∙ sym (flat (B .touched f) (r x f))
+    go x f false (other q) = pick-same (A .touched f) (r x f) ∙ sym (pick-same (B .touched f) (r x f))
 
 -- an edit after an edit of the same entity is one edit
 pub twice : (e : ℕ) (A B : Edit EntityWord) (d : Tables) → onEntity e A (onEntity e B d) ≡ onEntity e (A and B) d

@@ -1,11 +1,10 @@
 -- A word is known by its tag and its place in a row, and by its offset in the record; every offset is that of a word.
-use mathlib.Core.Bool.{Bool, _&&_, false, true}
+use mathlib.Core.Bool.{Bool}
 use mathlib.Core.Path.{_∙_, _≡_, ap₂, refl, sym}
-use Prim.Native.Nat.{_%_, _+_, _-_, _/_, _<_, min, suc, zero, ℕ}
-use native.Mathlib.Nat.{not-suc-le-zero}
+use Prim.Native.Nat.{_%_, _+_, _-_, _/_, _<_, min, ℕ}
 use native.Mathlib.Omega.{arith}
 use lib.Dec.{T, eqb, eqb→eq, ltb, ltb→lt}
-use Rattle.model.specs.Basics.Choice.{Same, it, other, same}
+use Rattle.model.specs.Basics.Agree.{agrees-T, agrees-every}
 use Rattle.model.specs.Basics.Tests.{every}
 use Rattle.model.specs.Tables.Layout.{entityWidth, offset, userOffset, userWidth}
 use Rattle.model.specs.Tables.WordAt.{entityWordAt, entityWordOf, userWordAt, userWordOf}
@@ -92,14 +91,7 @@ entity-word-back f h = ap₂ entityWordOf (entity-parts f h .0) (entity-parts f 
 
 -- what every number below n passes, i passes
 passes : (n : ℕ) (p : ℕ → Bool) → T (every n p) → (i : ℕ) → i < n → T (p i)
-unfolding every
-passes zero p t i h = absurd (not-suc-le-zero h)
-passes (suc n) p t i h = go (p n) (every n p) refl (passes n p) (eqb i n) (same i n) t
-  where
-    go : (a b : Bool) → p n ≡ a → (T b → (j : ℕ) → j < n → T (p j)) → (c : Bool) → Same i n c → T (a && b) → T (p i)
-    go true b q r true (it e) t = rw (e, q) tt
-    go true b q r false (other e) t = r t i (omega arith)
-    go false b q r c s t = absurd t
+passes n p = agrees-every n p (λ i. T (p i)) (λ i. agrees-T (p i)) .to
 
 -- every offset below a user's width is that of the word at it
 pub user-offset-at : (m : ℕ) → m < userWidth → userOffset (userWordAt m) ≡ m

@@ -6,10 +6,12 @@ use mathlib.Core.Path.{_∙_, _≡_, ap, ap₂, fun-ext, refl, sym}
 use Prim.Native.Nat.{_%_, _*_, _+_, _-_, _/_, _<_, _≤_, suc, zero, ℕ}
 use native.Mathlib.Nat.{le-of-suc-le-suc, not-suc-le-zero}
 use native.Mathlib.Omega.{arith}
-use lib.Dec.{T, ltb}
+use lib.Dec.{T, ltb, lt→ltb}
 use lib.ListN.{getD, length}
 use lib.Seq.{ext-getD}
 use Rattle.model.specs.Basics.Choice.{Below, below, over, pick, under}
+use Rattle.model.specs.Basics.Fails.{fails-le}
+use Rattle.model.specs.Basics.Reading.{pick-false, pick-true}
 use Rattle.model.specs.Tables.Layout.{Bounded, entitiesFrom, entityAt, entityIn, entityWidth, offset, tablesOf, userAt, userIn}
 use Rattle.model.specs.Tables.Layout.{userOffset, userWidth, wordCount}
 use Rattle.model.specs.Tables.RangeLaws.{entity-in, guard-in, guard-is, in-entity, in-user, user-in}
@@ -45,18 +47,10 @@ wordsOf-at d i h = values-at wordCount (wordAtIndex d) i h
 
 -- a choice by an order that is known
 pick-under : (i k a b : ℕ) → i < k → pick (ltb i k) a b ≡ a
-pick-under i k a b h = go (ltb i k) (below i k)
-  where
-    go : (t : Bool) → Below i k t → pick t a b ≡ a
-    go true (under l) = refl
-    go false (over l) = absurd (omega arith)
+pick-under i k a b h = pick-true (ltb i k) a b (lt→ltb i k h)
 
 pick-over : (i k a b : ℕ) → k ≤ i → pick (ltb i k) a b ≡ b
-pick-over i k a b h = go (ltb i k) (below i k)
-  where
-    go : (t : Bool) → Below i k t → pick t a b ≡ b
-    go true (under l) = absurd (omega arith)
-    go false (over l) = refl
+pick-over i k a b h = pick-false (ltb i k) a b (fails-le (suc i) k .from (omega arith))
 
 -- the word at the index of a user's word in range is that word
 index-of-user : (d : Tables) (u : ℕ) (f : UserWord) → T (userIn u f) → (userAt u f < wordCount) × (wordAtIndex d (userAt u f) ≡ d .user u f)

@@ -21,10 +21,9 @@ use Rattle.model.specs.Request.OwnLaws.{deviceLowered-fails, draft-agree
 use Rattle.model.specs.Request.OwnLaws.{lacks-fails, levelLowered-fails, loginTaken-fails, moveInside-fails, moveNoRoom-fails}
 use Rattle.model.specs.Request.OwnLaws.{notAcknowledged-fails, rolesOfAnother-fails, rolesOff-fails, rolesUnauthorised-fails}
 use Rattle.model.specs.Request.OwnLaws.{showAbove-fails, showNoRoom-fails, showUnlabelled-fails, thing-agrees, userAbsent-fails}
-use Rattle.model.specs.Request.Reference.{here}
 use Rattle.model.specs.State.WellFormed.{GoodTriple, WellFormed}
-use Rattle.model.specs.Tables.Words.{Tables, authorised, count, operationCount, operationIn, positionCount, positionOf, present}
-use Rattle.model.specs.Tables.Words.{releaser, sumLimit, tripleOf, whoLimit, whoOf}
+use Rattle.model.specs.Tables.Words.{Tables, operationCount, operationIn, positionCount, positionOf}
+use Rattle.model.specs.Tables.Words.{sumLimit, tripleOf, whoLimit, whoOf}
 
 -- What rungs 5, 6 and 10 to 16 leave when they do not apply.
 pub record Clear (o : Op) (s : Asked) (d : Tables) : Type 0 where

@@ -14,7 +14,7 @@ use Rattle.model.specs.Request.Words.{Request}
 use Rattle.model.specs.State.Secure.{Good}
 use Rattle.model.specs.Tables.Layout.{Bounded}
 use Rattle.model.specs.Tables.Words.{EntityWord, Tables, UserWord, absentKind, authorised, clearance, counts, current, deviceKind}
-use Rattle.model.specs.Tables.Words.{devices, draftType, held, idBit, kinds, maximum, missed, places, releasedType, releaser, shown}
+use Rattle.model.specs.Tables.Words.{devices, draftType, held, idBit, kinds, maximum, missed, places, releasedType, releaser}
 use Rattle.model.specs.Tables.Words.{sums, type, userTag}
 
 -- present before and after

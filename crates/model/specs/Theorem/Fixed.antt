@@ -4,7 +4,7 @@ use mathlib.Core.Path.{_≡_, ap, refl}
 use Prim.Native.Nat.{ℕ}
 use native.Mathlib.Omega.{arith}
 use Rattle.model.specs.Effect.Places.{sortKind, vacant}
-use Rattle.model.specs.Effect.PlacesLaws.{sort-plain, vacant-absent}
+use Rattle.model.specs.Effect.PlacesLaws.{sort-kind, vacant-absent}
 use Rattle.model.specs.Request.Allowed.{Allowed}
 use Rattle.model.specs.Request.Asked.{Asked}
 use Rattle.model.specs.Request.Operations.{Op, rowOf, toAcknowledge, toAuthorised, toClear, toClearance, toCopy, toCreate, toCurrent}
@@ -42,7 +42,7 @@ users-fixed toAcknowledge d w s a u = refl
 pub devices-fixed : (o : Op) (d : Tables) → WellFormed d → (s : Asked) → Allowed o s d → (x : ℕ)
     → (kinds (rowOf o .effect s d) x ≡ deviceKind) ↔ (kinds d x ≡ deviceKind)
 devices-fixed toCreate d w s a x = case (λ (k : ℕ). (k ≡ deviceKind) ↔ (kinds d x ≡ deviceKind)) x (vacant d) (sortKind (s .a)) (kinds d x)
-    (λ q. (λ h. absurd (sort-plain (s .a) h), λ h. absurd (omega (arith, h, ap (kinds d) q, vacant-absent d (a .number)))))
+    (λ q. (λ h. absurd (omega (arith, h, sort-kind (s .a))), λ h. absurd (omega (arith, h, ap (kinds d) q, vacant-absent d (a .number)))))
     (λ q. Iff·rfl)
 devices-fixed toDelete d w s a x = case (λ (k : ℕ). (k ≡ deviceKind) ↔ (kinds d x ≡ deviceKind)) x (s .first) 0 (kinds d x)
     (λ q. (λ h. absurd (omega (arith, h)), λ h. absurd (omega (arith, h, ap (kinds d) q, a .thing))))

@@ -1,18 +1,19 @@
 -- Rule 8.4 for create, delete and move: a place changes only where something is put or was taken out.
 use mathlib.Core.Bool.{Bool, _&&_, _||_, false, not, true}
 use mathlib.Core.Path.{_∙_, _≡_, ap, refl, sym}
-use Prim.Native.Nat.{suc, ℕ}
+use Prim.Native.Nat.{ℕ}
 use native.Mathlib.Omega.{arith}
 use lib.Dec.{T, T-not, eqb, eqb→eq}
-use Rattle.model.specs.Effect.Places.{delete, fresh, leave, leaving, move, put, sortKind, sortType, vacant}
+use Rattle.model.specs.Basics.Fails.{fails-T, fails-or}
+use Rattle.model.specs.Effect.Places.{bearing, delete, fresh, leave, leaving, move, put, putting, sortKind, sortType, vacant}
 use Rattle.model.specs.Request.Asked.{Asked}
 use Rattle.model.specs.Request.Operations.{rowOf, toCreate, toDelete, toMove}
 use Rattle.model.specs.State.AgreeLinks.{in-agrees}
 use Rattle.model.specs.State.WellFormed.{WellFormed}
 use Rattle.model.specs.Tables.EditLaws.{case}
-use Rattle.model.specs.Tables.Edits.{Edit, _and_, blank, row, word, written}
+use Rattle.model.specs.Tables.Edits.{blank, written}
 use Rattle.model.specs.Tables.RowLaws.{without-none}
-use Rattle.model.specs.Tables.Rows.{left, replace, without}
+use Rattle.model.specs.Tables.Rows.{left, without}
 use Rattle.model.specs.Tables.Words.{EntityWord, Tables, containerKind, count, counts, kind, kinds, level, mark, maximum, place}
 use Rattle.model.specs.Tables.Words.{places, releaser, shown, sums, triple, triples, type, value}
 use Rattle.model.specs.Theorem.MayChange.{Frame, contentWord, holder, oneWord}
@@ -20,8 +21,7 @@ use Rattle.model.specs.Theorem.Untouched.{TouchesOnly, both-only, entity
 
 -- where not one of two tests holds, neither does
 neither : (a b : Bool) → T (not (a || b)) → T (not a) × T (not b)
-neither true b t = absurd t
-neither false b t = (tt, t)
+neither a b = fails-or (fails-T a) (fails-T b) .to
 
 -- the same of two tests, each with a third
 neither-with : (a b m : Bool) → T (not ((a || b) && m)) → T (not (a && m)) × T (not (b && m))
@@ -62,12 +62,9 @@ leave-left d w e x f t =
 -- Where e is put into c, which shows nothing, only the count and the places of c change.
 pub put-left : (d : Tables) (c e : ℕ) → ((i : ℕ) → sums d c i ≡ 0) → (x : ℕ) (f : EntityWord) → T (not (eqb x c && contentWord f))
     → put c e 0 d .entity x f ≡ d .entity x f
-put-left d c e none x f t = word-left (λ y. eqb y c) (λ y. putting) (d .entity) x f (stays f t)
+put-left d c e none x f t = word-left (λ y. eqb y c) (λ y. putting c e 0 d) (d .entity) x f (stays f t)
   where
-    putting : Edit EntityWord
-    putting = word count (suc (counts d c)) and row place (replace (counts d c) e (places d c)) and row shown (replace (counts d c) 0 (sums d c))
-
-    stays : (f : EntityWord) → T (not (eqb x c && contentWord f)) → T (eqb x c) → written putting (d .entity x) f ≡ d .entity x f
+    stays : (f : EntityWord) → T (not (eqb x c && contentWord f)) → T (eqb x c) → written (putting c e 0 d) (d .entity x) f ≡ d .entity x f
     stays kind t k = refl
     stays type t k = refl
     stays level t k = refl
@@ -103,7 +100,7 @@ module _ (d : Tables) (w : WellFormed d) (s : Asked) where
       with-it : Tables
       with-it = fresh e c (sortKind (s .a)) (sortType (s .a)) (s .b) d
 
-      new-only : TouchesOnly (word kind (sortKind (s .a)) and word type (sortType (s .a)) and word level (s .b) and row triple (triples d c)) newWord
+      new-only : TouchesOnly (bearing c (sortKind (s .a)) (sortType (s .a)) (s .b) d) newWord
       new-only = both-only (word-only kind) (both-only (word-only type) (both-only (word-only level) (row-only triple (triples d c))))
 
       stays : (x : ℕ) (f : EntityWord) → T (not (eqb x e && newWord f)) × T (not (eqb x c && contentWord f))

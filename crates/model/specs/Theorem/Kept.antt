@@ -1,17 +1,17 @@
 -- Every request, accepted, refused or not understood, takes well-formed, secure tables to well-formed, secure tables.
 use mathlib.Core.Bool.{Bool, false, true}
-use mathlib.Core.Logic.{_≢_, _⊎_, inl, inr}
+use mathlib.Core.Logic.{_≢_}
 use mathlib.Core.Option.{Option, none, some}
-use mathlib.Core.Path.{_∙_, _≡_, refl, subst, sym}
+use mathlib.Core.Path.{_≡_, refl, subst, sym}
 use Prim.Native.Nat.{_<_, _≤_, ℕ}
 use native.Mathlib.Omega.{arith}
 use lib.Dec.{T, eqb, ltb, lt→ltb}
-use Rattle.model.specs.Basics.Choice.{Below, Same, below, it, other, over, pick, same, under}
+use Rattle.model.specs.Basics.Choice.{Below, Same, below, it, other, over, same, under}
 use Rattle.model.specs.Effect.Notice.{notice}
 use Rattle.model.specs.Effect.NoticeLaws.{notice-secure, notice-wellFormed}
-use Rattle.model.specs.Effect.Places.{draftSort, objectSort, sortKind, sortType, vacant}
+use Rattle.model.specs.Effect.Places.{sortKind, sortType, vacant}
 use Rattle.model.specs.Effect.PlacesLaws.{create-secure, create-wellFormed, delete-secure, delete-wellFormed, move-secure}
-use Rattle.model.specs.Effect.PlacesLaws.{move-wellFormed, vacant-absent}
+use Rattle.model.specs.Effect.PlacesLaws.{move-wellFormed, sort-kind, sort-type, vacant-absent}
 use Rattle.model.specs.Effect.ScreensLaws.{clear-secure, clear-wellFormed, login-secure, login-wellFormed, logout-secure}
 use Rattle.model.specs.Effect.ScreensLaws.{logout-wellFormed}
 use Rattle.model.specs.Effect.ShowLaws.{show-both}
@@ -32,26 +32,9 @@ use Rattle.model.specs.Request.Operations.{toMark, toMaximum, toMove, to
 use Rattle.model.specs.Request.Words.{Request}
 use Rattle.model.specs.State.Secure.{Good, Secure}
 use Rattle.model.specs.State.WellFormed.{WellFormed}
-use Rattle.model.specs.Tables.Words.{Tables, containerKind, deviceKind, draftType, firstNoticed, kinds, objectKind, operationCount}
-use Rattle.model.specs.Tables.Words.{plainType, present, value}
+use Rattle.model.specs.Tables.Words.{Tables, deviceKind, firstNoticed, kinds, operationCount}
+use Rattle.model.specs.Tables.Words.{present, value}
 use Rattle.model.specs.Theorem.Acceptance.{accepted, requester-known}
-
--- the sort of a new entity gives its kind and type
-sort-kind : (s : ℕ) → (objectKind ≤ sortKind s) × (sortKind s ≤ containerKind)
-sort-kind s = go (eqb s objectSort)
-  where
-    go : (b : Bool) → (1 ≤ pick b 1 2) × (pick b 1 2 ≤ 2)
-    go true = search arith
-    go false = search arith
-
-sort-type : (s : ℕ) → (sortType s ≡ plainType) ⊎ ((sortKind s ≡ containerKind) × (sortType s ≡ draftType))
-sort-type s = go (eqb s draftSort) (eqb s objectSort) (same s draftSort) (same s objectSort)
-  where
-    go : (x y : Bool) → Same s draftSort x → Same s objectSort y → (pick {A = ℕ} x 1 0 ≡ 0) ⊎ ((pick {A = ℕ} y 1 2 ≡ 2) × (pick {A = ℕ} x 1 0 ≡ 1))
-    go true true (it e) (it f) = absurd (omega arith)
-    go true false (it e) (other f) = inr (refl, refl)
-    go false true (other e) (it f) = inl refl
-    go false false (other e) (other f) = inl refl
 
 -- Each operation's effect keeps them.
 module _ (d : Tables) (w : WellFormed d) (g : Secure d) (s : Asked) (p : d .user (s .user) present ≢ 0) where
@@ -141,23 +124,29 @@ module _ (d : Tables) (q : Request) where
   unfolding effect
   effect-by o e = subst (λ (m : Option Op). elim m [ none ↦ d | some o ↦ rowOf o .effect (asked d q) d ] ≡ rowOf o .effect (asked d q) d) (sym e) refl
 
+-- What holds of whatever each answer leaves holds of what the request leaves.
+pub after-each : (d : Tables) (q : Request) (P : Tables → Type 0) → (answer d q ≡ 0 → P (effect d q)) → (1 ≤ answer d q → answer d q < firstNoticed → P d)
+    → (firstNoticed ≤ answer d q → P (notice (q .user) (answer d q) (noticedOp q) d)) → P (after d q)
+after-each d q P f g h = go (eqb (answer d q) 0) (ltb (answer d q) firstNoticed) (same (answer d q) 0) (below (answer d q) firstNoticed)
+  where
+    go : (a b : Bool) → Same (answer d q) 0 a → Below (answer d q) firstNoticed b → P (after d q)
+    go true b (it z) l = subst P (sym (after-accepted d q z)) (f z)
+    go false true (other z) (under l) = subst P (sym (after-unchanged d q (answer d q) refl (omega arith) l)) (g (omega arith) l)
+    go false false (other z) (over l) = subst P (sym (after-noticed d q (answer d q) refl l)) (h l)
+
 -- The theorem: for any request at all.
 pub request-good : (d : Tables) → Good d → (q : Request) → Good (after d q)
 unfolding asked
-request-good d g q = go (answer d q) refl (eqb (answer d q) 0) (ltb (answer d q) firstNoticed) (same (answer d q) 0) (below (answer d q) firstNoticed)
+request-good d g q = after-each d q Good settled (λ l h. g) noticed
   where
     settled : answer d q ≡ 0 → Good (effect d q)
     settled e =
         let a = accepted d q e (g .0) in
         rw (effect-by d q (a .0) (a .1 .meant .named)) (effect-good d (g .0) (g .1) (asked d q) (a .1 .meant .known .there) (a .0) (a .1 .allowed))
 
-    go : (n : ℕ) → answer d q ≡ n → (a b : Bool) → Same n 0 a → Below n firstNoticed b → Good (after d q)
-    go n e true b (it z) l = rw (after-accepted d q (e ∙ z)) (settled (e ∙ z))
-    go n e false true (other z) (under l) = rw (after-unchanged d q n e (omega arith) l) g
-    go n e false false (other z) (over l) =
-        let k = requester-known d q (answer-is d q .below 4 (omega arith)) in
-        let r = answer-range d q in
-        rw (after-noticed d q n e l) (
-          notice-wellFormed d (g .0) (g .1) (q .user) n (noticedOp q) (k .there) (l, omega arith) (noticedOp-range q),
-          notice-secure d (g .0) (g .1) (q .user) n (noticedOp q) (k .there) (l, omega arith) (noticedOp-range q),
+    noticed : firstNoticed ≤ answer d q → Good (notice (q .user) (answer d q) (noticedOp q) d)
+    noticed l =
+        let k = requester-known d q (answer-is d q .below 4 (omega arith)) in (
+          notice-wellFormed d (g .0) (g .1) (q .user) (answer d q) (noticedOp q) (k .there) (l, answer-range d q) (noticedOp-range q),
+          notice-secure d (g .0) (g .1) (q .user) (answer d q) (noticedOp q) (k .there) (l, answer-range d q) (noticedOp-range q),
         )

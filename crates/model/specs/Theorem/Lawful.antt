@@ -7,7 +7,7 @@ use native.Mathlib.Omega.{arith}
 use lib.Dec.{eqb}
 use Rattle.model.specs.Basics.Choice.{Same, it, other, pick, same}
 use Rattle.model.specs.Effect.Places.{create, delete, fresh, leave, sortKind, sortType, vacant}
-use Rattle.model.specs.Effect.PlacesLaws.{sort-plain, vacant-absent}
+use Rattle.model.specs.Effect.PlacesLaws.{sort-kind, vacant-absent}
 use Rattle.model.specs.Request.Allowed.{Accepted, Allowed, MayCopy, MayShow}
 use Rattle.model.specs.Request.Asked.{Asked, asked, own}
 use Rattle.model.specs.Request.Conditions.{levelOf}
@@ -17,7 +17,7 @@ use Rattle.model.specs.Request.Operations.{toMove, toRelease, toRevoke, 
 use Rattle.model.specs.Request.Words.{Request}
 use Rattle.model.specs.State.WellFormed.{WellFormed}
 use Rattle.model.specs.Tables.EditLaws.{case}
-use Rattle.model.specs.Tables.Words.{Tables, absentKind, containerKind, devices, kinds, maximum, releasedType, releaser, shown, type}
+use Rattle.model.specs.Tables.Words.{Tables, absentKind, containerKind, devices, kinds, maximum, releasedType, releaser, type}
 use Rattle.model.specs.Theorem.Definitions.{Both, Flows, NamedOpenly, Obeys, ReleaseSecure, Released, ShowsId, TranslationSecure}
 use Rattle.model.specs.Theorem.LawfulSame.{Changes, Ids, downgrade-one, downgrade-same, erased, ids-same, release-same, sames}
 use Rattle.model.specs.Theorem.LawfulSame.{set-current, set-officer, set-same, unborn}
@@ -42,7 +42,7 @@ module _ (d : Tables) (q : Request) where
   -- Rules 9.8 to 9.11 of create: the new entity was absent.
   create-changes : ChangedBy toCreate
   create-changes a = record {
-    ids = ids-same q d new (λ v x m. fresh-ids e c k t l d (sort-plain (s .a)) v x (put-ids c e 0 (fresh e c k t l d) box v x m));
+    ids = ids-same q d new (λ v x m. fresh-ids e c k t l d (λ z. omega (arith, sort-kind (s .a))) v x (put-ids c e 0 (fresh e c k t l d) box v x m));
     setting = search sames;
     downgrade = downgrade-same q d new (λ x b. unborn e d x (levelOf d x) l gone (b .0));
     release = release-same q d new (λ x b. unborn e d x (d .entity x type) t gone (b .0)) (λ x b. refl);

@@ -2,11 +2,10 @@
 use mathlib.Core.Logic.{inl}
 use mathlib.Core.Path.{_∙_, _≡_, refl, sym}
 use Prim.Native.Nat.{ℕ}
-use lib.Dec.{T, eqb}
-use Rattle.model.specs.Basics.Choice.{pick}
+use lib.Dec.{T}
 use Rattle.model.specs.Effect.Notice.{notice}
 use Rattle.model.specs.Request.Words.{Request}
-use Rattle.model.specs.Tables.EditLaws.{case}
+use Rattle.model.specs.Tables.EditLaws.{elsewhere}
 use Rattle.model.specs.Tables.Words.{Tables, UserWord, authorised, clearance, count, current, device, devices, held, heldOp, kind}
 use Rattle.model.specs.Tables.Words.{level, maximum, missed, place, present, releaser, shown, spare, type}
 use Rattle.model.specs.Theorem.Definitions.{Obeys, Quiet, ShowsId, noticeWord}
@@ -35,18 +34,15 @@ quiet-obeys d d′ q c = record {
 pub notice-quiet : (d : Tables) (u r o : ℕ) → Quiet d u (notice u r o d)
 notice-quiet d u r o = record { users = words; entities = λ x f. refl }
   where
-    another : (x a b : ℕ) → (x ≡ u → ⊥) → pick (eqb x u) a b ≡ b
-    another x a b n = case (λ (y : ℕ). y ≡ b) x u a b (λ e. absurd (n e)) (λ e. refl)
-
     words : (x : ℕ) (f : UserWord) → (x ≡ u → T (noticeWord f) → ⊥) → notice u r o d .user x f ≡ d .user x f
     words x present n = refl
     words x clearance n = refl
     words x authorised n = refl
     words x current n = refl
     words x device n = refl
-    words x held n = another x _ (d .user x held) (λ e. n e tt)
-    words x heldOp n = another x _ (d .user x heldOp) (λ e. n e tt)
-    words x missed n = another x _ (d .user x missed) (λ e. n e tt)
+    words x held n = elsewhere x u _ (d .user x held) (λ e. n e tt)
+    words x heldOp n = elsewhere x u _ (d .user x heldOp) (λ e. n e tt)
+    words x missed n = elsewhere x u _ (d .user x missed) (λ e. n e tt)
     words x (spare i) n = refl
 
 -- The same tables are quiet, whoever asks.

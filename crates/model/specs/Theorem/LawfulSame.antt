@@ -11,7 +11,7 @@ use Rattle.model.specs.LevelLaws.{lower-differs}
 use Rattle.model.specs.Request.Asked.{HasRole}
 use Rattle.model.specs.Request.Conditions.{levelOf}
 use Rattle.model.specs.Request.Words.{Request}
-use Rattle.model.specs.Tables.EditLaws.{case}
+use Rattle.model.specs.Tables.EditLaws.{case, elsewhere}
 use Rattle.model.specs.Tables.Words.{Tables, absentKind, authorised, clearance, current, devices, kinds, maximum, releaser, type}
 use Rattle.model.specs.Theorem.Definitions.{Both, DowngradeSecure, NamedOpenly, ReleaseSecure, SetSecure, ShowsId}
 
@@ -100,4 +100,4 @@ erased e d x a = go (eqb x e)
 
 -- A word set at a number that was absent is no change of an entity that was present.
 pub unborn : (e : ℕ) (d : Tables) (x a v : ℕ) → kinds d e ≡ absentKind → kinds d x ≢ absentKind → pick (eqb x e) v a ≡ a
-unborn e d x a v gone there = case (λ (y : ℕ). y ≡ a) x e v a (λ r. absurd (there (ap (kinds d) r ∙ gone))) (λ r. refl)
+unborn e d x a v gone there = elsewhere x e v a (λ r. there (ap (kinds d) r ∙ gone))

@@ -6,10 +6,10 @@ use mathlib.Core.Path.{_∙_, _≡_, ap, refl, subst, sym}
 use Prim.Native.Nat.{_≤_, suc, ℕ}
 use native.Mathlib.Omega.{arith}
 use lib.Dec.{eqb, ltb}
-use Rattle.model.specs.Basics.Choice.{Below, Same, below, it, other, over, pick, same, under}
+use Rattle.model.specs.Basics.Choice.{Below, Same, below, it, other, pick, same}
 use Rattle.model.specs.Effect.Notice.{countOn, keepFirst, notice}
 use Rattle.model.specs.Effect.Words.{acknowledge}
-use Rattle.model.specs.Request.After.{after, noticedOp}
+use Rattle.model.specs.Request.After.{after, effect, noticedOp}
 use Rattle.model.specs.Request.Allowed.{Allowed}
 use Rattle.model.specs.Request.Asked.{asked}
 use Rattle.model.specs.Request.Ladder.{answer}
@@ -17,10 +17,11 @@ use Rattle.model.specs.Request.OperationLaws.{number-injective}
 use Rattle.model.specs.Request.Operations.{Op, numberOf, opOf, rowOf, toAcknowledge}
 use Rattle.model.specs.Request.Words.{Request}
 use Rattle.model.specs.State.WellFormed.{WellFormed}
-use Rattle.model.specs.Tables.Words.{Tables, count, firstNoticed, held, heldOp, missed, missedLimit}
+use Rattle.model.specs.Tables.EditLaws.{elsewhere}
+use Rattle.model.specs.Tables.Words.{Tables, firstNoticed, held, heldOp, missed, missedLimit}
 use Rattle.model.specs.Theorem.Acceptance.{accepted}
 use Rattle.model.specs.Theorem.Fixed.{SameNotice, notices-left}
-use Rattle.model.specs.Theorem.Kept.{after-accepted, after-noticed, after-unchanged, effect-by}
+use Rattle.model.specs.Theorem.Kept.{after-accepted, after-each, effect-by}
 
 -- A refusal that is held stays held through every notice.
 notice-keeps : (d : Tables) (u r o x : ℕ) → d .user x held ≢ 0
@@ -51,12 +52,7 @@ notice-counts d u r o x h = go (eqb x u) (same x u)
 
 -- an acknowledgement of another's is none
 acknowledge-other : (d : Tables) (u x : ℕ) → x ≢ u → SameNotice d (acknowledge u d) x
-acknowledge-other d u x n = go (eqb x u) (same x u)
-  where
-    go : (b : Bool) → Same x u b
-        → (pick b 0 (d .user x held) ≡ d .user x held) × (pick b 0 (d .user x heldOp) ≡ d .user x heldOp) × (pick b 0 (d .user x missed) ≡ d .user x missed)
-    go true (it e) = absurd (n e)
-    go false (other e) = (refl, refl, refl)
+acknowledge-other d u x n = (elsewhere x u 0 (d .user x held) n, elsewhere x u 0 (d .user x heldOp) n, elsewhere x u 0 (d .user x missed) n)
 
 -- Rule 8.3: an accepted request that is no acknowledgement leaves every notice; an acknowledgement leaves every other user's.
 pub accepted-notices : (d : Tables) → WellFormed d → (q : Request) → answer d q ≡ 0 → (x : ℕ)
@@ -84,15 +80,14 @@ pub record StillHeld (d d′ : Tables) (x : ℕ) : Type 0 where
 
 pub held-kept : (d : Tables) → WellFormed d → (q : Request) (x : ℕ) → d .user x held ≢ 0
     → (answer d q ≡ 0 → opOf (q .operation) ≡ some toAcknowledge → x ≢ q .user) → StillHeld d (after d q) x
-held-kept d w q x h n =
-    go (answer d q) refl (eqb (answer d q) 0) (ltb (answer d q) firstNoticed) (same (answer d q) 0) (below (answer d q) firstNoticed)
+held-kept d w q x h n = after-each d q (λ (d′ : Tables). StillHeld d d′ x) settled (λ l m. record { refusal = refl; operation = refl; count = omega arith }) noticed
   where
-    go : (m : ℕ) → answer d q ≡ m → (a b : Bool) → Same m 0 a → Below m firstNoticed b → StillHeld d (after d q) x
-    go m e true b (it z) l =
-        let k = accepted-notices d w q (e ∙ z) x (n (e ∙ z)) in
+    settled : answer d q ≡ 0 → StillHeld d (effect d q) x
+    settled e =
+        let k = rw (after-accepted d q e) at (accepted-notices d w q e x (n e)) in
         record { refusal = k .0; operation = k .1; count = omega (arith, k .2) }
-    go m e false true (other z) (under l) =
-        rw (after-unchanged d q m e (omega arith) l) record { refusal = refl; operation = refl; count = omega arith }
-    go m e false false (other z) (over l) =
-        let k = notice-keeps d (q .user) m (noticedOp q) x h in
-        rw (after-noticed d q m e l) record { refusal = k .0; operation = k .1; count = notice-counts d (q .user) m (noticedOp q) x (w .users x .notice .countIn) }
+
+    noticed : firstNoticed ≤ answer d q → StillHeld d (notice (q .user) (answer d q) (noticedOp q) d) x
+    noticed l =
+        let k = notice-keeps d (q .user) (answer d q) (noticedOp q) x h in
+        record { refusal = k .0; operation = k .1; count = notice-counts d (q .user) (answer d q) (noticedOp q) x (w .users x .notice .countIn) }

@@ -1,38 +1,30 @@
 -- Definitions 12 to 14 (rules 9.12 to 9.14): the desk's transform is transform secure, its histories are secure, the system is secure.
-use mathlib.Core.Bool.{Bool, false, true}
-use mathlib.Core.Path.{_∙_, _≡_, refl}
+use mathlib.Core.Path.{_≡_}
 use Prim.Native.Nat.{ℕ}
-use native.Mathlib.Omega.{arith}
-use lib.Dec.{eqb, ltb}
-use Rattle.model.specs.Basics.Choice.{Below, Same, below, it, other, over, same, under}
+use Rattle.model.specs.Effect.Notice.{notice}
 use Rattle.model.specs.Request.After.{after, effect, noticedOp}
 use Rattle.model.specs.Request.Ladder.{answer}
 use Rattle.model.specs.Request.Words.{Request}
 use Rattle.model.specs.State.Secure.{Good}
 use Rattle.model.specs.Tables.Layout.{Bounded}
-use Rattle.model.specs.Tables.Words.{Tables, firstNoticed}
+use Rattle.model.specs.Tables.Words.{Tables}
 use Rattle.model.specs.Theorem.Acceptance.{accepted, accepted-good}
 use Rattle.model.specs.Theorem.Definitions.{History, HistorySecure, Obeys, SystemSecure, TransformSecure}
 use Rattle.model.specs.Theorem.Histories.{states-good}
-use Rattle.model.specs.Theorem.Kept.{after-accepted, after-noticed, after-unchanged, effect-by}
+use Rattle.model.specs.Theorem.Kept.{after-each, effect-by}
 use Rattle.model.specs.Theorem.Lawful.{lawful}
 use Rattle.model.specs.Theorem.LawfulNotice.{notice-quiet, quiet-obeys, same-quiet}
 
 -- Rule 9.12, one request: whatever it is answered, the seven definitions hold of it.
 pub request-obeys : (d : Tables) → Bounded d → (q : Request) → Obeys d q (after d q)
-request-obeys d b q =
-    go (answer d q) refl (eqb (answer d q) 0) (ltb (answer d q) firstNoticed) (same (answer d q) 0) (below (answer d q) firstNoticed)
+request-obeys d b q = after-each d q (Obeys d q) settled (λ l h. quiet-obeys d d q (same-quiet d (q .user)))
+    (λ l. quiet-obeys d (notice (q .user) (answer d q) (noticedOp q) d) q (notice-quiet d (q .user) (answer d q) (noticedOp q)))
   where
     settled : answer d q ≡ 0 → Obeys d q (effect d q)
     settled e =
         let w = accepted-good d q e b .0 in
         let a = accepted d q e w in
         rw (effect-by d q (a .0) (a .1 .meant .named)) (lawful (a .0) d w q (a .1))
-
-    go : (n : ℕ) → answer d q ≡ n → (x y : Bool) → Same n 0 x → Below n firstNoticed y → Obeys d q (after d q)
-    go n e true y (it z) l = rw (after-accepted d q (e ∙ z)) (settled (e ∙ z))
-    go n e false true (other z) (under l) = quiet-obeys d (after d q) q (rw (after-unchanged d q n e (omega arith) l) (same-quiet d (q .user)))
-    go n e false false (other z) (over l) = quiet-obeys d (after d q) q (rw (after-noticed d q n e l) (notice-quiet d (q .user) n (noticedOp q)))
 
 -- Definition 12.
 pub transform-secure : TransformSecure after

@@ -9,7 +9,6 @@ use Rattle.model.specs.Request.LadderLaws.{answer-is, answer-unique}
 use Rattle.model.specs.Request.Step.{Settles, afterOf, answerOf, sized}
 use Rattle.model.specs.Request.Words.{requestOf}
 use Rattle.model.specs.Tables.Layout.{tablesOf}
-use Rattle.model.specs.Tables.Rows.{left}
 use Rattle.model.specs.Tables.WordsOfLaws.{tablesOf-injective}
 use Rattle.model.specs.Theorem.Words.{afterOf-length, afterOf-tables, answerOf-sized, sized-agrees, unsized}
 

@@ -4,11 +4,11 @@ use mathlib.Core.List.{List, [], _∷_}
 use mathlib.Core.Path.{_∙_, _≡_, ap, refl, subst, sym}
 use Prim.Native.Nat.{_<_, _≤_, ℕ}
 use native.Mathlib.Omega.{arith}
-use lib.Dec.{T, eqb, eqb→eq, ltb}
+use lib.Dec.{T, eqb→eq}
 use lib.ListN.{length}
 use Rattle.model.specs.Basics.Agree.{Agrees, agrees-and, agrees-eq}
-use Rattle.model.specs.Basics.Choice.{Below, Same, below, it, other, over, pick, same, under}
-use Rattle.model.specs.Basics.Reading.{is-false, is-true}
+use Rattle.model.specs.Basics.Choice.{below, pick}
+use Rattle.model.specs.Basics.Reading.{is-false, is-true, pick-false, pick-true}
 use Rattle.model.specs.Request.After.{after}
 use Rattle.model.specs.Request.Allowed.{Accepted}
 use Rattle.model.specs.Request.Ladder.{answer}
@@ -27,7 +27,7 @@ use Rattle.model.specs.Tables.WordsOf.{wordsOf}
 use Rattle.model.specs.Tables.WordsOfLaws.{tablesOf-injective, tablesOf-wordsOf, wordsOf-length, wordsOf-tablesOf}
 use Rattle.model.specs.Theorem.Acceptance.{accepted, accepted-good, judged}
 use Rattle.model.specs.Theorem.Definitions.{Obeys}
-use Rattle.model.specs.Theorem.Kept.{request-good}
+use Rattle.model.specs.Theorem.Kept.{after-accepted, after-each, after-noticed, request-good}
 use Rattle.model.specs.Theorem.System.{request-obeys}
 use Rattle.model.specs.Theorem.Unchanged.{low-refusal}
 
@@ -39,39 +39,27 @@ sized-agrees t q = agrees-and (agrees-eq (length t) wordCount) (agrees-eq (lengt
 -- Other sizes are answered 1, and nothing changes.
 pub unsized : (t q : List ℕ) → T (not (sized t q)) → (answerOf t q ≡ 1) × (afterOf t q ≡ t)
 unfolding answerOf afterOf
-unsized t q n = go (sized t q) n
-  where
-    go : (b : Bool) → T (not b) → (pick b (answer (tablesOf t) (requestOf q)) 1 ≡ 1) × (pick b (wordsOf (after (tablesOf t) (requestOf q))) t ≡ t)
-    go true n = absurd n
-    go false n = (refl, refl)
+unsized t q n = (pick-false (sized t q) (answer (tablesOf t) (requestOf q)) 1 n, pick-false (sized t q) (wordsOf (after (tablesOf t) (requestOf q))) t n)
 
 -- On lists of the right sizes the step is the ladder's.
 pub answerOf-sized : (t q : List ℕ) → T (sized t q) → answerOf t q ≡ answer (tablesOf t) (requestOf q)
 unfolding answerOf
-answerOf-sized t q h = go (sized t q) h
-  where
-    go : (b : Bool) → T b → pick b (answer (tablesOf t) (requestOf q)) 1 ≡ answer (tablesOf t) (requestOf q)
-    go true h = refl
-    go false h = absurd h
+answerOf-sized t q h = pick-true (sized t q) (answer (tablesOf t) (requestOf q)) 1 h
 
 pub afterOf-sized : (t q : List ℕ) → T (sized t q) → afterOf t q ≡ wordsOf (after (tablesOf t) (requestOf q))
 unfolding afterOf
-afterOf-sized t q h = go (sized t q) h
-  where
-    go : (b : Bool) → T b → pick b (wordsOf (after (tablesOf t) (requestOf q))) t ≡ wordsOf (after (tablesOf t) (requestOf q))
-    go true h = refl
-    go false h = absurd h
+afterOf-sized t q h = pick-true (sized t q) (wordsOf (after (tablesOf t) (requestOf q))) t h
 
 -- A request leaves tables of words.
 pub after-bounded : (d : Tables) → Bounded d → (q : Request) → Bounded (after d q)
-after-bounded d b q = go (eqb (answer d q) 0) (ltb (answer d q) firstNoticed) (same (answer d q) 0) (below (answer d q) firstNoticed)
+after-bounded d b q = after-each d q Bounded
+    (λ e. subst Bounded (after-accepted d q e) (left-good (accepted-good d q e b)))
+    (λ l h. b)
+    (λ l. subst Bounded (after-noticed d q (answer d q) refl l)
+    (left-good (judged d q b (answer-is d q .below 2 (omega arith)) (answer-is d q .below 3 (omega arith)))))
   where
-    -- past rungs 2 and 3 the tables are good
-    go : (x y : Bool) → Same (answer d q) 0 x → Below (answer d q) firstNoticed y → Bounded (after d q)
-    go true y (it z) l = wellFormed-bounded (after d q) (request-good d (accepted-good d q z b) q .0)
-    go false true (other z) (under l) = rw (low-refusal d q (omega arith) l) b
-    go false false (other z) (over l) =
-        wellFormed-bounded (after d q) (request-good d (judged d q b (answer-is d q .below 2 (omega arith)) (answer-is d q .below 3 (omega arith))) q .0)
+    left-good : Good d → Bounded (after d q)
+    left-good g = wellFormed-bounded (after d q) (request-good d g q .0)
 
 -- The words afterwards are the tables afterwards.
 pub afterOf-tables : (t q : List ℕ) → T (sized t q) → tablesOf (afterOf t q) ≡ after (tablesOf t) (requestOf q)
