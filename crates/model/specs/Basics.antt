@@ -3,4 +3,4 @@ pub mod Choice
 pub mod Tests
 pub mod Agree
 pub mod Fails
-pub mod Reading
+pub mod TestLaws

@@ -11,6 +11,7 @@ pub mod Allowed
 pub mod ReferenceLaws
 pub mod OperationLaws
 pub mod LadderLaws
+pub mod TestLaws
 pub mod ConditionLaws
-pub mod OwnLaws
+pub mod AfterLaws
 pub mod RungLaws

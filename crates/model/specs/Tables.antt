@@ -13,4 +13,4 @@ pub mod WordsOf
 pub mod WordsOfLaws
 pub mod Sheet
 pub mod SheetLaws
-pub mod Stores
+pub mod StoreLaws

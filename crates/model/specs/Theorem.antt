@@ -1,9 +1,10 @@
 -- What follows: kept, lawful, framed, noticed, unique; the definitions of the model papers.
 pub mod Definitions
 pub mod MayChange
-pub mod Clear
+pub mod Statements
+pub mod NoRefusal
 pub mod Acceptance
-pub mod AllowedClear
+pub mod Unrefused
 pub mod Exact
 pub mod Kept
 pub mod Histories
@@ -19,5 +20,5 @@ pub mod Fixed
 pub mod Changed
 pub mod Unchanged
 pub mod Notices
-pub mod Words
+pub mod Steps
 pub mod Unique

@@ -21,7 +21,7 @@ use Rattle.model.specs.State.Check.{linksTest, wellFormedTest, contained
 use Rattle.model.specs.State.Check.{secureTest, judge, check}
 use Rattle.model.specs.State.Climb.{up, climb}
 use Rattle.model.specs.State.Secure.{labelled}
-use Rattle.model.specs.State.Tests.{packedTest, shapeTest, filledTest, goodTest, accessTest, noneTest, entityTest, noticeTest}
+use Rattle.model.specs.State.Tests.{packedTest, shapeTest, filledTest, tripleTest, accessTest, noneTest, entityTest, noticeTest}
 use Rattle.model.specs.State.Tests.{nobodyTest, userTest}
 use Rattle.model.specs.Tables.Layout.{tablesOf}
 use Rattle.model.specs.Tables.Rows.{seek}
@@ -41,8 +41,8 @@ openedTables = tt
 
 unfoldable pub openedState : Unit {0}
 unfolding inTest spotOf parent contentsTest oneTest loopTest deviceTest aloneTest idleTest linksTest wellFormedTest containedTest seenTest
-    labelledTest rolesTest ceilingTest secureTest judge check up climb labelled packedTest shapeTest filledTest goodTest accessTest noneTest
-    entityTest noticeTest nobodyTest userTest
+    labelledTest rolesTest ceilingTest secureTest judge check up climb labelled packedTest shapeTest filledTest tripleTest accessTest
+    noneTest entityTest noticeTest nobodyTest userTest
 openedState = tt
 
 unfoldable pub openedRequest : Unit {0}

@@ -1,4 +1,4 @@
--- Case states S2 and S3 are well-formed and secure, and their cases hold: a table each, by one computation.
+-- Case state S2 is well-formed and secure, and its cases hold: one table, by one computation.
 use mathlib.Core.Bool.{true}
 use mathlib.Core.List.{List, _++_}
 use mathlib.Core.Path.{_≡_, refl}
@@ -10,7 +10,6 @@ use Rattle.model.specs.Case.S2Cases14to20.{ladderCases, maximumCases, re
 use Rattle.model.specs.Case.S2Cases1to5.{copyCases, createCases, deleteCases, editCases, moveCases}
 use Rattle.model.specs.Case.S2Cases6to13.{clearCases, grantCases, levelCases, loginCases, logoutCases, markCases, revokeCases}
 use Rattle.model.specs.Case.S2Cases6to13.{showCases}
-use Rattle.model.specs.Case.S3.{fullCases, s3, s3Sheet}
 use Rattle.model.specs.State.AgreeSecure.{judge-good}
 use Rattle.model.specs.State.Check.{judge}
 use Rattle.model.specs.State.Secure.{Good}
@@ -52,11 +51,3 @@ s2Cases = createCases
 pub s2-hold : allPass s2 s2Cases ≡ true
 unfolding opened s2 s2Sheet s2Cases createCases deleteCases moveCases editCases copyCases levelCases markCases grantCases revokeCases showCases clearCases loginCases logoutCases currentCases clearanceCases authorisedCases maximumCases deviceLevelCases releaseCases acknowledgeCases ladderCases
 s2-hold = refl
-
-pub s3-judged : judge s3 ≡ 0
-unfolding opened s3 s3Sheet
-s3-judged = refl
-
-pub s3-hold : allPass s3 fullCases ≡ true
-unfolding opened s3 s3Sheet fullCases
-s3-hold = refl

@@ -13,9 +13,9 @@ use Rattle.model.specs.Tables.Edits.{written}
 use Rattle.model.specs.Tables.Words.{Tables, firstNoticed, held, heldOp, lastNoticed, missed, missedLimit, operationCount, present}
 
 -- A notice goes on being one.
-next : (h p m r o : ℕ) → (firstNoticed ≤ r) × (r ≤ lastNoticed) → o ≤ operationCount → Notice h p m
+notice-next : (h p m r o : ℕ) → (firstNoticed ≤ r) × (r ≤ lastNoticed) → o ≤ operationCount → Notice h p m
     → Notice (keepFirst (eqb h 0) r h) (keepFirst (eqb h 0) o p) (countOn (ltb m missedLimit) m)
-next h p m r o hr ho a = go (eqb h 0) (ltb m missedLimit) (same h 0) (below m missedLimit)
+notice-next h p m r o hr ho a = go (eqb h 0) (ltb m missedLimit) (same h 0) (below m missedLimit)
   where
     go : (x y : Bool) → Same h 0 x → Below m missedLimit y → Notice (keepFirst x r h) (keepFirst x o p) (countOn y m)
     go true true (it q) (under l) = search (arith, inr)
@@ -26,7 +26,7 @@ next h p m r o hr ho a = go (eqb h 0) (ltb m missedLimit) (same h 0) (below m mi
 module _ (d : Tables) (w : WellFormed d) (s : Secure d) (u r o : ℕ) (p : d .user u present ≢ 0) (hr : (firstNoticed ≤ r) × (r ≤ lastNoticed))
     (ho : o ≤ operationCount) where
   notice-ok : UserOk (d .user u) → UserOk (written (noticing u r o d) (d .user u))
-  notice-ok a = let n = next (d .user u held) (d .user u heldOp) (d .user u missed) r o hr ho (a .notice) in search arith
+  notice-ok a = let n = notice-next (d .user u held) (d .user u heldOp) (d .user u missed) r o hr ho (a .notice) in search arith
 
   pub notice-wellFormed : WellFormed (notice u r o d)
   notice-wellFormed = let n = each UserOk (noticing u r o d) u (d .user) (w .users) (notice-ok (w .users u)) in search

@@ -7,7 +7,8 @@ use native.Mathlib.Nat.{not-suc-le-zero}
 use native.Mathlib.Omega.{arith}
 use lib.Dec.{T, eqb}
 use Rattle.model.specs.Basics.Choice.{Same, it, other, pick, same}
-use Rattle.model.specs.Effect.Places.{bearing, create, delete, draftSort, erase, fresh, leave, move, objectSort, sortKind, sortType, vacant}
+use Rattle.model.specs.Effect.Places.{bearing, create, delete, draftSort, erase, fresh, leave, move, objectSort, sortKind, sortType}
+use Rattle.model.specs.Effect.Places.{vacant}
 use Rattle.model.specs.Effect.PutLaws.{Takes, fewer-there, leave-secure, leave-wellFormed, put-secure, put-wellFormed, stayed}
 use Rattle.model.specs.Level.{AtMost, levelCount}
 use Rattle.model.specs.State.Agree.{zero-ok}
@@ -21,8 +22,8 @@ use Rattle.model.specs.Tables.Edits.{blank, written}
 use Rattle.model.specs.Tables.RowLaws.{sought}
 use Rattle.model.specs.Tables.Rows.{Sought, seek}
 use Rattle.model.specs.Tables.Words.{EntityWord, Tables, absentKind, clearance, containerKind, count, counts, deviceKind, devices}
-use Rattle.model.specs.Tables.Words.{entityCount, kinds, level, mark, maximum, objectKind, placeCount, places, releaser, shown, sums}
-use Rattle.model.specs.Tables.Words.{draftType, plainType, value}
+use Rattle.model.specs.Tables.Words.{draftType, entityCount, kinds, level, mark, maximum, objectKind, placeCount, places, plainType}
+use Rattle.model.specs.Tables.Words.{releaser, shown, sums, value}
 
 -- the level of e changes, and e neither holds anything nor is held
 module _ (d : Tables) (s : Secure d) (e l : ℕ) (nothing : (c : ℕ) → Holds d e c → ⊥) (nowhere : (x : ℕ) → Holds d x e → ⊥) where

@@ -91,8 +91,8 @@ module _ (d : Tables) (w : WellFormed d) (s : Secure d) (u v e a : ℕ) (on : de
       let n = w .entityNumbers v (omega arith) in
       rw (w .links .oneUser x u (omega arith) (q ∙ sym on)) clear
 
-  pub show-both : (counts d v ≤ spot v e d → counts d v < placeCount) → Good (show v e a d)
-  show-both room = go (ltb (spot v e d) (counts d v)) (below (spot v e d) (counts d v)) (sought e (places d v) (counts d v))
+  pub show-good : (counts d v ≤ spot v e d → counts d v < placeCount) → Good (show v e a d)
+  show-good room = go (ltb (spot v e d) (counts d v)) (below (spot v e d) (counts d v)) (sought e (places d v) (counts d v))
     where
       go : (b : Bool) → Below (spot v e d) (counts d v) b → Sought e (places d v) (counts d v) (spot v e d)
           → Good (onEntity v (showing v e a d (spot v e d) (pick b (counts d v) (suc (counts d v)))) d)

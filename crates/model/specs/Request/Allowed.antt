@@ -13,7 +13,7 @@ use Rattle.model.specs.Level.{AtMost, Lower, Subset, downgrader, levelCo
 use Rattle.model.specs.Request.Asked.{Asked, HasRole, asked, basisOf, namedTriple, operand, own}
 use Rattle.model.specs.Request.Conditions.{levelOf}
 use Rattle.model.specs.Request.Ladder.{fits}
-use Rattle.model.specs.Request.Operations.{Op, clearanceEffect, levelEffect, numberOf, offDuty, opOf, rowOf, toAcknowledge}
+use Rattle.model.specs.Request.Operations.{Op, clearanceEffect, levelEffect, numberOf, opOf, openLoggedOff, rowOf, toAcknowledge}
 use Rattle.model.specs.Request.Operations.{toAuthorised, toClear, toClearance, toCopy, toCreate, toCurrent, toDelete, toDeviceLevel}
 use Rattle.model.specs.Request.Operations.{toEdit, toGrant, toLevel, toLogin, toLogout, toMark, toMaximum, toMove, toRelease}
 use Rattle.model.specs.Request.Operations.{toRevoke, toShow}
@@ -22,9 +22,9 @@ use Rattle.model.specs.State.Depth.{Within}
 use Rattle.model.specs.State.Secure.{Secure, labelled}
 use Rattle.model.specs.State.WellFormed.{GoodTriple, Holds, InTables, Thing}
 use Rattle.model.specs.Tables.Rows.{Member, seek}
-use Rattle.model.specs.Tables.Words.{Tables, authorised, clearance, containerKind, counts, current, deviceKind, devices}
-use Rattle.model.specs.Tables.Words.{draftType, entityCount, held, kinds, level, mark, missed, objectKind, placeCount, present}
-use Rattle.model.specs.Tables.Words.{releasedType, sumLimit, tripleOf, triples, type, userCount, whoRole}
+use Rattle.model.specs.Tables.Words.{Tables, authorised, clearance, containerKind, counts, current, deviceKind, devices, draftType}
+use Rattle.model.specs.Tables.Words.{entityCount, held, kinds, level, mark, missed, objectKind, placeCount, present, releasedType}
+use Rattle.model.specs.Tables.Words.{sumLimit, tripleOf, triples, type, userCount, whoRole}
 
 -- Rule 7.4: the requester is one of the users that are there.
 pub record Known (d : Tables) (u : ℕ) : Type 0 where
@@ -57,7 +57,7 @@ Open d u way = (y : ℕ) → List·Memᴰ y way → d .entity y mark ≢ 0 → A
 
 -- Rule 7.6.
 abbrev pub On : Op → Tables → ℕ → Type 0
-On o d u = T (not (offDuty o)) → devices d u ≢ 0
+On o d u = T (not (openLoggedOff o)) → devices d u ≢ 0
 
 -- Rule 6.1.
 pub record MayCreate (s : Asked) (d : Tables) : Type 0 where
@@ -143,7 +143,7 @@ pub record MayClearance (s : Asked) (d : Tables) : Type 0 where
   pub secure : Secure (clearanceEffect s d)
 
 -- Rule 6.16.
-pub record MayAuthorise (s : Asked) (d : Tables) : Type 0 where
+pub record MayAuthorised (s : Asked) (d : Tables) : Type 0 where
   pub present : d .user (s .a) present ≢ 0
   pub rolesIn : s .b < roleSets
   pub officer : HasRole d (s .user) officer
@@ -191,7 +191,7 @@ Allowed toLogin s d = MayLogin s d
 Allowed toLogout s d = own d s ≢ 0
 Allowed toCurrent s d = MayCurrent s d
 Allowed toClearance s d = MayClearance s d
-Allowed toAuthorised s d = MayAuthorise s d
+Allowed toAuthorised s d = MayAuthorised s d
 Allowed toMaximum s d = MayMaximum s d
 Allowed toDeviceLevel s d = MayDeviceLevel s d
 Allowed toRelease s d = MayRelease s d

@@ -1,135 +1,184 @@
--- What the tests behind rungs 8, 9, 14 and 15 say: permitted, open, on no screen, not inside, a free device.
-use mathlib.Core.Bool.{Bool, _&&_, false, not, true}
-use mathlib.Core.List.{List, List·Memᴰ, List·Memᴰ·cases-cons, List·Memᴰ·head, List·Memᴰ·not-nil, List·Memᴰ·tail, [], _∷_}
-use mathlib.Core.Logic.{_≢_, _⊎_, inl, inr}
-use mathlib.Core.Path.{_≡_, refl, subst, sym}
-use Prim.Native.Nat.{_<_, _≤_, suc, zero, ℕ}
-use native.Mathlib.Nat.{eq-or-lt-of-le, le-of-suc-le-suc}
+-- What operands of the right kinds are, what arguments in their ranges are, and where each condition of rule 6 does not apply.
+use mathlib.Core.Logic.{_≢_, inl, inr}
+use mathlib.Core.Path.{_≡_}
+use Prim.Native.Nat.{_<_, _≤_, ℕ}
 use native.Mathlib.Omega.{arith}
-use lib.Dec.{T, eqb, ltb}
-use Rattle.model.specs.Basics.Agree.{Agrees, agrees-T, agrees-and, agrees-as, agrees-eq, agrees-imp, agrees-not, agrees-or}
-use Rattle.model.specs.Basics.Agree.{agrees-range, agrees-twice}
-use Rattle.model.specs.Basics.Reading.{is-true}
-use Rattle.model.specs.Basics.Tests.{every, imp}
-use Rattle.model.specs.Level.{AtMost, atMost, bit, roleCount}
-use Rattle.model.specs.Request.Allowed.{Open, Permitted}
-use Rattle.model.specs.Request.Asked.{HasRole, hasRole}
-use Rattle.model.specs.Request.Conditions.{onScreen}
-use Rattle.model.specs.Request.Ladder.{bars, permits}
-use Rattle.model.specs.State.Agree.{wellFormed-bounded}
-use Rattle.model.specs.State.AgreeLinks.{boxed, member-agrees, parent-holds, parent-top}
-use Rattle.model.specs.State.Check.{parent}
-use Rattle.model.specs.State.Climb.{climb}
-use Rattle.model.specs.State.ClimbLaws.{climb-complete, climb-sound, complete}
+use lib.Dec.{T, leb}
+use Rattle.model.specs.Basics.Agree.{Agrees, agrees-T, agrees-and, agrees-as, agrees-eq, agrees-le, agrees-not}
+use Rattle.model.specs.Basics.Fails.{Fails, fails-agreed, fails-and, fails-le, fails-not, fails-or, fails-where}
+use Rattle.model.specs.Effect.Places.{leave, vacant}
+use Rattle.model.specs.Effect.Screens.{spot}
+use Rattle.model.specs.Level.{AtMost, Lower, Subset, atMost, downgrader, officer, roleCount, subset}
+use Rattle.model.specs.LevelLaws.{lower-agrees}
+use Rattle.model.specs.Request.Asked.{Asked, HasRole, namedTriple, own}
+use Rattle.model.specs.Request.Conditions.{between, createAbove, createNoRoom, currentOutside, deleteForbidden, deviceAbove}
+use Rattle.model.specs.Request.Conditions.{deviceLowered, firstAbove, grantNoRoom, insecure, isAny, isContainer, isDevice, isDraft}
+use Rattle.model.specs.Request.Conditions.{isEntity, lacks, levelLowered, levelOf, loginTaken, moveInside, moveNoRoom}
+use Rattle.model.specs.Request.Conditions.{notAcknowledged, onScreen, rolesOfAnother, rolesOff, rolesUnauthorised, showAbove}
+use Rattle.model.specs.Request.Conditions.{showNoRoom, showUnlabelled, userAbsent}
+use Rattle.model.specs.Request.TestLaws.{inside-agrees, nobody-agrees, role-agrees, screen-agrees}
+use Rattle.model.specs.State.AgreeSecure.{secure-agrees}
 use Rattle.model.specs.State.Depth.{Within}
-use Rattle.model.specs.State.WellFormed.{Holds, InTables, WellFormed}
-use Rattle.model.specs.Tables.Layout.{Bounded}
-use Rattle.model.specs.Tables.Rows.{Member, seek}
-use Rattle.model.specs.Tables.Words.{Tables, clearance, count, counts, current, device, deviceKind, devices, entityCount, kind, kinds}
-use Rattle.model.specs.Tables.Words.{level, mark, placeCount, places, tripleOf, triples, userCount, whoRole}
+use Rattle.model.specs.State.Secure.{Secure, labelled}
+use Rattle.model.specs.State.WellFormed.{Holds, InTables, Thing, WellFormed}
+use Rattle.model.specs.Tables.RowLaws.{sought}
+use Rattle.model.specs.Tables.Rows.{Sought, seek}
+use Rattle.model.specs.Tables.Words.{Tables, authorised, clearance, containerKind, counts, current, deviceKind, devices, draftType}
+use Rattle.model.specs.Tables.Words.{entityCount, held, kinds, missed, objectKind, placeCount, present, releasedType, triples, type}
 
--- some number below n passes
-agrees-some : (n : ℕ) (p : ℕ → Bool) (P : ℕ → Type 0) → ((i : ℕ) → Agrees (p i) (P i))
-    → Agrees (not (every n (λ i. not (p i)))) ((i : ℕ) × (i < n) × P i)
-unfolding every
-agrees-some zero p P a = record { to = λ t. absurd t; from = λ z. absurd (omega (arith, z .1)) }
-agrees-some (suc n) p P a = go (p n) (every n (λ i. not (p i))) (a n) (agrees-some n p P a)
-  where
-    go : (b c : Bool) → Agrees b (P n) → Agrees (not c) ((i : ℕ) × (i < n) × P i) → Agrees (not (not b && c)) ((i : ℕ) × (i < suc n) × P i)
-    go true c x y = record { to = λ t. (n, omega arith, x .to tt); from = λ z. tt }
-    go false c x y = record {
-      to = λ t. let z = y .to t in (z .0, omega (arith, z .1), z .2);
-      from = λ z. y .from
-          (lower-one z (eq-or-lt-of-le (le-of-suc-le-suc (z .1))));
-    }
-      where
-        lower-one : (z : (i : ℕ) × (i < suc n) × P i) → (z .0 ≡ n) ⊎ (z .0 < n) → (i : ℕ) × (i < n) × P i
-        lower-one z (inl e) = absurd (x .from (subst P e (z .2)))
-        lower-one z (inr l) = (z .0, l, z .2)
+-- Rule 5.5: `any` is an object, a container or a device,
+pub any-agrees : (d : Tables) (e : ℕ) → Agrees (isAny d e) (objectKind ≤ kinds d e)
+unfolding isAny
+any-agrees d e = agrees-le objectKind (kinds d e)
 
--- Rule 5.6: the test is of current roles.
-pub role-agrees : (d : Tables) (u r : ℕ) → Agrees (hasRole d u r) (HasRole d u r)
-unfolding hasRole
-role-agrees d u r = agrees-T (bit r (d .user u current))
+-- an entity is an object or a container,
+pub thing-agrees : (d : Tables) (e : ℕ) → Agrees (isEntity d e) (Thing d e)
+unfolding isEntity
+thing-agrees d e = agrees-and (agrees-le objectKind (kinds d e)) (agrees-le (kinds d e) containerKind)
 
--- Rule 7.8.
-pub permits-agrees : (d : Tables) (u o k e : ℕ) → Agrees (permits d u o k e) (Permitted d u o k e)
-unfolding permits
-permits-agrees d u o k e = agrees-or (member-agrees (triples d e) placeCount (tripleOf u o k))
-    (agrees-as {P = (r : ℕ) × (r < roleCount) × (HasRole d u r × Member (triples d e) placeCount (tripleOf (whoRole r) o k))}
-    (λ z. (z .0, z .1, z .2 .0, z .2 .1)) (λ z. (z .0, z .1, (z .2, z .3)))
-    (agrees-some roleCount (λ r. hasRole d u r && ltb (seek (tripleOf (whoRole r) o k) (triples d e) placeCount) placeCount)
-    (λ r. HasRole d u r × Member (triples d e) placeCount (tripleOf (whoRole r) o k))
-    (λ r. agrees-and (role-agrees d u r) (member-agrees (triples d e) placeCount (tripleOf (whoRole r) o k)))))
+-- a container is of kind 2,
+pub container-agrees : (d : Tables) (e : ℕ) → Agrees (isContainer d e) (kinds d e ≡ containerKind)
+unfolding isContainer
+container-agrees d e = agrees-eq (kinds d e) containerKind
 
--- one more entity on the way
-open-first : (d : Tables) (u e : ℕ) (es : List ℕ) → (d .entity e mark ≢ 0 → AtMost (d .entity e level) (d .user u clearance)) → Open d u es
-    → Open d u (e ∷ es)
-open-first d u e es f g z m n = first (List·Memᴰ·cases-cons m)
-  where
-    first : (z ≡ e) ⊎ List·Memᴰ z es → AtMost (d .entity z level) (d .user u clearance)
-    first (inl q) = subst (λ (v : ℕ). AtMost (d .entity v level) (d .user u clearance)) (sym q) (f (subst (λ (v : ℕ). d .entity v mark ≢ 0) q n))
-    first (inr k) = g z k n
+-- a device of kind 3,
+pub device-agrees : (d : Tables) (e : ℕ) → Agrees (isDevice d e) (kinds d e ≡ deviceKind)
+unfolding isDevice
+device-agrees d e = agrees-eq (kinds d e) deviceKind
 
--- Rule 7.9.
-pub open-agrees : (d : Tables) (u : ℕ) (w : List ℕ) → Agrees (not (bars d (d .user u clearance) w)) (Open d u w)
-unfolding bars
-open-agrees d u [] = record { to = λ t y m. absurd (List·Memᴰ·not-nil m); from = λ f. tt }
-open-agrees d u (e ∷ es) =
-    go (eqb (d .entity e mark) 0) (atMost (d .entity e level) (d .user u clearance)) (agrees-eq (d .entity e mark) 0) refl (open-agrees d u es)
-  where
-    go : (a b : Bool) → Agrees a (d .entity e mark ≡ 0) → atMost (d .entity e level) (d .user u clearance) ≡ b
-        → Agrees (not (bars d (d .user u clearance) es)) (Open d u es)
-        → Agrees (not (elim (not a && not b) [ true ↦ true | false ↦ bars d (d .user u clearance) es ])) (Open d u (e ∷ es))
-    go true b x y ih =
-        record { to = λ t. open-first d u e es (λ n. absurd (n (x .to tt))) (ih .to t); from = λ f. ih .from (λ z m. f z (List·Memᴰ·tail m)) }
-    go false true x y ih =
-        record { to = λ t. open-first d u e es (λ n. is-true _ y) (ih .to t); from = λ f. ih .from (λ z m. f z (List·Memᴰ·tail m)) }
-    go false false x y ih = record { to = λ t. absurd t; from = λ f. subst T y (f e (List·Memᴰ·head refl) (λ q. absurd (x .from q))) }
+-- and a draft is a container of type 1.
+pub draft-agrees : (d : Tables) (e : ℕ) → Agrees (isDraft d e) ((kinds d e ≡ containerKind) × (d .entity e type ≡ draftType))
+unfolding isDraft
+draft-agrees d e = agrees-and (agrees-eq (kinds d e) containerKind) (agrees-eq (d .entity e type) draftType)
 
-module _ (d : Tables) (w : WellFormed d) where
-  bound : Bounded d
-  bound = wellFormed-bounded d w
+-- Rule 5.4: a range goes from one number up to another.
+pub between-agrees : (m n x : ℕ) → Agrees (between m n x) ((m ≤ x) × (x ≤ n))
+unfolding between
+between-agrees m n x = agrees-and (agrees-le m x) (agrees-le x n)
 
-  -- Rule 6.2: e stands on no device.
-  pub screen-agrees : (e : ℕ) → Agrees (not (onScreen d e)) ((x : ℕ) → kinds d x ≡ deviceKind → Holds d x e → ⊥)
-  unfolding onScreen
-  screen-agrees e =
-      agrees-twice (agrees-range entityCount (λ v. imp (eqb (kinds d v) deviceKind) (not (ltb (seek e (places d v) (counts d v)) (counts d v))))
-      (λ x. kinds d x ≡ deviceKind → Holds d x e → ⊥)
-      (λ v. agrees-imp (agrees-eq (kinds d v) deviceKind) (agrees-not (member-agrees (places d v) (counts d v) e)))
-      (λ k. absurd (omega (arith, bound .entityOut 0 (inl refl) kind))) (λ x r k. absurd (omega (arith, bound .entityOut x (inr r) kind))))
+module _ (d : Tables) (s : Asked) where
+  -- Rules 6.15 to 6.17 and 6.19: no refusal 12 where the requester has the role.
+  pub lacks-fails : (r : ℕ) → Fails (lacks r d s) (HasRole d (s .user) r)
+  unfolding lacks
+  lacks-fails r = fails-not (role-agrees d (s .user) r)
 
-  -- Rule 6.12: nobody is on the device v.
-  pub nobody-agrees : (v : ℕ) → 1 ≤ v → Agrees (every userCount (λ u. not (eqb (devices d (suc u)) v))) ((x : ℕ) → devices d x ≢ v)
-  nobody-agrees v h = agrees-range userCount (λ u. not (eqb (devices d u) v)) (λ u. devices d u ≢ v) (λ u. agrees-not (agrees-eq (devices d u) v))
-      (λ r. omega (arith, bound .userOut 0 (inl refl) device)) (λ u z r. omega (arith, bound .userOut u (inr z) device))
+  -- Rule 6.1: no refusal 13 where b is at most the container's level,
+  pub createAbove-fails : Fails (createAbove d s) (AtMost (s .b) (levelOf d (s .first)))
+  unfolding createAbove
+  createAbove-fails = fails-not (agrees-T (atMost (s .b) (levelOf d (s .first))))
 
-  -- Rule 6.3: the container is the entity, or inside it at any depth.
-  pub inside-agrees : (c e : ℕ) → Agrees (climb (parent (kinds d) (counts d) (places d)) (suc entityCount) c e) (Within (InTables d) c e)
-  inside-agrees c e = record {
-    to = climb-sound entityCount (InTables d) par top holds one range (suc entityCount) c e;
-    from = climb-complete entityCount (InTables d) par top holds one range (suc entityCount) c e
-        (complete entityCount (InTables d) par top holds one range (w .links .noLoop) c);
-  }
+  -- and no 14 where a number is left and the container has a free place.
+  pub createNoRoom-fails : Fails (createNoRoom d s) ((vacant d ≤ entityCount) × (counts d (s .first) < placeCount))
+  unfolding createNoRoom
+  createNoRoom-fails = fails-or (fails-not (agrees-le (vacant d) entityCount)) (fails-le placeCount (counts d (s .first)))
+
+  -- Rules 6.3 and 6.5: no refusal 13 where the first's level is at most the second's.
+  pub firstAbove-fails : Fails (firstAbove d s) (AtMost (levelOf d (s .first)) (levelOf d (s .second)))
+  unfolding firstAbove
+  firstAbove-fails = fails-not (agrees-T (atMost (levelOf d (s .first)) (levelOf d (s .second))))
+
+  -- Rule 6.3: no refusal 14 where the container has a free place once the entity has left.
+  pub moveNoRoom-fails : Fails (moveNoRoom d s) (counts (leave (s .first) d) (s .second) < placeCount)
+  unfolding moveNoRoom
+  moveNoRoom-fails = fails-le placeCount (counts (leave (s .first) d) (s .second))
+
+  -- Rule 6.6: no refusal 12 where a strictly lower level is set by a downgrader.
+  pub levelLowered-fails : Fails (levelLowered d s) (Lower (s .a) (levelOf d (s .first)) → HasRole d (s .user) downgrader)
+  unfolding levelLowered
+  levelLowered-fails = fails-and (lower-agrees (s .a) (levelOf d (s .first))) (lacks-fails downgrader)
+
+  -- Rules 6.6, 6.15 and 6.18: no refusal 13 where the tables, well-formed afterwards, are secure too.
+  pub insecure-fails : (f : Asked → Tables → Tables) → WellFormed (f s d) → Fails (insecure f d s) (Secure (f s d))
+  unfolding insecure
+  insecure-fails f w = fails-not (secure-agrees (f s d) w)
+
+  -- Rule 6.8: no refusal 14 where the triple is there, or a free place for it.
+  pub grantNoRoom-fails : Fails (grantNoRoom d s)
+      (seek (namedTriple s) (triples d (s .first)) placeCount ≡ placeCount → seek 0 (triples d (s .first)) placeCount < placeCount)
+  unfolding grantNoRoom
+  grantNoRoom-fails =
+      fails-and (at-end (seek (namedTriple s) (triples d (s .first)) placeCount) (sought (namedTriple s) (triples d (s .first)) placeCount))
+      (fails-le placeCount (seek 0 (triples d (s .first)) placeCount))
     where
-      par : ℕ → ℕ
-      par = parent (kinds d) (counts d) (places d)
+      at-end : (k : ℕ) → Sought (namedTriple s) (triples d (s .first)) placeCount k → Agrees (leb placeCount k) (k ≡ placeCount)
+      at-end k (inl z) = agrees-as (λ h. omega (arith, z .0)) (λ e. omega arith) (agrees-le placeCount k)
+      at-end k (inr z) = agrees-as (λ h. z .0) (λ e. omega arith) (agrees-le placeCount k)
 
-      out : (e : ℕ) → (e ≡ 0) ⊎ (entityCount < e) → (kinds d e ≡ 0) × (counts d e ≡ 0)
-      out e r = (bound .entityOut e r kind, bound .entityOut e r count)
+  -- Rule 6.10: no refusal 13 where the level is at most the clearance, and at most the device's level;
+  pub showAbove-fails : Fails (showAbove d s)
+      (AtMost (levelOf d (s .first)) (d .user (s .user) clearance) × AtMost (levelOf d (s .first)) (levelOf d (own d s)))
+  unfolding showAbove
+  showAbove-fails = fails-or (fails-not (agrees-T (atMost (levelOf d (s .first)) (d .user (s .user) clearance))))
+      (fails-not (agrees-T (atMost (levelOf d (s .first)) (levelOf d (own d s)))))
 
-      room : (e : ℕ) → counts d e ≤ placeCount
-      room e = w .entities e .filled .packed .room
+  -- no 14 where the device shows the entity already, or has a free place;
+  pub showNoRoom-fails : Fails (showNoRoom d s) (counts d (own d s) ≤ spot (own d s) (s .first) d → counts d (own d s) < placeCount)
+  unfolding showNoRoom
+  showNoRoom-fails = fails-and (agrees-le (counts d (own d s)) (spot (own d s) (s .first) d)) (fails-le placeCount (counts d (own d s)))
 
-      top : (a : ℕ) → par a ≡ 0 → (x : ℕ) → InTables d x a → ⊥
-      top = parent-top (kinds d) (counts d) (places d) (devices d) out (λ u r. bound .userOut u r device) room
+  -- and no 15 where the value comes with its label.
+  pub showUnlabelled-fails : Fails (showUnlabelled d s) (T (labelled (s .a)))
+  unfolding showUnlabelled
+  showUnlabelled-fails = fails-not (agrees-T (labelled (s .a)))
 
-      holds : (a : ℕ) → par a ≢ 0 → InTables d (par a) a
-      holds = parent-holds (kinds d) (counts d) (places d) (devices d) out (λ u r. bound .userOut u r device) room
+  -- Rules 6.15 and 6.16: no refusal 11 where user a is present.
+  pub userAbsent-fails : Fails (userAbsent d s) (d .user (s .a) present ≢ 0)
+  unfolding userAbsent
+  userAbsent-fails = fails-agreed (agrees-eq (d .user (s .a) present) 0)
 
-      one : (a x y : ℕ) → InTables d x a → InTables d y a → x ≡ y
-      one = w .links .oneContainer
+  -- Rule 6.14: no refusal 11 where user a is present and asks for no role while logged off;
+  pub rolesOff-fails : Fails (rolesOff d s) ((d .user (s .a) present ≢ 0) × (devices d (s .a) ≡ 0 → s .b ≡ 0))
+  unfolding rolesOff
+  rolesOff-fails = fails-or userAbsent-fails (fails-and (agrees-eq (devices d (s .a)) 0) (fails-not (agrees-eq (s .b) 0)))
 
-      range : (x a : ℕ) → InTables d x a → (1 ≤ x) × (x ≤ entityCount)
-      range = boxed (kinds d) (counts d) (places d) (devices d) out (λ u r. bound .userOut u r device) room
+  -- no 12 where the roles of another are set by an officer;
+  pub rolesOfAnother-fails : Fails (rolesOfAnother d s) (s .a ≢ s .user → HasRole d (s .user) officer)
+  unfolding rolesOfAnother
+  rolesOfAnother-fails = fails-and (agrees-not (agrees-eq (s .a) (s .user))) (lacks-fails officer)
+
+  -- and no 13 where user a is authorised for all of b.
+  pub rolesUnauthorised-fails : Fails (rolesUnauthorised d s) (Subset roleCount (s .b) (d .user (s .a) authorised))
+  unfolding rolesUnauthorised
+  rolesUnauthorised-fails = fails-not (agrees-T (subset roleCount (s .b) (d .user (s .a) authorised)))
+
+  -- Rule 6.16: no refusal 13 where the current roles are within b.
+  pub currentOutside-fails : Fails (currentOutside d s) (Subset roleCount (d .user (s .a) current) (s .b))
+  unfolding currentOutside
+  currentOutside-fails = fails-not (agrees-T (subset roleCount (d .user (s .a) current) (s .b)))
+
+  -- Rule 6.17: no refusal 13 where the device's level is at most a.
+  pub deviceAbove-fails : Fails (deviceAbove d s) (AtMost (levelOf d (s .first)) (s .a))
+  unfolding deviceAbove
+  deviceAbove-fails = fails-not (agrees-T (atMost (levelOf d (s .first)) (s .a)))
+
+  -- Rule 6.18: no refusal 12 where a strictly lower level is set, on a device that is not the requester's own, by a downgrader.
+  pub deviceLowered-fails : Fails (deviceLowered d s) (Lower (s .a) (levelOf d (s .first)) → s .first ≢ own d s → HasRole d (s .user) downgrader)
+  unfolding deviceLowered
+  deviceLowered-fails = fails-and (lower-agrees (s .a) (levelOf d (s .first)))
+      (fails-and (agrees-not (agrees-eq (s .first) (own d s))) (lacks-fails downgrader))
+
+  -- Rule 6.20: no refusal 16 where a refusal is held, a is that refusal, and b is the count.
+  pub notAcknowledged-fails : Fails (notAcknowledged d s)
+      ((d .user (s .user) held ≢ 0) × ((s .a ≡ d .user (s .user) held) × (s .b ≡ d .user (s .user) missed)))
+  unfolding notAcknowledged
+  notAcknowledged-fails = fails-or (fails-agreed (agrees-eq (d .user (s .user) held) 0))
+      (fails-or (fails-not (agrees-eq (s .a) (d .user (s .user) held))) (fails-not (agrees-eq (s .b) (d .user (s .user) missed))))
+
+  module _ (w : WellFormed d) where
+    -- Rule 6.2: no refusal 15 where the entity holds nothing, no device shows it, and it is not released.
+    pub deleteForbidden-fails : Fails (deleteForbidden d s)
+        ((counts d (s .first) ≡ 0) × (((x : ℕ) → kinds d x ≡ deviceKind → Holds d x (s .first) → ⊥) × (d .entity (s .first) type ≢ releasedType)))
+    unfolding deleteForbidden
+    deleteForbidden-fails = fails-or (fails-not (agrees-eq (counts d (s .first)) 0))
+        (fails-or (fails-where (onScreen d (s .first)) (screen-agrees d w (s .first))) (fails-agreed (agrees-eq (d .entity (s .first) type) releasedType)))
+
+    -- Rule 6.3: no refusal 15 where the container is neither the entity nor inside it.
+    pub moveInside-fails : Fails (moveInside d s) (Within (InTables d) (s .second) (s .first) → ⊥)
+    unfolding moveInside
+    moveInside-fails = fails-agreed (inside-agrees d w (s .second) (s .first))
+
+    -- Rule 6.12: no refusal 15 where the requester is logged off and nobody is on the device.
+    pub loginTaken-fails : kinds d (s .first) ≡ deviceKind → Fails (loginTaken d s) ((own d s ≡ 0) × ((x : ℕ) → devices d x ≢ s .first))
+    unfolding loginTaken
+    loginTaken-fails k = fails-or (fails-not (agrees-eq (own d s) 0))
+        (fails-not (nobody-agrees d w (s .first) (w .entityNumbers (s .first) (λ q. omega arith) .0)))

@@ -10,7 +10,7 @@ use Rattle.model.specs.Basics.Tests.{every, imp}
 use Rattle.model.specs.Level.{atMost, roleCount}
 use Rattle.model.specs.Request.Asked.{asked, basisOf, hasRole, operand}
 use Rattle.model.specs.Request.Conditions.{Condition, Kind, Range, unused}
-use Rattle.model.specs.Request.Operations.{Op, Own, numberOf, offDuty, opOf, refuse, rowOf}
+use Rattle.model.specs.Request.Operations.{Op, Refusal, numberOf, opOf, openLoggedOff, refuse, rowOf}
 use Rattle.model.specs.Request.Words.{Reference, Request, nameCount}
 use Rattle.model.specs.State.Check.{secureTest, wellFormedTest}
 use Rattle.model.specs.Tables.Rows.{seek}
@@ -68,7 +68,7 @@ notUnderstood d q = not (ofOp q (λ o. fits o q))
 
 -- Rule 7.6.
 unfoldable pub notLoggedOn : Rung
-notLoggedOn d q = ofOp q (λ o. not (offDuty o) && eqb (devices d (q .user)) 0)
+notLoggedOn d q = ofOp q (λ o. not (openLoggedOff o) && eqb (devices d (q .user)) 0)
 
 -- Rule 7.7.
 unfoldable pub leadsNowhere : Rung
@@ -95,7 +95,7 @@ unfoldable pub wrongKind : Rung
 wrongKind d q = ofOp q (λ o. someOperand 1 (rowOf o .operands) (λ k x. not (x d (operand (asked d q) k))))
 
 -- Rules 7.11 to 7.16: the operation's own condition of that number.
-unfoldable pub refused : ℕ → List Own → Condition
+unfoldable pub refused : ℕ → List Refusal → Condition
 refused n [] d s = false
 refused n (refuse k c ∷ cs) d s = elim (eqb k n) [ true ↦ c d s | false ↦ refused n cs d s ]
 

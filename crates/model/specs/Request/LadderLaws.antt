@@ -11,7 +11,7 @@ use lib.ListN.{length}
 use Rattle.model.specs.Basics.Agree.{Agrees}
 use Rattle.model.specs.Basics.Choice.{Same, it, other, same}
 use Rattle.model.specs.Basics.Fails.{Fails, fails-as, fails-or}
-use Rattle.model.specs.Basics.Reading.{fails-false}
+use Rattle.model.specs.Basics.TestLaws.{fails-false}
 use Rattle.model.specs.Request.Conditions.{Kind}
 use Rattle.model.specs.Request.Ladder.{IsAnswer, Rung, answer, applies, ladder, lowest, never, ofOp, rungAt, someOperand}
 use Rattle.model.specs.Request.Operations.{Op, opOf}

@@ -23,8 +23,8 @@ pub data Op : Type 0 where
   toClear toLogin toLogout toCurrent toClearance toAuthorised toMaximum toDeviceLevel toRelease toAcknowledge : Op
 
 -- "13 b not at most its level" is `refuse 13 createAbove`
-pub data Own : Type 0 where
-  refuse : ℕ → Condition → Own
+pub data Refusal : Type 0 where
+  refuse : ℕ → Condition → Refusal
 
 pub record Row : Type 0 where
   -- what each operand must be
@@ -32,10 +32,10 @@ pub record Row : Type 0 where
   -- the ranges of a, b and c, as many of them as are used
   pub arguments : List Range
   -- refusals 11 to 16
-  pub conditions : List Own
+  pub conditions : List Refusal
   pub effect : Asked → Tables → Tables
 
-abbrev pub takes : List Kind → List Range → (Asked → Tables → Tables) → List Own → Row
+abbrev pub takes : List Kind → List Range → (Asked → Tables → Tables) → List Refusal → Row
 takes k r e c = record { operands = k; arguments = r; conditions = c; effect = e }
 
 abbrev pub levelEffect : Asked → Tables → Tables
@@ -124,5 +124,5 @@ unfoldable pub opOf : ℕ → Option Op
 opOf n = withNumber n operations
 
 -- Rule 7.6: login and acknowledge are open to a requester who is not logged on.
-abbrev pub offDuty : Op → Bool
-offDuty o = eqb (numberOf o) (numberOf toLogin) || eqb (numberOf o) (numberOf toAcknowledge)
+abbrev pub openLoggedOff : Op → Bool
+openLoggedOff o = eqb (numberOf o) (numberOf toLogin) || eqb (numberOf o) (numberOf toAcknowledge)

@@ -10,11 +10,11 @@ use Rattle.model.specs.Basics.Agree.{agrees-T, agrees-and, agrees-eq, ag
 use Rattle.model.specs.Basics.Fails.{Fails, fails-T, fails-agreed, fails-and, fails-as, fails-not, fails-where}
 use Rattle.model.specs.Request.Allowed.{Known, On, Open, Operand, Permitted}
 use Rattle.model.specs.Request.Asked.{asked, basisOf, operand}
-use Rattle.model.specs.Request.ConditionLaws.{open-agrees, permits-agrees}
 use Rattle.model.specs.Request.Ladder.{bars, fits, leadsNowhere, noAccess, notCleared, notLoggedOn, notSecure, notUnderstood}
 use Rattle.model.specs.Request.Ladder.{notWellFormed, ofOp, ownRung, permits, refused, someOperand, unknownUser, wrongKind}
 use Rattle.model.specs.Request.LadderLaws.{AllOperands, ofOp-agrees, ofOp-fails, positions-fail, someOperand-fails}
-use Rattle.model.specs.Request.Operations.{Op, numberOf, offDuty, opOf, rowOf}
+use Rattle.model.specs.Request.Operations.{Op, numberOf, opOf, openLoggedOff, rowOf}
+use Rattle.model.specs.Request.TestLaws.{open-agrees, permits-agrees}
 use Rattle.model.specs.Request.Words.{Request}
 use Rattle.model.specs.State.Agree.{wellFormed-agrees}
 use Rattle.model.specs.State.AgreeSecure.{secure-agrees}
@@ -56,8 +56,8 @@ module _ (d : Tables) (q : Request) where
     -- Rule 7.6: the requester is logged on, where the operation wants that.
     pub notLoggedOn-fails : Fails (notLoggedOn d q) (On o d (q .user))
     unfolding notLoggedOn
-    notLoggedOn-fails = ofOp-fails q o named (λ o. not (offDuty o) && eqb (devices d (q .user)) 0)
-        (fails-and (agrees-T (not (offDuty o))) (fails-agreed (agrees-eq (devices d (q .user)) 0)))
+    notLoggedOn-fails = ofOp-fails q o named (λ o. not (openLoggedOff o) && eqb (devices d (q .user)) 0)
+        (fails-and (agrees-T (not (openLoggedOff o))) (fails-agreed (agrees-eq (devices d (q .user)) 0)))
 
     -- Rule 7.7: each reference leads somewhere.
     pub leadsNowhere-fails : Fails (leadsNowhere d q) ((k : ℕ) → Operand o k → operand (asked d q) k ≢ 0)

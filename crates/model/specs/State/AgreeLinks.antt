@@ -5,8 +5,8 @@ use mathlib.Core.Path.{_∙_, _≡_, refl, subst, sym}
 use Prim.Native.Nat.{_<_, _≤_, suc, zero, ℕ}
 use native.Mathlib.Omega.{arith}
 use lib.Dec.{T, eqb, leb, ltb}
-use Rattle.model.specs.Basics.Agree.{Agrees, agrees-T, agreement, agrees-and, agrees-as, agrees-eq, agrees-every, agrees-imp, agrees-range}
-use Rattle.model.specs.Basics.Agree.{agrees-then}
+use Rattle.model.specs.Basics.Agree.{Agrees, agreement, agrees-T, agrees-and, agrees-as, agrees-eq, agrees-every, agrees-imp}
+use Rattle.model.specs.Basics.Agree.{agrees-range, agrees-then}
 use Rattle.model.specs.Basics.Choice.{Below, below, over, pick, under}
 use Rattle.model.specs.Basics.Tests.{every, imp}
 use Rattle.model.specs.State.Check.{aloneTest, contentsTest, deviceTest, idleTest, inTest, linksTest, loopTest, oneTest, parent}

@@ -9,8 +9,8 @@ use Rattle.model.specs.Basics.Agree.{Agrees, agreement, agrees-and, agre
 use Rattle.model.specs.Basics.Choice.{Below, below, over, under}
 use Rattle.model.specs.Basics.Tests.{imp}
 use Rattle.model.specs.Level.{levelCount, roleSets}
-use Rattle.model.specs.State.Tests.{accessTest, entityTest, filledTest, goodTest, nobodyTest, noneTest, noticeTest, packedTest}
-use Rattle.model.specs.State.Tests.{shapeTest, userTest}
+use Rattle.model.specs.State.Tests.{accessTest, entityTest, filledTest, nobodyTest, noneTest, noticeTest, packedTest, shapeTest}
+use Rattle.model.specs.State.Tests.{tripleTest, userTest}
 use Rattle.model.specs.State.WellFormed.{Access, EntityOk, Filled, GoodTriple, Notice, Shape, UserOk}
 use Rattle.model.specs.Tables.RowLaws.{first-zero}
 use Rattle.model.specs.Tables.Rows.{Packed, seek}
@@ -85,8 +85,8 @@ filled-agrees k n at sum ea es = agrees-as
     (agrees-and (packed-agrees at n ea) (search agreement depth 20))
 
 -- Rule 3.22.
-good-agrees : (t : ℕ) → Agrees (goodTest t) (GoodTriple t)
-unfolding goodTest
+good-agrees : (t : ℕ) → Agrees (tripleTest t) (GoodTriple t)
+unfolding tripleTest
 good-agrees t = agrees-as
     {P = ((1 ≤ whoOf t) × (whoOf t ≤ whoLimit)) × (((1 ≤ operationIn t) × (operationIn t ≤ operationCount)) × ((1 ≤ positionOf t) × (positionOf t ≤ positionCount)))}
     (λ z. search) (λ s. search) (search agreement depth 20)
@@ -98,7 +98,7 @@ access-agrees r out = agrees-as
     {P = Packed r (seek 0 r placeCount) × ((i : ℕ) → i < placeCount → i < seek 0 r placeCount → GoodTriple (r i))}
     (λ z. (seek 0 r placeCount, record { packed = z .0; good = λ i h. z .1 i (omega (arith, z .0 .room)) h }))
     (λ a. let e = first-zero r (a .0) (a .1 .packed) in (rw e (a .1 .packed), λ i h l. a .1 .good i (omega arith)))
-    (agrees-and (packed-agrees r (seek 0 r placeCount) out) (agrees-every placeCount (λ i. imp (ltb i (seek 0 r placeCount)) (goodTest (r i)))
+    (agrees-and (packed-agrees r (seek 0 r placeCount) out) (agrees-every placeCount (λ i. imp (ltb i (seek 0 r placeCount)) (tripleTest (r i)))
     (λ i. i < seek 0 r placeCount → GoodTriple (r i)) (λ i. agrees-imp (agrees-le (suc i) (seek 0 r placeCount)) (good-agrees (r i)))))
 
 pub record Eights (w : EntityWord → ℕ) : Type 0 where

@@ -14,8 +14,8 @@ use Rattle.model.specs.Tables.RowLaws.{append-member}
 use Rattle.model.specs.Tables.Rows.{Member, replace}
 use Rattle.model.specs.Tables.Words.{containerKind, deviceKind}
 
-abbrev pub at-e : {A : Type 0} → ℕ → A → (ℕ → A) → ℕ → A
-at-e e v f x = pick (eqb x e) v (f x)
+abbrev pub atRecord : {A : Type 0} → ℕ → A → (ℕ → A) → ℕ → A
+atRecord e v f x = pick (eqb x e) v (f x)
 
 module _ (k n : ℕ → ℕ) (at : ℕ → ℕ → ℕ) (dev : ℕ → ℕ) (l : Linked k n at dev) where
   -- every row keeps some of its places
@@ -86,14 +86,14 @@ module _ (k n : ℕ → ℕ) (at : ℕ → ℕ → ℕ) (dev : ℕ → ℕ) (l :
 
   -- a number that was absent gets a kind, with nothing in it
   module _ (e s : ℕ) (gone : k e ≡ 0) (none : n e ≡ 0) (thing : (1 ≤ s) × (s ≤ 2)) where
-    empty-in : (b c : ℕ) → In (at-e e s k) n at b c → In k n at b c
+    empty-in : (b c : ℕ) → In (atRecord e s k) n at b c → In k n at b c
     empty-in b c p = (
       case (λ (y : ℕ). y ≡ containerKind → k b ≡ containerKind) b e s (k b)
           (λ q z. absurd (omega (arith, p .1 .1, subst (λ (y : ℕ). n y ≡ 0) (sym q) none))) (λ q z. z) (p .0),
       p .1,
     )
 
-    pub appear : Linked (at-e e s k) n at dev
+    pub appear : Linked (atRecord e s k) n at dev
     appear = record {
       contents = λ x c h. case (λ (y : ℕ). (1 ≤ y) × (y ≤ 2)) c e s (k c) (λ q. thing) (λ q. l .contents x c h);
       oneContainer = λ c a b p q. l .oneContainer c a b (empty-in a c p) (empty-in b c q);
@@ -134,31 +134,31 @@ module _ (k n : ℕ → ℕ) (at : ℕ → ℕ → ℕ) (dev : ℕ → ℕ) (l :
     }
 
   -- a user who was off goes on to a free device
-  pub arrive : (u e : ℕ) → k 0 ≡ 0 → dev u ≡ 0 → k e ≡ deviceKind → ((v : ℕ) → dev v ≢ e) → Linked k n at (at-e u e dev)
+  pub arrive : (u e : ℕ) → k 0 ≡ 0 → dev u ≡ 0 → k e ≡ deviceKind → ((v : ℕ) → dev v ≢ e) → Linked k n at (atRecord u e dev)
   arrive u e nil gone h free = record {
     contents = l .contents;
     oneContainer = l .oneContainer;
     noLoop = l .noLoop;
     deviceIs = λ v. case (λ (y : ℕ). y ≢ 0 → k y ≡ deviceKind) v u e (dev v) (λ q z. h) (λ q z. l .deviceIs v z);
-    oneUser = λ v x. case (λ (y : ℕ). y ≢ 0 → y ≡ at-e u e dev x → v ≡ x) v u e (dev v)
+    oneUser = λ v x. case (λ (y : ℕ). y ≢ 0 → y ≡ atRecord u e dev x → v ≡ x) v u e (dev v)
         (λ q z. case (λ (y : ℕ). e ≡ y → v ≡ x) x u e (dev x) (λ r w. q ∙ sym r) (λ r w. absurd (free x (sym w))))
         (λ q z. case (λ (y : ℕ). dev v ≡ y → v ≡ x) x u e (dev x) (λ r w. absurd (free v w)) (λ r w. l .oneUser v x z w));
     idle = λ x hx z. l .idle x hx (λ v q. z v (case (λ (y : ℕ). y ≡ x) v u e (dev v) (λ r. absurd (omega (arith, ap k (sym q ∙ ap dev r ∙ gone)))) (λ r. q)));
   }
 
   -- a user leaves a device that shows nothing
-  pub depart : (u : ℕ) → n (dev u) ≡ 0 → Linked k n at (at-e u 0 dev)
+  pub depart : (u : ℕ) → n (dev u) ≡ 0 → Linked k n at (atRecord u 0 dev)
   depart u empty = record {
     contents = l .contents;
     oneContainer = l .oneContainer;
     noLoop = l .noLoop;
     deviceIs = λ v. case (λ (y : ℕ). y ≢ 0 → k y ≡ deviceKind) v u 0 (dev v) (λ q z. absurd (z refl)) (λ q z. l .deviceIs v z);
-    oneUser = λ v x. case (λ (y : ℕ). y ≢ 0 → y ≡ at-e u 0 dev x → v ≡ x) v u 0 (dev v)
+    oneUser = λ v x. case (λ (y : ℕ). y ≢ 0 → y ≡ atRecord u 0 dev x → v ≡ x) v u 0 (dev v)
         (λ q z. absurd (z refl))
         (λ q z. case (λ (y : ℕ). dev v ≡ y → v ≡ x) x u 0 (dev x) (λ r w. absurd (z w)) (λ r w. l .oneUser v x z w));
     idle = λ x hx z. last x hx z (eqb x (dev u)) (same x (dev u));
   }
     where
-      last : (x : ℕ) → k x ≡ deviceKind → ((v : ℕ) → at-e u 0 dev v ≢ x) → (b : Bool) → Same x (dev u) b → n x ≡ 0
+      last : (x : ℕ) → k x ≡ deviceKind → ((v : ℕ) → atRecord u 0 dev v ≢ x) → (b : Bool) → Same x (dev u) b → n x ≡ 0
       last x hx z true (it q) = ap n q ∙ empty
       last x hx z false (other q) = l .idle x hx (λ v w. z v (case (λ (y : ℕ). y ≡ x) v u 0 (dev v) (λ r. absurd (q (sym w ∙ ap dev r))) (λ r. w)))

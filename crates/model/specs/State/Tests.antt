@@ -31,13 +31,13 @@ filledTest k n at sum = packedTest at n && (imp (eqb k objectKind) (eqb n 0)
     && (imp (not (eqb k deviceKind)) (every placeCount (λ i. eqb (sum i) 0)) && every placeCount (λ i. imp (leb n i) (eqb (sum i) 0)))))
 
 -- Rule 3.22: what a triple may name.
-unfoldable pub goodTest : ℕ → Bool
-goodTest t = (leb 1 (whoOf t) && leb (whoOf t) whoLimit)
+unfoldable pub tripleTest : ℕ → Bool
+tripleTest t = (leb 1 (whoOf t) && leb (whoOf t) whoLimit)
     && ((leb 1 (operationIn t) && leb (operationIn t) operationCount) && (leb 1 (positionOf t) && leb (positionOf t) positionCount))
 
 -- Rule 3.5: the triples before the first zero.
 unfoldable pub accessTest : (ℕ → ℕ) → Bool
-accessTest r = packedTest r (seek 0 r placeCount) && every placeCount (λ i. imp (ltb i (seek 0 r placeCount)) (goodTest (r i)))
+accessTest r = packedTest r (seek 0 r placeCount) && every placeCount (λ i. imp (ltb i (seek 0 r placeCount)) (tripleTest (r i)))
 
 -- Rule 3.1: an absent entity's record.
 unfoldable pub noneTest : (EntityWord → ℕ) → Bool

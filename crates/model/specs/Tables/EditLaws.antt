@@ -6,7 +6,7 @@ use Prim.Native.Nat.{ℕ}
 use native.Mathlib.Omega.{arith}
 use lib.Dec.{T, eqb, eqb→eq}
 use Rattle.model.specs.Basics.Choice.{Same, it, other, pick, same}
-use Rattle.model.specs.Basics.Reading.{pick-same}
+use Rattle.model.specs.Basics.TestLaws.{pick-same}
 use Rattle.model.specs.Tables.Edits.{Edit, edited, written}
 use Rattle.model.specs.Tables.Rows.{Member}
 

@@ -11,7 +11,7 @@ use lib.ListN.{getD, length}
 use lib.Seq.{ext-getD}
 use Rattle.model.specs.Basics.Choice.{Below, below, over, pick, under}
 use Rattle.model.specs.Basics.Fails.{fails-le}
-use Rattle.model.specs.Basics.Reading.{pick-false, pick-true}
+use Rattle.model.specs.Basics.TestLaws.{pick-false, pick-true}
 use Rattle.model.specs.Tables.Layout.{Bounded, entitiesFrom, entityAt, entityIn, entityWidth, offset, tablesOf, userAt, userIn}
 use Rattle.model.specs.Tables.Layout.{userOffset, userWidth, wordCount}
 use Rattle.model.specs.Tables.RangeLaws.{entity-in, guard-in, guard-is, in-entity, in-user, user-in}

@@ -5,7 +5,7 @@ use mathlib.Core.Path.{_≡_}
 use Prim.Native.Nat.{ℕ}
 use lib.Dec.{T, eqb}
 use Rattle.model.specs.Basics.Agree.{agrees-T, agrees-and}
-use Rattle.model.specs.Basics.Reading.{is-false}
+use Rattle.model.specs.Basics.TestLaws.{is-false}
 use Rattle.model.specs.Request.Allowed.{Accepted, Known, On}
 use Rattle.model.specs.Request.Asked.{asked}
 use Rattle.model.specs.Request.Ladder.{answer, applies, fits, ladder, leadsNowhere, lengthFits, namesFit, noAccess, notCleared}
@@ -20,7 +20,7 @@ use Rattle.model.specs.State.Secure.{Good}
 use Rattle.model.specs.State.WellFormed.{WellFormed}
 use Rattle.model.specs.Tables.Layout.{Bounded}
 use Rattle.model.specs.Tables.Words.{Tables}
-use Rattle.model.specs.Theorem.Clear.{Clear, clear-allowed}
+use Rattle.model.specs.Theorem.NoRefusal.{NoRefusal, noRefusal-allowed}
 
 -- Rule 7.5: what fits has its arguments in their ranges.
 fits-ranges : (o : Op) (q : Request) → T (fits o q)
@@ -68,9 +68,9 @@ module _ (d : Tables) (q : Request) (e : answer d q ≡ 0) where
     own-clear : (n : ℕ) → ownRung n d q ≡ false → T (not (refused n (rowOf o .conditions) d (asked d q)))
     own-clear n h = ownRung-fails d q o named n .to (is-false (ownRung n d q) h)
 
-    all-clear : Clear o (asked d q) d
+    no-refusal : NoRefusal o (asked d q) d
     unfolding applies rungAt ladder asked
-    all-clear =
+    no-refusal =
         let r = fits-ranges o q t in
         record {
           a = r .0;
@@ -98,7 +98,7 @@ module _ (d : Tables) (q : Request) (e : answer d q ≡ 0) where
       on = logged-on;
       permitted = noAccess-fails d q o named .to (is-false (noAccess d q) (no 8));
       cleared = notCleared-fails d q o named .to (is-false (notCleared d q) (no 9));
-      allowed = clear-allowed d w (asked d q) o all-clear;
+      allowed = noRefusal-allowed d w (asked d q) o no-refusal;
     }
 
   -- Every condition that an effect relies on.

@@ -14,8 +14,8 @@ use Rattle.model.specs.Request.Words.{Request}
 use Rattle.model.specs.State.Secure.{Good}
 use Rattle.model.specs.Tables.Layout.{Bounded}
 use Rattle.model.specs.Tables.Words.{EntityWord, Tables, UserWord, absentKind, authorised, clearance, counts, current, deviceKind}
-use Rattle.model.specs.Tables.Words.{devices, draftType, held, idBit, kinds, maximum, missed, places, releasedType, releaser}
-use Rattle.model.specs.Tables.Words.{sums, type, userTag}
+use Rattle.model.specs.Tables.Words.{devices, draftType, held, idBit, kinds, maximum, missed, places, releasedType, releaser, sums}
+use Rattle.model.specs.Tables.Words.{type, userTag}
 
 -- present before and after
 abbrev pub Both : Tables → Tables → ℕ → Type 0

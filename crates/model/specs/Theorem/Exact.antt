@@ -16,14 +16,14 @@ use Rattle.model.specs.State.Agree.{wellFormed-bounded}
 use Rattle.model.specs.State.Secure.{Good}
 use Rattle.model.specs.Tables.Words.{Tables}
 use Rattle.model.specs.Theorem.Acceptance.{accepted}
-use Rattle.model.specs.Theorem.AllowedClear.{allowed-clear}
+use Rattle.model.specs.Theorem.Unrefused.{allowed-unrefused}
 
 -- What is accepted has the answer 0: no rung of the ladder applies (rules 7.2 to 7.16).
 pub accepted-answer : (d : Tables) → Good d → (q : Request) (o : Op) → Accepted o d q → answer d q ≡ 0
 unfolding answer ladder
 accepted-answer d g q o h =
     let n = h .meant .named in
-    let u = allowed-clear o d (g .0) (asked d q) (h .allowed) in
+    let u = allowed-unrefused o d (g .0) (asked d q) (h .allowed) in
     let no2 = notWellFormed-fails d q (wellFormed-bounded d (g .0)) .from (g .0) in
     let no3 = notSecure-fails d q (g .0) .from (g .1) in
     let no4 = unknownUser-fails d q .from (h .meant .known) in

@@ -12,7 +12,8 @@ use Rattle.model.specs.Request.Operations.{toDelete, toDeviceLevel, toEd
 use Rattle.model.specs.Request.Operations.{toMove, toRelease, toRevoke, toShow}
 use Rattle.model.specs.State.WellFormed.{WellFormed}
 use Rattle.model.specs.Tables.EditLaws.{case}
-use Rattle.model.specs.Tables.Words.{Tables, deviceKind, held, heldOp, kinds, missed, present}
+use Rattle.model.specs.Tables.Words.{Tables, deviceKind, kinds, present}
+use Rattle.model.specs.Theorem.Statements.{SameNotice}
 
 -- Every user that was there is there, and no other (rule 8.4).
 pub users-fixed : (o : Op) (d : Tables) → WellFormed d → (s : Asked) → Allowed o s d → (u : ℕ)
@@ -65,10 +66,6 @@ devices-fixed toMaximum d w s a x = Iff·rfl
 devices-fixed toDeviceLevel d w s a x = Iff·rfl
 devices-fixed toRelease d w s a x = Iff·rfl
 devices-fixed toAcknowledge d w s a x = Iff·rfl
-
--- the notice of user u is the same in both tables
-abbrev pub SameNotice : Tables → Tables → ℕ → Type 0
-SameNotice d d′ u = (d′ .user u held ≡ d .user u held) × (d′ .user u heldOp ≡ d .user u heldOp) × (d′ .user u missed ≡ d .user u missed)
 
 -- Rule 8.3: every operation but acknowledge leaves the notice of every user.
 pub notices-left : (o : Op) (d : Tables) → WellFormed d → (s : Asked) → Allowed o s d → o ≢ toAcknowledge → (u : ℕ)

@@ -16,7 +16,7 @@ use Rattle.model.specs.Tables.RowLaws.{without-none}
 use Rattle.model.specs.Tables.Rows.{left, without}
 use Rattle.model.specs.Tables.Words.{EntityWord, Tables, containerKind, count, counts, kind, kinds, level, mark, maximum, place}
 use Rattle.model.specs.Tables.Words.{places, releaser, shown, sums, triple, triples, type, value}
-use Rattle.model.specs.Theorem.MayChange.{Frame, contentWord, holder, oneWord}
+use Rattle.model.specs.Theorem.MayChange.{Frame, contentWord, holder, wordOrRow}
 use Rattle.model.specs.Theorem.Untouched.{TouchesOnly, both-only, entity-left, row-only, word-left, word-only}
 
 -- where not one of two tests holds, neither does
@@ -80,7 +80,7 @@ put-left d c e none x f t = word-left (λ y. eqb y c) (λ y. putting c e 0 d) (d
 
 -- the words that create gives a new record
 abbrev newWord : EntityWord → Bool
-newWord f = oneWord kind f || (oneWord type f || (oneWord level f || oneWord (triple 0) f))
+newWord f = wordOrRow kind f || (wordOrRow type f || (wordOrRow level f || wordOrRow (triple 0) f))
 
 module _ (d : Tables) (w : WellFormed d) (s : Asked) where
   -- a container shows nothing

@@ -8,11 +8,7 @@ use Rattle.model.specs.State.Secure.{Good}
 use Rattle.model.specs.Tables.Words.{Tables}
 use Rattle.model.specs.Theorem.Definitions.{History}
 use Rattle.model.specs.Theorem.Kept.{request-good}
-
--- the tables after a list of requests
-unfoldable pub afterAll : Tables → List Request → Tables
-afterAll d [] = d
-afterAll d (q ∷ qs) = afterAll (after d q) qs
+use Rattle.model.specs.Theorem.Statements.{afterAll}
 
 pub history-good : (d : Tables) → Good d → (qs : List Request) → Good (afterAll d qs)
 unfolding afterAll

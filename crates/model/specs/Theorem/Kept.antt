@@ -1,12 +1,8 @@
 -- Every request, accepted, refused or not understood, takes well-formed, secure tables to well-formed, secure tables.
-use mathlib.Core.Bool.{Bool, false, true}
 use mathlib.Core.Logic.{_≢_}
-use mathlib.Core.Option.{Option, none, some}
-use mathlib.Core.Path.{_≡_, refl, subst, sym}
-use Prim.Native.Nat.{_<_, _≤_, ℕ}
+use mathlib.Core.Path.{_≡_, refl}
+use Prim.Native.Nat.{_≤_}
 use native.Mathlib.Omega.{arith}
-use lib.Dec.{T, eqb, ltb, lt→ltb}
-use Rattle.model.specs.Basics.Choice.{Below, Same, below, it, other, over, same, under}
 use Rattle.model.specs.Effect.Notice.{notice}
 use Rattle.model.specs.Effect.NoticeLaws.{notice-secure, notice-wellFormed}
 use Rattle.model.specs.Effect.Places.{sortKind, sortType, vacant}
@@ -14,26 +10,25 @@ use Rattle.model.specs.Effect.PlacesLaws.{create-secure, create-wellForm
 use Rattle.model.specs.Effect.PlacesLaws.{move-wellFormed, sort-kind, sort-type, vacant-absent}
 use Rattle.model.specs.Effect.ScreensLaws.{clear-secure, clear-wellFormed, login-secure, login-wellFormed, logout-secure}
 use Rattle.model.specs.Effect.ScreensLaws.{logout-wellFormed}
-use Rattle.model.specs.Effect.ShowLaws.{show-both}
+use Rattle.model.specs.Effect.ShowLaws.{show-good}
 use Rattle.model.specs.Effect.TriplesLaws.{grant-secure, grant-wellFormed, revoke-secure, revoke-wellFormed}
 use Rattle.model.specs.Effect.WordsLaws.{acknowledge-secure, acknowledge-wellFormed, authorised-secure, authorised-wellFormed}
 use Rattle.model.specs.Effect.WordsLaws.{clearance-wellFormed, current-secure, current-wellFormed, edit-secure, edit-wellFormed}
 use Rattle.model.specs.Effect.WordsLaws.{level-wellFormed, mark-secure, mark-wellFormed, maximum-secure, maximum-wellFormed}
 use Rattle.model.specs.Effect.WordsLaws.{release-secure, release-wellFormed}
-use Rattle.model.specs.Request.After.{after, effect, leaves, noticedOp}
+use Rattle.model.specs.Request.After.{after, effect, noticedOp}
+use Rattle.model.specs.Request.AfterLaws.{after-each, effect-by, noticedOp-range}
 use Rattle.model.specs.Request.Allowed.{Allowed, MayCreate}
 use Rattle.model.specs.Request.Asked.{Asked, asked, namedTriple, own}
 use Rattle.model.specs.Request.Ladder.{answer}
 use Rattle.model.specs.Request.LadderLaws.{answer-is, answer-range}
-use Rattle.model.specs.Request.OperationLaws.{number-range}
-use Rattle.model.specs.Request.Operations.{Op, numberOf, opOf, rowOf, toAcknowledge, toAuthorised, toClear, toClearance, toCopy}
-use Rattle.model.specs.Request.Operations.{toCreate, toCurrent, toDelete, toDeviceLevel, toEdit, toGrant, toLevel, toLogin, toLogout}
-use Rattle.model.specs.Request.Operations.{toMark, toMaximum, toMove, toRelease, toRevoke, toShow}
+use Rattle.model.specs.Request.Operations.{Op, rowOf, toAcknowledge, toAuthorised, toClear, toClearance, toCopy, toCreate, toCurrent}
+use Rattle.model.specs.Request.Operations.{toDelete, toDeviceLevel, toEdit, toGrant, toLevel, toLogin, toLogout, toMark, toMaximum}
+use Rattle.model.specs.Request.Operations.{toMove, toRelease, toRevoke, toShow}
 use Rattle.model.specs.Request.Words.{Request}
 use Rattle.model.specs.State.Secure.{Good, Secure}
 use Rattle.model.specs.State.WellFormed.{WellFormed}
-use Rattle.model.specs.Tables.Words.{Tables, deviceKind, firstNoticed, kinds, operationCount}
-use Rattle.model.specs.Tables.Words.{present, value}
+use Rattle.model.specs.Tables.Words.{Tables, deviceKind, firstNoticed, kinds, present, value}
 use Rattle.model.specs.Theorem.Acceptance.{accepted, requester-known}
 
 -- Each operation's effect keeps them.
@@ -68,7 +63,7 @@ module _ (d : Tables) (w : WellFormed d) (g : Secure d) (s : Asked) (p : d .user
   effect-good toRevoke h =
       (revoke-wellFormed d w g (s .first) (namedTriple s) (h .here) (h .good), revoke-secure d w g (s .first) (namedTriple s) (h .here) (h .good))
   effect-good toShow h =
-      show-both d w g (s .user) (own d s) (s .first) (s .a) refl (on-screen (h .on)) (h .thing) (h .sum) (h .label) (h .low) (h .clear) (h .room)
+      show-good d w g (s .user) (own d s) (s .first) (s .a) refl (on-screen (h .on)) (h .thing) (h .sum) (h .label) (h .low) (h .clear) (h .room)
   effect-good toClear h = (clear-wellFormed d w (own d s) (omega (arith, on-screen h)), clear-secure d w (own d s) g)
   effect-good toLogin h =
       (login-wellFormed d w g (s .user) (s .first) p (h .off) (h .screen) (h .free), login-secure d w g (s .user) (s .first) p (h .screen) (h .free))
@@ -82,57 +77,6 @@ module _ (d : Tables) (w : WellFormed d) (g : Secure d) (s : Asked) (p : d .user
   effect-good toRelease h =
       (release-wellFormed d w (s .user) (s .first) (h .box) (w .userNumbers (s .user) p), release-secure d g (s .user) (s .first))
   effect-good toAcknowledge h = (acknowledge-wellFormed d w (s .user) p, acknowledge-secure d g (s .user))
-
--- The operation that a notice keeps is 0 to 20.
-noticedOp-range : (q : Request) → noticedOp q ≤ operationCount
-unfolding noticedOp
-noticedOp-range q = go (opOf (q .operation))
-  where
-    go : (m : Option Op) → elim m [ none ↦ 0 | some o ↦ numberOf o ] ≤ operationCount
-    go none = omega arith
-    go (some o) = number-range o .1
-
-module _ (d : Tables) (q : Request) where
-  -- What an answer leaves, by its number.
-  pub after-accepted : answer d q ≡ 0 → after d q ≡ effect d q
-  unfolding after leaves
-  after-accepted e = subst (λ (n : ℕ). leaves n d q ≡ effect d q) (sym e) refl
-
-  pub after-unchanged : (n : ℕ) → answer d q ≡ n → 1 ≤ n → n < firstNoticed → after d q ≡ d
-  unfolding after leaves
-  after-unchanged n e l h = subst (λ (m : ℕ). leaves m d q ≡ d) (sym e) (go (eqb n 0) (ltb n firstNoticed) (same n 0) (lt→ltb n firstNoticed h))
-    where
-      go : (a b : Bool) → Same n 0 a → T b
-          → elim a [ true ↦ effect d q | false ↦ elim b [ true ↦ d | false ↦ notice (q .user) n (noticedOp q) d ] ] ≡ d
-      go true b (it z) t = absurd (omega arith)
-      go false true z t = refl
-      go false false z t = absurd t
-
-  pub after-noticed : (n : ℕ) → answer d q ≡ n → firstNoticed ≤ n → after d q ≡ notice (q .user) n (noticedOp q) d
-  unfolding after leaves
-  after-noticed n e h =
-      subst (λ (m : ℕ). leaves m d q ≡ notice (q .user) n (noticedOp q) d) (sym e) (go (eqb n 0) (ltb n firstNoticed) (same n 0) (below n firstNoticed))
-    where
-      go : (a b : Bool) → Same n 0 a → Below n firstNoticed b
-          → elim a [ true ↦ effect d q | false ↦ elim b [ true ↦ d | false ↦ notice (q .user) n (noticedOp q) d ] ] ≡ notice (q .user) n (noticedOp q) d
-      go true b (it z) t = absurd (omega arith)
-      go false true z (under t) = absurd (omega arith)
-      go false false z t = refl
-
-  -- The effect of a request by the operation o.
-  pub effect-by : (o : Op) → opOf (q .operation) ≡ some o → effect d q ≡ rowOf o .effect (asked d q) d
-  unfolding effect
-  effect-by o e = subst (λ (m : Option Op). elim m [ none ↦ d | some o ↦ rowOf o .effect (asked d q) d ] ≡ rowOf o .effect (asked d q) d) (sym e) refl
-
--- What holds of whatever each answer leaves holds of what the request leaves.
-pub after-each : (d : Tables) (q : Request) (P : Tables → Type 0) → (answer d q ≡ 0 → P (effect d q)) → (1 ≤ answer d q → answer d q < firstNoticed → P d)
-    → (firstNoticed ≤ answer d q → P (notice (q .user) (answer d q) (noticedOp q) d)) → P (after d q)
-after-each d q P f g h = go (eqb (answer d q) 0) (ltb (answer d q) firstNoticed) (same (answer d q) 0) (below (answer d q) firstNoticed)
-  where
-    go : (a b : Bool) → Same (answer d q) 0 a → Below (answer d q) firstNoticed b → P (after d q)
-    go true b (it z) l = subst P (sym (after-accepted d q z)) (f z)
-    go false true (other z) (under l) = subst P (sym (after-unchanged d q (answer d q) refl (omega arith) l)) (g (omega arith) l)
-    go false false (other z) (over l) = subst P (sym (after-noticed d q (answer d q) refl l)) (h l)
 
 -- The theorem: for any request at all.
 pub request-good : (d : Tables) → Good d → (q : Request) → Good (after d q)

@@ -19,9 +19,10 @@ use Rattle.model.specs.State.WellFormed.{WellFormed}
 use Rattle.model.specs.Tables.EditLaws.{case}
 use Rattle.model.specs.Tables.Words.{Tables, absentKind, containerKind, devices, kinds, maximum, releasedType, releaser, type}
 use Rattle.model.specs.Theorem.Definitions.{Both, Flows, NamedOpenly, Obeys, ReleaseSecure, Released, ShowsId, TranslationSecure}
-use Rattle.model.specs.Theorem.LawfulSame.{Changes, Ids, downgrade-one, downgrade-same, erased, ids-same, release-same, sames}
-use Rattle.model.specs.Theorem.LawfulSame.{set-current, set-officer, set-same, unborn}
+use Rattle.model.specs.Theorem.LawfulSame.{Changes, downgrade-one, downgrade-same, erased, ids-same, release-same, sames, set-current}
+use Rattle.model.specs.Theorem.LawfulSame.{set-officer, set-same, unborn}
 use Rattle.model.specs.Theorem.LawfulShow.{clear-ids, erase-ids, fresh-ids, leave-ids, put-ids, show-ids, show-named}
+use Rattle.model.specs.Theorem.Statements.{Ids}
 
 -- The flows of rule 9.6 go upward in every operation that is allowed: copy and show are the only ones that have any.
 pub flows-upward : (o : Op) (s : Asked) (d d′ : Tables) → Allowed o s d → Flows o s d d′

@@ -13,15 +13,12 @@ use Rattle.model.specs.Request.Conditions.{levelOf}
 use Rattle.model.specs.Request.Words.{Request}
 use Rattle.model.specs.Tables.EditLaws.{case, elsewhere}
 use Rattle.model.specs.Tables.Words.{Tables, absentKind, authorised, clearance, current, devices, kinds, maximum, releaser, type}
-use Rattle.model.specs.Theorem.Definitions.{Both, DowngradeSecure, NamedOpenly, ReleaseSecure, SetSecure, ShowsId}
+use Rattle.model.specs.Theorem.Definitions.{Both, DowngradeSecure, ReleaseSecure, SetSecure, ShowsId}
+use Rattle.model.specs.Theorem.Statements.{Ids}
 
 -- two columns agree on every entity that is present before and after
 abbrev pub AsWas : Tables → Tables → (ℕ → ℕ) → (ℕ → ℕ) → Type 0
 AsWas d d′ f g = (x : ℕ) → Both d d′ x → f x ≡ g x
-
--- Rule 9.8 of every device: an ID newly shown, on whatever device, is on the requester's, and is one that the request names openly.
-abbrev pub Ids : Tables → Request → Tables → Type 0
-Ids d q d′ = (v x : ℕ) → Both d d′ x → ShowsId d′ v x → ShowsId d v x ⊎ ((v ≡ devices d (q .user)) × NamedOpenly d q x)
 
 -- Rules 9.8 to 9.11, by what has changed; rule 9.8 of every device.
 pub record Changes (d : Tables) (q : Request) (d′ : Tables) : Type 0 where

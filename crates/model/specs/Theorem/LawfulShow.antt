@@ -19,7 +19,7 @@ use Rattle.model.specs.Tables.RowLaws.{sought}
 use Rattle.model.specs.Tables.Rows.{Sought, left, replace, without}
 use Rattle.model.specs.Tables.Words.{Tables, containerKind, counts, deviceKind, devices, idBit, kinds, places, sums}
 use Rattle.model.specs.Theorem.Definitions.{NamedOpenly, ShowsId}
-use Rattle.model.specs.Theorem.LawfulSame.{Ids}
+use Rattle.model.specs.Theorem.Statements.{Ids}
 
 -- a used place whose sum has the ID, in a row of n places
 abbrev pub Shown : ℕ → (ℕ → ℕ) → (ℕ → ℕ) → ℕ → Type 0

@@ -24,11 +24,11 @@ contentWord f = eqb (tag f) (tag count) || eqb (tag f) (tag (place 0))
 abbrev pub screenWord : EntityWord → Bool
 screenWord f = contentWord f || eqb (tag f) (tag (shown 0))
 
-abbrev pub oneWord : EntityWord → EntityWord → Bool
-oneWord g f = eqb (tag f) (tag g)
+abbrev pub wordOrRow : EntityWord → EntityWord → Bool
+wordOrRow g f = eqb (tag f) (tag g)
 
-abbrev pub oneUserWord : UserWord → UserWord → Bool
-oneUserWord g f = eqb (userTag f) (userTag g)
+abbrev pub userWordIs : UserWord → UserWord → Bool
+userWordIs g f = eqb (userTag f) (userTag g)
 
 -- word f of user x
 abbrev pub userMay : Op → Asked → Tables → ℕ → UserWord → Bool
@@ -43,28 +43,28 @@ userMay toGrant s d x f = false
 userMay toRevoke s d x f = false
 userMay toShow s d x f = false
 userMay toClear s d x f = false
-userMay toLogin s d x f = eqb x (s .user) && oneUserWord device f
-userMay toLogout s d x f = eqb x (s .user) && (oneUserWord device f || oneUserWord current f)
-userMay toCurrent s d x f = eqb x (s .a) && oneUserWord current f
-userMay toClearance s d x f = eqb x (s .a) && oneUserWord clearance f
-userMay toAuthorised s d x f = eqb x (s .a) && oneUserWord authorised f
+userMay toLogin s d x f = eqb x (s .user) && userWordIs device f
+userMay toLogout s d x f = eqb x (s .user) && (userWordIs device f || userWordIs current f)
+userMay toCurrent s d x f = eqb x (s .a) && userWordIs current f
+userMay toClearance s d x f = eqb x (s .a) && userWordIs clearance f
+userMay toAuthorised s d x f = eqb x (s .a) && userWordIs authorised f
 userMay toMaximum s d x f = false
 userMay toDeviceLevel s d x f = false
 userMay toRelease s d x f = false
-userMay toAcknowledge s d x f = eqb x (s .user) && (oneUserWord held f || (oneUserWord heldOp f || oneUserWord missed f))
+userMay toAcknowledge s d x f = eqb x (s .user) && (userWordIs held f || (userWordIs heldOp f || userWordIs missed f))
 
 -- word f of entity x
 abbrev pub entityMay : Op → Asked → Tables → ℕ → EntityWord → Bool
 entityMay toCreate s d x f =
-    (eqb x (vacant d) && (oneWord kind f || (oneWord type f || (oneWord level f || oneWord (triple 0) f)))) || (eqb x (s .first) && contentWord f)
+    (eqb x (vacant d) && (wordOrRow kind f || (wordOrRow type f || (wordOrRow level f || wordOrRow (triple 0) f)))) || (eqb x (s .first) && contentWord f)
 entityMay toDelete s d x f = eqb x (s .first) || (holder d (s .first) x && contentWord f)
 entityMay toMove s d x f = (eqb x (s .second) || holder d (s .first) x) && contentWord f
-entityMay toEdit s d x f = eqb x (s .first) && oneWord value f
-entityMay toCopy s d x f = eqb x (s .second) && oneWord value f
-entityMay toLevel s d x f = eqb x (s .first) && oneWord level f
-entityMay toMark s d x f = eqb x (s .first) && oneWord mark f
-entityMay toGrant s d x f = eqb x (s .first) && oneWord (triple 0) f
-entityMay toRevoke s d x f = eqb x (s .first) && oneWord (triple 0) f
+entityMay toEdit s d x f = eqb x (s .first) && wordOrRow value f
+entityMay toCopy s d x f = eqb x (s .second) && wordOrRow value f
+entityMay toLevel s d x f = eqb x (s .first) && wordOrRow level f
+entityMay toMark s d x f = eqb x (s .first) && wordOrRow mark f
+entityMay toGrant s d x f = eqb x (s .first) && wordOrRow (triple 0) f
+entityMay toRevoke s d x f = eqb x (s .first) && wordOrRow (triple 0) f
 entityMay toShow s d x f = eqb x (own d s) && screenWord f
 entityMay toClear s d x f = eqb x (own d s) && screenWord f
 entityMay toLogin s d x f = false
@@ -72,9 +72,9 @@ entityMay toLogout s d x f = eqb x (own d s) && screenWord f
 entityMay toCurrent s d x f = false
 entityMay toClearance s d x f = false
 entityMay toAuthorised s d x f = false
-entityMay toMaximum s d x f = eqb x (s .first) && oneWord maximum f
-entityMay toDeviceLevel s d x f = eqb x (s .first) && oneWord level f
-entityMay toRelease s d x f = eqb x (s .first) && (oneWord type f || oneWord releaser f)
+entityMay toMaximum s d x f = eqb x (s .first) && wordOrRow maximum f
+entityMay toDeviceLevel s d x f = eqb x (s .first) && wordOrRow level f
+entityMay toRelease s d x f = eqb x (s .first) && (wordOrRow type f || wordOrRow releaser f)
 entityMay toAcknowledge s d x f = false
 
 -- Every word outside is as before.

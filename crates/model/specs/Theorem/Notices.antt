@@ -10,6 +10,7 @@ use Rattle.model.specs.Basics.Choice.{Below, Same, below, it, other, pic
 use Rattle.model.specs.Effect.Notice.{countOn, keepFirst, notice}
 use Rattle.model.specs.Effect.Words.{acknowledge}
 use Rattle.model.specs.Request.After.{after, effect, noticedOp}
+use Rattle.model.specs.Request.AfterLaws.{after-accepted, after-each, effect-by}
 use Rattle.model.specs.Request.Allowed.{Allowed}
 use Rattle.model.specs.Request.Asked.{asked}
 use Rattle.model.specs.Request.Ladder.{answer}
@@ -20,8 +21,8 @@ use Rattle.model.specs.State.WellFormed.{WellFormed}
 use Rattle.model.specs.Tables.EditLaws.{elsewhere}
 use Rattle.model.specs.Tables.Words.{Tables, firstNoticed, held, heldOp, missed, missedLimit}
 use Rattle.model.specs.Theorem.Acceptance.{accepted}
-use Rattle.model.specs.Theorem.Fixed.{SameNotice, notices-left}
-use Rattle.model.specs.Theorem.Kept.{after-accepted, after-each, effect-by}
+use Rattle.model.specs.Theorem.Fixed.{notices-left}
+use Rattle.model.specs.Theorem.Statements.{SameNotice, StillHeld}
 
 -- A refusal that is held stays held through every notice.
 notice-keeps : (d : Tables) (u r o x : ℕ) → d .user x held ≢ 0
@@ -71,12 +72,6 @@ accepted-notices d w q e x n =
             let k = number-injective o toAcknowledge z in
             subst (λ (p : Op). SameNotice d (rowOf p .effect (asked d q) d) x) (sym k) (acknowledge-other d (q .user) x (n (m ∙ ap some k)))
         go false (other z) = notices-left o d w (asked d q) h (λ k. z (ap numberOf k)) x
-
--- Rule 8.2: what is held stays held, with its operation, and the count does not fall, until its user's acknowledgement is accepted.
-pub record StillHeld (d d′ : Tables) (x : ℕ) : Type 0 where
-  pub refusal : d′ .user x held ≡ d .user x held
-  pub operation : d′ .user x heldOp ≡ d .user x heldOp
-  pub count : d .user x missed ≤ d′ .user x missed
 
 pub held-kept : (d : Tables) → WellFormed d → (q : Request) (x : ℕ) → d .user x held ≢ 0
     → (answer d q ≡ 0 → opOf (q .operation) ≡ some toAcknowledge → x ≢ q .user) → StillHeld d (after d q) x

@@ -3,6 +3,7 @@ use mathlib.Core.Path.{_≡_}
 use Prim.Native.Nat.{ℕ}
 use Rattle.model.specs.Effect.Notice.{notice}
 use Rattle.model.specs.Request.After.{after, effect, noticedOp}
+use Rattle.model.specs.Request.AfterLaws.{after-each, effect-by}
 use Rattle.model.specs.Request.Ladder.{answer}
 use Rattle.model.specs.Request.Words.{Request}
 use Rattle.model.specs.State.Secure.{Good}
@@ -11,7 +12,6 @@ use Rattle.model.specs.Tables.Words.{Tables}
 use Rattle.model.specs.Theorem.Acceptance.{accepted, accepted-good}
 use Rattle.model.specs.Theorem.Definitions.{History, HistorySecure, Obeys, SystemSecure, TransformSecure}
 use Rattle.model.specs.Theorem.Histories.{states-good}
-use Rattle.model.specs.Theorem.Kept.{after-each, effect-by}
 use Rattle.model.specs.Theorem.Lawful.{lawful}
 use Rattle.model.specs.Theorem.LawfulNotice.{notice-quiet, quiet-obeys, same-quiet}
 

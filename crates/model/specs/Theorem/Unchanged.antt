@@ -3,11 +3,11 @@ use mathlib.Core.Path.{_≡_, refl}
 use Prim.Native.Nat.{_<_, _≤_}
 use Rattle.model.specs.Effect.Notice.{notice}
 use Rattle.model.specs.Request.After.{after, noticedOp}
+use Rattle.model.specs.Request.AfterLaws.{after-noticed, after-unchanged}
 use Rattle.model.specs.Request.Ladder.{answer}
 use Rattle.model.specs.Request.Words.{Request}
 use Rattle.model.specs.Tables.Words.{Tables, firstNoticed}
 use Rattle.model.specs.Theorem.Definitions.{Quiet}
-use Rattle.model.specs.Theorem.Kept.{after-noticed, after-unchanged}
 use Rattle.model.specs.Theorem.LawfulNotice.{notice-quiet}
 
 module _ (d : Tables) (q : Request) where

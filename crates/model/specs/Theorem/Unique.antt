@@ -3,14 +3,14 @@ use mathlib.Core.Bool.{Bool, false, true}
 use mathlib.Core.List.{List}
 use mathlib.Core.Path.{_∙_, _≡_, ap, refl, sym}
 use Prim.Native.Nat.{ℕ}
-use Rattle.model.specs.Basics.Reading.{is-false, is-true}
+use Rattle.model.specs.Basics.TestLaws.{is-false, is-true}
 use Rattle.model.specs.Request.After.{after, leaves}
 use Rattle.model.specs.Request.LadderLaws.{answer-is, answer-unique}
 use Rattle.model.specs.Request.Step.{Settles, afterOf, answerOf, sized}
 use Rattle.model.specs.Request.Words.{requestOf}
 use Rattle.model.specs.Tables.Layout.{tablesOf}
 use Rattle.model.specs.Tables.WordsOfLaws.{tablesOf-injective}
-use Rattle.model.specs.Theorem.Words.{afterOf-length, afterOf-tables, answerOf-sized, sized-agrees, unsized}
+use Rattle.model.specs.Theorem.Steps.{afterOf-length, afterOf-tables, answerOf-sized, sized-agrees, unsized}
 
 -- Ours is one.
 pub settles : (t q : List ℕ) → Settles t q (answerOf t q) (afterOf t q)

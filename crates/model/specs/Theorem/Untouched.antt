@@ -4,10 +4,10 @@ use mathlib.Core.Path.{_≡_, refl}
 use Prim.Native.Nat.{ℕ}
 use lib.Dec.{T, eqb}
 use Rattle.model.specs.Basics.Choice.{pick}
-use Rattle.model.specs.Basics.Reading.{and-l}
+use Rattle.model.specs.Basics.TestLaws.{and-l}
 use Rattle.model.specs.Tables.Edits.{Edit, _and_, edited, onEntity, onUser, row, userWord, word, written}
 use Rattle.model.specs.Tables.Words.{EntityWord, Tables, UserWord, index, tag, userIndex, userTag}
-use Rattle.model.specs.Theorem.MayChange.{oneUserWord, oneWord}
+use Rattle.model.specs.Theorem.MayChange.{userWordIs, wordOrRow}
 
 -- A word is as it was after an edit, if it is as it was in case its record is one of those edited.
 pub word-left : {W : Type 0} (test : ℕ → Bool) (E : ℕ → Edit W) (r : ℕ → W → ℕ) (x : ℕ) (f : W) → (T (test x) → written (E x) (r x) f ≡ r x f)
@@ -25,15 +25,15 @@ pub record TouchesOnly {W : Type 0} (E : Edit W) (words : W → Bool) : Type 0 w
   pub only : (f : W) → T (E .touched f) → T (words f)
 
 -- One word of an entity is all that an edit of that word touches.
-pub word-only : (g : EntityWord) {v : ℕ} → TouchesOnly (word g v) (oneWord g)
+pub word-only : (g : EntityWord) {v : ℕ} → TouchesOnly (word g v) (wordOrRow g)
 word-only g = record { only = λ f. and-l (eqb (tag f) (tag g)) (eqb (index f) (index g)) }
 
 -- A row of an entity is all that an edit of that row touches.
-pub row-only : (g : ℕ → EntityWord) (r : ℕ → ℕ) → TouchesOnly (row g r) (oneWord (g 0))
+pub row-only : (g : ℕ → EntityWord) (r : ℕ → ℕ) → TouchesOnly (row g r) (wordOrRow (g 0))
 row-only g r = record { only = λ f t. t }
 
 -- One word of a user is all that an edit of that word touches.
-pub user-word-only : (g : UserWord) {v : ℕ} → TouchesOnly (userWord g v) (oneUserWord g)
+pub user-word-only : (g : UserWord) {v : ℕ} → TouchesOnly (userWord g v) (userWordIs g)
 user-word-only g = record { only = λ f. and-l (eqb (userTag f) (userTag g)) (eqb (userIndex f) (userIndex g)) }
 
 -- Two edits together touch what the one touches and what the other touches.

@@ -7,9 +7,10 @@ use native.Mathlib.Omega.{arith}
 use lib.Dec.{T, eqb→eq}
 use lib.ListN.{length}
 use Rattle.model.specs.Basics.Agree.{Agrees, agrees-and, agrees-eq}
-use Rattle.model.specs.Basics.Choice.{below, pick}
-use Rattle.model.specs.Basics.Reading.{is-false, is-true, pick-false, pick-true}
+use Rattle.model.specs.Basics.Choice.{pick}
+use Rattle.model.specs.Basics.TestLaws.{is-false, is-true, pick-false, pick-true}
 use Rattle.model.specs.Request.After.{after}
+use Rattle.model.specs.Request.AfterLaws.{after-accepted, after-each, after-noticed}
 use Rattle.model.specs.Request.Allowed.{Accepted}
 use Rattle.model.specs.Request.Ladder.{answer}
 use Rattle.model.specs.Request.LadderLaws.{answer-is}
@@ -27,7 +28,8 @@ use Rattle.model.specs.Tables.WordsOf.{wordsOf}
 use Rattle.model.specs.Tables.WordsOfLaws.{tablesOf-injective, tablesOf-wordsOf, wordsOf-length, wordsOf-tablesOf}
 use Rattle.model.specs.Theorem.Acceptance.{accepted, accepted-good, judged}
 use Rattle.model.specs.Theorem.Definitions.{Obeys}
-use Rattle.model.specs.Theorem.Kept.{after-accepted, after-each, after-noticed, request-good}
+use Rattle.model.specs.Theorem.Kept.{request-good}
+use Rattle.model.specs.Theorem.Statements.{afterWords}
 use Rattle.model.specs.Theorem.System.{request-obeys}
 use Rattle.model.specs.Theorem.Unchanged.{low-refusal}
 
@@ -105,11 +107,6 @@ check-kept t q e = go (sized t q) refl
           subst Good (sym (afterOf-tables t q s)) (request-good (tablesOf t) (now .1) (requestOf q)),
         ))
     go false z = ap check (unsized t q (is-false (sized t q) z) .1) ∙ e
-
--- the words after a list of requests, each any words
-unfoldable pub afterWords : List ℕ → List (List ℕ) → List ℕ
-afterWords t [] = t
-afterWords t (q ∷ qs) = afterWords (afterOf t q) qs
 
 -- and so after every finite history of requests.
 pub history-checked : (t : List ℕ) (qs : List (List ℕ)) → check t ≡ 0 → check (afterWords t qs) ≡ 0

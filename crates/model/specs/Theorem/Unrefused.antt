@@ -8,17 +8,18 @@ use Rattle.model.specs.Effect.WordsLaws.{clearance-wellFormed, level-wel
 use Rattle.model.specs.Level.{officer, releasing}
 use Rattle.model.specs.Request.Allowed.{Allowed}
 use Rattle.model.specs.Request.Asked.{Asked, operand}
+use Rattle.model.specs.Request.ConditionLaws.{any-agrees, container-agrees, createAbove-fails, createNoRoom-fails}
+use Rattle.model.specs.Request.ConditionLaws.{currentOutside-fails, deleteForbidden-fails, device-agrees, deviceAbove-fails}
+use Rattle.model.specs.Request.ConditionLaws.{deviceLowered-fails, draft-agrees, firstAbove-fails, grantNoRoom-fails, insecure-fails}
+use Rattle.model.specs.Request.ConditionLaws.{lacks-fails, levelLowered-fails, loginTaken-fails, moveInside-fails, moveNoRoom-fails}
+use Rattle.model.specs.Request.ConditionLaws.{notAcknowledged-fails, rolesOfAnother-fails, rolesOff-fails, rolesUnauthorised-fails}
+use Rattle.model.specs.Request.ConditionLaws.{showAbove-fails, showNoRoom-fails, showUnlabelled-fails, thing-agrees, userAbsent-fails}
 use Rattle.model.specs.Request.Ladder.{refused}
 use Rattle.model.specs.Request.LadderLaws.{AllOperands}
-use Rattle.model.specs.Request.Operations.{Op, Own, clearanceEffect, levelEffect, refuse, rowOf, toAcknowledge, toAuthorised, toClear}
-use Rattle.model.specs.Request.Operations.{toClearance, toCopy, toCreate, toCurrent, toDelete, toDeviceLevel, toEdit, toGrant}
-use Rattle.model.specs.Request.Operations.{toLevel, toLogin, toLogout, toMark, toMaximum, toMove, toRelease, toRevoke, toShow}
-use Rattle.model.specs.Request.OwnLaws.{any-agrees, container-agrees, createAbove-fails, createNoRoom-fails, currentOutside-fails}
-use Rattle.model.specs.Request.OwnLaws.{deleteForbidden-fails, device-agrees, deviceAbove-fails, deviceLowered-fails, draft-agrees}
-use Rattle.model.specs.Request.OwnLaws.{firstAbove-fails, grantNoRoom-fails, insecure-fails, lacks-fails, levelLowered-fails}
-use Rattle.model.specs.Request.OwnLaws.{loginTaken-fails, moveInside-fails, moveNoRoom-fails, notAcknowledged-fails}
-use Rattle.model.specs.Request.OwnLaws.{rolesOfAnother-fails, rolesOff-fails, rolesUnauthorised-fails, showAbove-fails}
-use Rattle.model.specs.Request.OwnLaws.{showNoRoom-fails, showUnlabelled-fails, thing-agrees, userAbsent-fails}
+use Rattle.model.specs.Request.Operations.{Op, Refusal, clearanceEffect, levelEffect, refuse, rowOf, toAcknowledge, toAuthorised}
+use Rattle.model.specs.Request.Operations.{toClear, toClearance, toCopy, toCreate, toCurrent, toDelete, toDeviceLevel, toEdit}
+use Rattle.model.specs.Request.Operations.{toGrant, toLevel, toLogin, toLogout, toMark, toMaximum, toMove, toRelease, toRevoke}
+use Rattle.model.specs.Request.Operations.{toShow}
 use Rattle.model.specs.State.WellFormed.{WellFormed}
 use Rattle.model.specs.Tables.Words.{Tables}
 
@@ -28,12 +29,12 @@ pub record Unrefused (o : Op) (s : Asked) (d : Tables) : Type 0 where
   pub own : (n : ℕ) → T (not (refused n (rowOf o .conditions) d s))
 
 -- no condition of a list applies
-abbrev NoneOf : List Own → Tables → Asked → Type 0
+abbrev NoneOf : List Refusal → Tables → Asked → Type 0
 NoneOf [] d s = Unit {0}
 NoneOf (refuse k c ∷ cs) d s = T (not (c d s)) × NoneOf cs d s
 
 -- where none applies, there is no refusal of any number
-refused-none : (n : ℕ) (cs : List Own) (d : Tables) (s : Asked) → NoneOf cs d s → T (not (refused n cs d s))
+refused-none : (n : ℕ) (cs : List Refusal) (d : Tables) (s : Asked) → NoneOf cs d s → T (not (refused n cs d s))
 unfolding refused
 refused-none n [] d s z = tt
 refused-none n (refuse k c ∷ cs) d s z = go (eqb k n) (refused-none n cs d s (z .1))
@@ -92,7 +93,7 @@ module _ (d : Tables) (w : WellFormed d) (s : Asked) where
   parts toAcknowledge h = (tt, (notAcknowledged-fails d s .from (h .holding, (h .refusal, h .count)), tt))
 
 -- What is allowed is refused by none of rungs 10 to 16.
-pub allowed-clear : (o : Op) (d : Tables) → WellFormed d → (s : Asked) → Allowed o s d → Unrefused o s d
-allowed-clear o d w s h =
+pub allowed-unrefused : (o : Op) (d : Tables) → WellFormed d → (s : Asked) → Allowed o s d → Unrefused o s d
+allowed-unrefused o d w s h =
     let z = parts d w s o h in
     record { kinds = z .0; own = λ n. refused-none n (rowOf o .conditions) d s (z .1) }

@@ -4,7 +4,7 @@ use mathlib.Core.Path.{_∙_, _≡_, fun-ext, refl, sym}
 use Prim.Native.Nat.{ℕ}
 use lib.Dec.{eqb}
 use Rattle.model.specs.Basics.Choice.{Same, it, other, pick, same}
-use Rattle.model.specs.Basics.Reading.{pick-same}
+use Rattle.model.specs.Basics.TestLaws.{pick-same}
 use Rattle.model.specs.Tables.Edits.{Edit, _and_, edited, onEntity, onUser, written}
 use Rattle.model.specs.Tables.Words.{EntityWord, Tables, UserWord}
 

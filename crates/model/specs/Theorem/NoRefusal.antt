@@ -9,24 +9,24 @@ use Rattle.model.specs.Effect.WordsLaws.{clearance-wellFormed, level-wel
 use Rattle.model.specs.Level.{levelCount, officer, releasing, roleSets}
 use Rattle.model.specs.Request.Allowed.{Allowed, On}
 use Rattle.model.specs.Request.Asked.{Asked, namedTriple, operand}
+use Rattle.model.specs.Request.ConditionLaws.{any-agrees, between-agrees, container-agrees, createAbove-fails, createNoRoom-fails}
+use Rattle.model.specs.Request.ConditionLaws.{currentOutside-fails, deleteForbidden-fails, device-agrees, deviceAbove-fails}
+use Rattle.model.specs.Request.ConditionLaws.{deviceLowered-fails, draft-agrees, firstAbove-fails, grantNoRoom-fails, insecure-fails}
+use Rattle.model.specs.Request.ConditionLaws.{lacks-fails, levelLowered-fails, loginTaken-fails, moveInside-fails, moveNoRoom-fails}
+use Rattle.model.specs.Request.ConditionLaws.{notAcknowledged-fails, rolesOfAnother-fails, rolesOff-fails, rolesUnauthorised-fails}
+use Rattle.model.specs.Request.ConditionLaws.{showAbove-fails, showNoRoom-fails, showUnlabelled-fails, thing-agrees, userAbsent-fails}
 use Rattle.model.specs.Request.Conditions.{aFlag, aLevel, aPosition, aSort, aSum, aWho, anOperation, someRoles}
 use Rattle.model.specs.Request.Ladder.{rangeAt, refused}
 use Rattle.model.specs.Request.LadderLaws.{AllOperands}
 use Rattle.model.specs.Request.Operations.{Op, clearanceEffect, levelEffect, rowOf, toAcknowledge, toAuthorised, toClear, toClearance}
 use Rattle.model.specs.Request.Operations.{toCopy, toCreate, toCurrent, toDelete, toDeviceLevel, toEdit, toGrant, toLevel, toLogin}
 use Rattle.model.specs.Request.Operations.{toLogout, toMark, toMaximum, toMove, toRelease, toRevoke, toShow}
-use Rattle.model.specs.Request.OwnLaws.{any-agrees, between-agrees, container-agrees, createAbove-fails, createNoRoom-fails}
-use Rattle.model.specs.Request.OwnLaws.{currentOutside-fails, deleteForbidden-fails, device-agrees, deviceAbove-fails}
-use Rattle.model.specs.Request.OwnLaws.{deviceLowered-fails, draft-agrees, firstAbove-fails, grantNoRoom-fails, insecure-fails}
-use Rattle.model.specs.Request.OwnLaws.{lacks-fails, levelLowered-fails, loginTaken-fails, moveInside-fails, moveNoRoom-fails}
-use Rattle.model.specs.Request.OwnLaws.{notAcknowledged-fails, rolesOfAnother-fails, rolesOff-fails, rolesUnauthorised-fails}
-use Rattle.model.specs.Request.OwnLaws.{showAbove-fails, showNoRoom-fails, showUnlabelled-fails, thing-agrees, userAbsent-fails}
 use Rattle.model.specs.State.WellFormed.{GoodTriple, WellFormed}
-use Rattle.model.specs.Tables.Words.{Tables, operationCount, operationIn, positionCount, positionOf}
-use Rattle.model.specs.Tables.Words.{sumLimit, tripleOf, whoLimit, whoOf}
+use Rattle.model.specs.Tables.Words.{Tables, operationCount, operationIn, positionCount, positionOf, sumLimit, tripleOf, whoLimit}
+use Rattle.model.specs.Tables.Words.{whoOf}
 
 -- What rungs 5, 6 and 10 to 16 leave when they do not apply.
-pub record Clear (o : Op) (s : Asked) (d : Tables) : Type 0 where
+pub record NoRefusal (o : Op) (s : Asked) (d : Tables) : Type 0 where
   pub a : T (rangeAt 0 (rowOf o .arguments) (s .a))
   pub b : T (rangeAt 1 (rowOf o .arguments) (s .b))
   pub c : T (rangeAt 2 (rowOf o .arguments) (s .c))
@@ -55,9 +55,9 @@ named-good s a b c = triple-good (s .a) (s .b) (s .c)
 
 module _ (d : Tables) (w : WellFormed d) (s : Asked) where
   -- What rungs 5, 6 and 10 to 16 leave is what each of the twenty operations asks (rules 6.1 to 6.20).
-  pub clear-allowed : (o : Op) → Clear o s d → Allowed o s d
+  pub noRefusal-allowed : (o : Op) → NoRefusal o s d → Allowed o s d
   unfolding refused rangeAt aSort aLevel aFlag aSum someRoles
-  clear-allowed toCreate h =
+  noRefusal-allowed toCreate h =
       let r = createNoRoom-fails d s .to (h .no14) in
       record {
         box = container-agrees d (s .first) .to (h .kinds .0);
@@ -67,23 +67,23 @@ module _ (d : Tables) (w : WellFormed d) (s : Asked) where
         number = r .0;
         room = r .1;
       }
-  clear-allowed toDelete h =
+  noRefusal-allowed toDelete h =
       let f = deleteForbidden-fails d s w .to (h .no15) in
       record { thing = thing-agrees d (s .first) .to (h .kinds .0); empty = f .0; unseen = f .1 .0; kept = f .1 .1 }
-  clear-allowed toMove h = record {
+  noRefusal-allowed toMove h = record {
     thing = thing-agrees d (s .first) .to (h .kinds .0);
     box = container-agrees d (s .second) .to (h .kinds .1 .0);
     low = firstAbove-fails d s .to (h .no13);
     room = moveNoRoom-fails d s .to (h .no14);
     apart = moveInside-fails d s w .to (h .no15);
   }
-  clear-allowed toEdit h = thing-agrees d (s .first) .to (h .kinds .0)
-  clear-allowed toCopy h = record {
+  noRefusal-allowed toEdit h = thing-agrees d (s .first) .to (h .kinds .0)
+  noRefusal-allowed toCopy h = record {
     thing = thing-agrees d (s .first) .to (h .kinds .0);
     thing₂ = thing-agrees d (s .second) .to (h .kinds .1 .0);
     low = firstAbove-fails d s .to (h .no13);
   }
-  clear-allowed toLevel h =
+  noRefusal-allowed toLevel h =
       let t = thing-agrees d (s .first) .to (h .kinds .0) in
       let l = ltb→lt (s .a) levelCount (h .a) in
       record {
@@ -92,14 +92,14 @@ module _ (d : Tables) (w : WellFormed d) (s : Asked) where
         downgrade = levelLowered-fails d s .to (h .no12);
         secure = insecure-fails d s levelEffect (level-wellFormed d w (s .first) (s .a) (t .0) l) .to (h .no13);
       }
-  clear-allowed toMark h = record { box = container-agrees d (s .first) .to (h .kinds .0); flag = leb→le (s .a) 1 (h .a) }
-  clear-allowed toGrant h = record {
+  noRefusal-allowed toMark h = record { box = container-agrees d (s .first) .to (h .kinds .0); flag = leb→le (s .a) 1 (h .a) }
+  noRefusal-allowed toGrant h = record {
     here = any-agrees d (s .first) .to (h .kinds .0);
     good = named-good s (h .a) (h .b) (h .c);
     room = grantNoRoom-fails d s .to (h .no14);
   }
-  clear-allowed toRevoke h = record { here = any-agrees d (s .first) .to (h .kinds .0); good = named-good s (h .a) (h .b) (h .c) }
-  clear-allowed toShow h =
+  noRefusal-allowed toRevoke h = record { here = any-agrees d (s .first) .to (h .kinds .0); good = named-good s (h .a) (h .b) (h .c) }
+  noRefusal-allowed toShow h =
       let l = showAbove-fails d s .to (h .no13) in
       record {
         on = h .on tt;
@@ -110,13 +110,13 @@ module _ (d : Tables) (w : WellFormed d) (s : Asked) where
         label = showUnlabelled-fails d s .to (h .no15);
         room = showNoRoom-fails d s .to (h .no14);
       }
-  clear-allowed toClear h = h .on tt
-  clear-allowed toLogin h =
+  noRefusal-allowed toClear h = h .on tt
+  noRefusal-allowed toLogin h =
       let k = device-agrees d (s .first) .to (h .kinds .0) in
       let f = loginTaken-fails d s w k .to (h .no15) in
       record { screen = k; off = f .0; free = f .1 }
-  clear-allowed toLogout h = h .on tt
-  clear-allowed toCurrent h =
+  noRefusal-allowed toLogout h = h .on tt
+  noRefusal-allowed toCurrent h =
       let p = rolesOff-fails d s .to (h .no11) in
       record {
         present = p .0;
@@ -125,7 +125,7 @@ module _ (d : Tables) (w : WellFormed d) (s : Asked) where
         officer = rolesOfAnother-fails d s .to (h .no12);
         authorised = rolesUnauthorised-fails d s .to (h .no13);
       }
-  clear-allowed toClearance h =
+  noRefusal-allowed toClearance h =
       let p = userAbsent-fails d s .to (h .no11) in
       let l = ltb→lt (s .b) levelCount (h .b) in
       record {
@@ -134,19 +134,19 @@ module _ (d : Tables) (w : WellFormed d) (s : Asked) where
         officer = lacks-fails d s officer .to (h .no12);
         secure = insecure-fails d s clearanceEffect (clearance-wellFormed d w (s .a) (s .b) p l) .to (h .no13);
       }
-  clear-allowed toAuthorised h = record {
+  noRefusal-allowed toAuthorised h = record {
     present = userAbsent-fails d s .to (h .no11);
     rolesIn = ltb→lt (s .b) roleSets (h .b);
     officer = lacks-fails d s officer .to (h .no12);
     within = currentOutside-fails d s .to (h .no13);
   }
-  clear-allowed toMaximum h = record {
+  noRefusal-allowed toMaximum h = record {
     screen = device-agrees d (s .first) .to (h .kinds .0);
     levelIn = ltb→lt (s .a) levelCount (h .a);
     officer = lacks-fails d s officer .to (h .no12);
     low = deviceAbove-fails d s .to (h .no13);
   }
-  clear-allowed toDeviceLevel h =
+  noRefusal-allowed toDeviceLevel h =
       let k = device-agrees d (s .first) .to (h .kinds .0) in
       let l = ltb→lt (s .a) levelCount (h .a) in
       record {
@@ -155,9 +155,9 @@ module _ (d : Tables) (w : WellFormed d) (s : Asked) where
         downgrade = deviceLowered-fails d s .to (h .no12);
         secure = insecure-fails d s levelEffect (level-wellFormed d w (s .first) (s .a) (omega arith) l) .to (h .no13);
       }
-  clear-allowed toRelease h =
+  noRefusal-allowed toRelease h =
       let k = draft-agrees d (s .first) .to (h .kinds .0) in
       record { box = k .0; draft = k .1; releaser = lacks-fails d s releasing .to (h .no12) }
-  clear-allowed toAcknowledge h =
+  noRefusal-allowed toAcknowledge h =
       let n = notAcknowledged-fails d s .to (h .no16) in
       record { holding = n .0; refusal = n .1 .0; count = n .1 .1 }
