@@ -67,7 +67,8 @@ same-bits (suc k) a b h =
 -- a set is in another if each of its bits is
 pub subset-agrees : (k a b : ℕ) → Agrees (subset k a b) ((i : ℕ) → i < k → Bit i a → Bit i b)
 unfolding subset
-subset-agrees k a b = agrees-every k (λ i. imp (bit i a) (bit i b)) (λ i. Bit i a → Bit i b) (λ i. agrees-imp (agrees-T (bit i a)) (agrees-T (bit i b)))
+subset-agrees k a b =
+    agrees-every k (λ i. imp (bit i a) (bit i b)) (λ i. Bit i a → Bit i b) (λ i. agrees-imp (agrees-T (bit i a)) (agrees-T (bit i b)))
 
 -- every set is in itself
 pub subset-refl : (k a : ℕ) → Subset k a a

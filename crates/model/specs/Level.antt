@@ -5,7 +5,7 @@ use Prim.Native.Nat.{_%_, _*_, _/_, _^_, ℕ}
 use lib.Dec.{T, eqb, leb}
 use Rattle.model.specs.Basics.Tests.{every, imp}
 
--- A set of bits: bit i of n.
+-- Rules 1.1 and 1.3: a set is a number's bits; bit i of n.
 unfoldable pub bit : ℕ → ℕ → Bool
 bit i n = eqb (n / 2 ^ i % 2) 1
 
@@ -23,14 +23,14 @@ Subset k a b = T (subset k a b)
 unfoldable pub rank : ℕ → ℕ → ℕ
 rank k l = l / 2 ^ k
 
--- Rule 1.2: a's rank is at most b's, and a's compartments are all in b's.
+-- Rule 1.2: no higher rank, and no compartment that b lacks.
 unfoldable pub atMostOver : ℕ → ℕ → ℕ → Bool
 atMostOver k a b = leb (rank k a) (rank k b) && subset k a b
 
 abbrev pub AtMostOver : ℕ → ℕ → ℕ → Type 0
 AtMostOver k a b = T (atMostOver k a b)
 
--- The desk has eight compartments and four ranks, so its levels are 0 to 1,023.
+-- Rule 1.1: the desk has eight compartments and four ranks, so its levels are 0 to 1,023.
 abbrev pub compartmentCount : ℕ
 compartmentCount = 8
 
@@ -46,7 +46,7 @@ atMost a b = atMostOver compartmentCount a b
 abbrev pub AtMost : ℕ → ℕ → Type 0
 AtMost a b = T (atMost a b)
 
--- Strictly lower: at most, and another level. The propositional reading is `Lower`.
+-- Rule 1.2: strictly lower is at most, and another level. The propositional reading is `Lower`.
 unfoldable pub lower : ℕ → ℕ → Bool
 lower a b = atMost a b && not (eqb a b)
 

@@ -1,9 +1,9 @@
 -- The forms that tests are made of: an implication, and a test of every number below a bound.
--- where a holds, b is asked
 use mathlib.Core.Bool.{Bool, _&&_, true}
 use Prim.Native.Nat.{suc, zero, ℕ}
 use Rattle.model.specs.Basics.Choice.{pick}
 
+-- where a holds, b is asked
 unfoldable pub imp : Bool → Bool → Bool
 imp a b = pick a b true
 

@@ -18,7 +18,7 @@ use Rattle.model.specs.Tables.SheetLaws.{sheet-tables, sheetWords-length
 abbrev zeros : ℕ → List ℕ
 zeros n = replicate n 0
 
--- a record of a user, and of an entity, in full
+-- the records of users 1 to 3
 unfoldable pub s1Users : List ℕ
 s1Users =
     1 ∷ 1023 ∷ 7 ∷ 1 ∷ 1 ∷ 0 ∷ 0 ∷ 0 ∷ 0 ∷ 0 ∷ 0 ∷ 0 ∷ 0 ∷ 0 ∷ 0 ∷ 0
@@ -26,6 +26,7 @@ s1Users =
     ∷ 1 ∷ 513 ∷ 6 ∷ 0 ∷ 0 ∷ 0 ∷ 0 ∷ 0 ∷ 0 ∷ 0 ∷ 0 ∷ 0 ∷ 0 ∷ 0 ∷ 0 ∷ 0
     ∷ []
 
+-- the records of entities 1 to 7
 unfoldable pub s1Entities : List ℕ
 s1Entities =
     -- 1

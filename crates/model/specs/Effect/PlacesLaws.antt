@@ -16,7 +16,7 @@ use Rattle.model.specs.State.Depth.{Within}
 use Rattle.model.specs.State.DepthLaws.{fewer, holds-one}
 use Rattle.model.specs.State.LinksLaws.{appear, still, vanish}
 use Rattle.model.specs.State.Secure.{Secure, labelled}
-use Rattle.model.specs.State.WellFormed.{EntityOk, Holds, In, Thing, WellFormed}
+use Rattle.model.specs.State.WellFormed.{EntityOk, Holds, In, InTables, Thing, WellFormed}
 use Rattle.model.specs.Tables.EditLaws.{case, each}
 use Rattle.model.specs.Tables.Edits.{blank, written}
 use Rattle.model.specs.Tables.RowLaws.{sought}
@@ -37,7 +37,7 @@ module _ (d : Tables) (s : Secure d) (e l : ℕ) (nothing : (c : ℕ) → Holds 
       (λ q. absurd (nowhere (devices d u) (subst (Holds d (devices d u)) q h))) (λ q. s .seen u c on h)
 
 -- a record at an absent number
-module _ (d : Tables) (w : WellFormed d) (e c k t l : ℕ) (gone : kinds d e ≡ 0) (range : (1 ≤ e) × (e ≤ entityCount)) (sort : (1 ≤ k) × (k ≤ 2))
+module _ (d : Tables) (w : WellFormed d) (e c k t l : ℕ) (gone : kinds d e ≡ 0) (range : (1 ≤ e) × (e ≤ entityCount)) (sort : (objectKind ≤ k) × (k ≤ containerKind))
     (draft : (t ≡ 0) ⊎ ((k ≡ containerKind) × (t ≡ 1))) (lev : l < levelCount) where
   zero-here : (f : EntityWord) → d .entity e f ≡ 0
   zero-here = w .entities e .absent gone
@@ -87,7 +87,7 @@ module _ (d : Tables) (w : WellFormed d) (e c k t l : ℕ) (gone : kinds d e ≡
       same-kind x = case (λ (y : ℕ). y ≡ deviceKind → kinds d x ≡ deviceKind) x e k (kinds d x) (λ q z. absurd (omega arith)) (λ q z. z)
 
 -- a record is zeroed
-module _ (d : Tables) (w : WellFormed d) (e : ℕ) (thing : kinds d e ≤ 2) (empty : counts d e ≡ 0) (nowhere : (x : ℕ) → Holds d x e → ⊥) where
+module _ (d : Tables) (w : WellFormed d) (e : ℕ) (thing : kinds d e ≤ containerKind) (empty : counts d e ≡ 0) (nowhere : (x : ℕ) → Holds d x e → ⊥) where
   pub erase-wellFormed : WellFormed (erase e d)
   erase-wellFormed = record {
     userNumbers = w .userNumbers;
@@ -118,7 +118,7 @@ module _ (d : Tables) (w : WellFormed d) (e : ℕ) (thing : kinds d e ≤ 2) (em
       top x false h = s .ceiling x h
 
 -- 2 delete: an entity with no contents, on no device
-module _ (d : Tables) (w : WellFormed d) (s : Secure d) (e : ℕ) (thing : kinds d e ≤ 2) (empty : counts d e ≡ 0)
+module _ (d : Tables) (w : WellFormed d) (s : Secure d) (e : ℕ) (thing : kinds d e ≤ containerKind) (empty : counts d e ≡ 0)
     (unseen : (x : ℕ) → kinds d x ≡ deviceKind → Holds d x e → ⊥) where
   nowhere-now : (x : ℕ) → Holds (leave e d) x e → ⊥
   nowhere-now x h =
@@ -146,7 +146,7 @@ on-none d w c u h q =
 
 -- 3 move
 module _ (d : Tables) (w : WellFormed d) (s : Secure d) (e c : ℕ) (thing : Thing d e) (box : kinds d c ≡ containerKind) (room : counts (leave e d) c < placeCount)
-    (apart : Within (In (kinds d) (counts d) (places d)) c e → ⊥) (low : AtMost (d .entity e level) (d .entity c level)) where
+    (apart : Within (InTables d) c e → ⊥) (low : AtMost (d .entity e level) (d .entity c level)) where
   Inner : ℕ → ℕ → Type 0
   Inner = In (kinds (leave e d)) (counts (leave e d)) (places (leave e d))
 
@@ -178,7 +178,7 @@ module _ (d : Tables) (w : WellFormed d) (s : Secure d) (e c : ℕ) (thing : Thi
 
 -- 1 create
 module _ (d : Tables) (w : WellFormed d) (s : Secure d) (e c k t l : ℕ) (gone : kinds d e ≡ 0) (range : (1 ≤ e) × (e ≤ entityCount))
-    (sort : (1 ≤ k) × (k ≤ 2)) (draft : (t ≡ 0) ⊎ ((k ≡ containerKind) × (t ≡ 1))) (lev : l < levelCount)
+    (sort : (objectKind ≤ k) × (k ≤ containerKind)) (draft : (t ≡ 0) ⊎ ((k ≡ containerKind) × (t ≡ 1))) (lev : l < levelCount)
     (box : kinds d c ≡ containerKind) (room : counts d c < placeCount) (low : AtMost l (d .entity c level)) where
   abbrev with-it : Tables
   with-it = fresh e c k t l d
@@ -201,7 +201,7 @@ module _ (d : Tables) (w : WellFormed d) (s : Secure d) (e c k t l : ℕ) (gone 
 
   takes-new : Takes with-it c e 0
   takes-new = record {
-    thing = case (λ (y : ℕ). (1 ≤ y) × (y ≤ 2)) e e k (kinds d e) (λ q. sort) (λ q. absurd (q refl));
+    thing = case (λ (y : ℕ). (objectKind ≤ y) × (y ≤ containerKind)) e e k (kinds d e) (λ q. sort) (λ q. absurd (q refl));
     holder = omega (arith, box-now);
     room = room;
     new = λ i h q. nowhere d w e c k t l gone range sort draft lev c (i, h, q);

@@ -11,7 +11,7 @@ use Rattle.model.specs.Level.{AtMost}
 use Rattle.model.specs.State.Depth.{Within}
 use Rattle.model.specs.State.LinksLaws.{attach, grown, shrink}
 use Rattle.model.specs.State.Secure.{Secure, labelled}
-use Rattle.model.specs.State.WellFormed.{EntityOk, Filled, Holds, In, Thing, WellFormed}
+use Rattle.model.specs.State.WellFormed.{EntityOk, Filled, Holds, InTables, Thing, WellFormed}
 use Rattle.model.specs.Tables.EditLaws.{all, case, each}
 use Rattle.model.specs.Tables.Edits.{written}
 use Rattle.model.specs.Tables.RowLaws.{append-packed, without-fewer, without-member, without-packed}
@@ -20,7 +20,7 @@ use Rattle.model.specs.Tables.Words.{Tables, clearance, containerKind, c
 use Rattle.model.specs.Tables.Words.{sumLimit, sums}
 
 -- e is put last in c, with the sum s
-put-filled : (k n e s : ℕ) (at sum : ℕ → ℕ) → (2 ≤ k) → n < placeCount → 1 ≤ e → ((i : ℕ) → i < n → at i ≢ e)
+put-filled : (k n e s : ℕ) (at sum : ℕ → ℕ) → (containerKind ≤ k) → n < placeCount → 1 ≤ e → ((i : ℕ) → i < n → at i ≢ e)
     → (k ≡ deviceKind → (1 ≤ s) × (s ≤ sumLimit)) → (k ≢ deviceKind → s ≡ 0) → Filled k n at sum → Filled k (suc n) (replace n e at) (replace n s sum)
 put-filled k n e s at sum hk fits he new on off f = record {
   packed = append-packed at n e (f .packed) fits he new;
@@ -33,11 +33,11 @@ put-filled k n e s at sum hk fits he new on off f = record {
 -- what the request's conditions give: c has room, and takes e
 pub record Takes (d : Tables) (c e s : ℕ) : Type 0 where
   pub thing : Thing d e
-  pub holder : 2 ≤ kinds d c
+  pub holder : containerKind ≤ kinds d c
   pub room : counts d c < placeCount
   pub new : (i : ℕ) → i < counts d c → places d c i ≢ e
-  pub free : kinds d c ≡ containerKind → (b : ℕ) → In (kinds d) (counts d) (places d) b e → ⊥
-  pub apart : Within (In (kinds d) (counts d) (places d)) c e → ⊥
+  pub free : kinds d c ≡ containerKind → (b : ℕ) → InTables d b e → ⊥
+  pub apart : Within (InTables d) c e → ⊥
   pub onIt : kinds d c ≡ deviceKind → (u : ℕ) × (devices d u ≡ c)
   pub sumOn : kinds d c ≡ deviceKind → (1 ≤ s) × (s ≤ sumLimit)
   pub sumOff : kinds d c ≢ deviceKind → s ≡ 0

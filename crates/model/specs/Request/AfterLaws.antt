@@ -57,7 +57,8 @@ module _ (d : Tables) (q : Request) where
   effect-by o e = subst (λ (m : Option Op). elim m [ none ↦ d | some o ↦ rowOf o .effect (asked d q) d ] ≡ rowOf o .effect (asked d q) d) (sym e) refl
 
 -- What holds of whatever each answer leaves holds of what the request leaves.
-pub after-each : (d : Tables) (q : Request) (P : Tables → Type 0) → (answer d q ≡ 0 → P (effect d q)) → (1 ≤ answer d q → answer d q < firstNoticed → P d)
+pub after-each : (d : Tables) (q : Request) (P : Tables → Type 0) → (answer d q ≡ 0 → P (effect d q))
+    → (1 ≤ answer d q → answer d q < firstNoticed → P d)
     → (firstNoticed ≤ answer d q → P (notice (q .user) (answer d q) (noticedOp q) d)) → P (after d q)
 after-each d q P f g h = go (eqb (answer d q) 0) (ltb (answer d q) firstNoticed) (same (answer d q) 0) (below (answer d q) firstNoticed)
   where

@@ -1,4 +1,4 @@
--- What a request asks, once its references have been read in given tables.
+-- Rule 5.3: what a request asks, once its references have been read in given tables.
 use mathlib.Core.Bool.{Bool}
 use mathlib.Core.List.{List}
 use Prim.Native.Nat.{ℕ}

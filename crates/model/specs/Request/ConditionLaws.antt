@@ -104,7 +104,7 @@ module _ (d : Tables) (s : Asked) where
       at-end k (inl z) = agrees-as (λ h. omega (arith, z .0)) (λ e. omega arith) (agrees-le placeCount k)
       at-end k (inr z) = agrees-as (λ h. z .0) (λ e. omega arith) (agrees-le placeCount k)
 
-  -- Rule 6.10: no refusal 13 where the level is at most the clearance, and at most the device's level;
+  -- Rule 6.10: no refusal 13 where user and screen both stand at or above it;
   pub showAbove-fails : Fails (showAbove d s)
       (AtMost (levelOf d (s .first)) (d .user (s .user) clearance) × AtMost (levelOf d (s .first)) (levelOf d (own d s)))
   unfolding showAbove

@@ -81,49 +81,50 @@ Condition = Tables → Asked → Bool
 abbrev pub levelOf : Tables → ℕ → ℕ
 levelOf d e = d .entity e level
 
+-- Rules 5.6, 6.6 and 6.14 to 6.19: the requester does not have the role now.
 unfoldable pub lacks : ℕ → Condition
 lacks r d s = not (hasRole d (s .user) r)
 
--- Rule 6.1: 13 and 14.
+-- Rule 6.1, 13: the new level is too high for the container; 14: no number or no place is left.
 unfoldable pub createAbove : Condition
 createAbove d s = not (atMost (s .b) (levelOf d (s .first)))
 
 unfoldable pub createNoRoom : Condition
 createNoRoom d s = not (leb (vacant d) entityCount) || leb placeCount (counts d (s .first))
 
--- e stands on a device
+-- Rule 6.2: e stands on a device, whoever's.
 unfoldable pub onScreen : Tables → ℕ → Bool
 onScreen d e = not (every entityCount (λ v. imp (eqb (kinds d (suc v)) deviceKind)
     (not (ltb (seek e (places d (suc v)) (counts d (suc v))) (counts d (suc v))))))
 
--- Rule 6.2: 15.
+-- Rule 6.2, 15: it holds something, is on a screen, or is released.
 unfoldable pub deleteForbidden : Condition
 deleteForbidden d s = not (eqb (counts d (s .first)) 0) || (onScreen d (s .first) || eqb (d .entity (s .first) type) releasedType)
 
--- Rules 6.3 and 6.5: 13.
+-- Rules 6.3 and 6.5, 13: the first operand is too high for the second.
 unfoldable pub firstAbove : Condition
 firstAbove d s = not (atMost (levelOf d (s .first)) (levelOf d (s .second)))
 
--- Rule 6.3: 14, once the entity has left its old place; 15.
+-- Rule 6.3, 14: full even when the entity has left its old place; 15: the container is the entity or lies in it.
 unfoldable pub moveNoRoom : Condition
 moveNoRoom d s = leb placeCount (counts (leave (s .first) d) (s .second))
 
 unfoldable pub moveInside : Condition
 moveInside d s = climb (parent (kinds d) (counts d) (places d)) (suc entityCount) (s .second) (s .first)
 
--- Rule 6.6: 12 and 13.
+-- Rule 6.6, 12: a downgrade by one who may not.
 unfoldable pub levelLowered : Condition
 levelLowered d s = lower (s .a) (levelOf d (s .first)) && lacks downgrader d s
 
--- the tables afterwards are not secure
+-- Rules 6.6, 6.15 and 6.18, 13: with that word changed the tables are not secure.
 unfoldable pub insecure : (Asked → Tables → Tables) → Condition
 insecure f d s = not (secureTest (f s d))
 
--- Rule 6.8: 14.
+-- Rule 6.8, 14: a new triple, and no place for it.
 unfoldable pub grantNoRoom : Condition
 grantNoRoom d s = leb placeCount (seek (namedTriple s) (triples d (s .first)) placeCount) && leb placeCount (seek 0 (triples d (s .first)) placeCount)
 
--- Rule 6.10: 13, 14 and 15.
+-- Rule 6.10, 13: too high for the user or for the screen; 14: not there yet, and no place; 15: a value without its label.
 unfoldable pub showAbove : Condition
 showAbove d s = not (atMost (levelOf d (s .first)) (d .user (s .user) clearance)) || not (atMost (levelOf d (s .first)) (levelOf d (own d s)))
 
@@ -133,15 +134,15 @@ showNoRoom d s = leb (counts d (own d s)) (spot (own d s) (s .first) d) && leb p
 unfoldable pub showUnlabelled : Condition
 showUnlabelled d s = not (labelled (s .a))
 
--- Rule 6.12: 15.
+-- Rule 6.12, 15: on already, or somebody is on that device.
 unfoldable pub loginTaken : Condition
 loginTaken d s = not (eqb (own d s) 0) || not (every userCount (λ u. not (eqb (devices d (suc u)) (s .first))))
 
--- Rules 6.15 and 6.16: 11.
+-- Rules 6.14 to 6.16, 11: there is no user a.
 unfoldable pub userAbsent : Condition
 userAbsent d s = eqb (d .user (s .a) present) 0
 
--- Rule 6.14: 11, 12 and 13.
+-- Rule 6.14, 11: no user a, or one who is off and is to have roles; 12: another's, by no officer; 13: not all authorised.
 unfoldable pub rolesOff : Condition
 rolesOff d s = userAbsent d s || (eqb (devices d (s .a)) 0 && not (eqb (s .b) 0))
 
@@ -151,18 +152,18 @@ rolesOfAnother d s = not (eqb (s .a) (s .user)) && lacks officer d s
 unfoldable pub rolesUnauthorised : Condition
 rolesUnauthorised d s = not (subset roleCount (s .b) (d .user (s .a) authorised))
 
--- Rule 6.16: 13.
+-- Rule 6.16, 13: user a acts with a role that b leaves out.
 unfoldable pub currentOutside : Condition
 currentOutside d s = not (subset roleCount (d .user (s .a) current) (s .b))
 
--- Rule 6.17: 13.
+-- Rule 6.17, 13: the device stands above the new maximum.
 unfoldable pub deviceAbove : Condition
 deviceAbove d s = not (atMost (levelOf d (s .first)) (s .a))
 
--- Rule 6.18: 12.
+-- Rule 6.18, 12: a downgrade of another's device by one who may not.
 unfoldable pub deviceLowered : Condition
 deviceLowered d s = lower (s .a) (levelOf d (s .first)) && (not (eqb (s .first) (own d s)) && lacks downgrader d s)
 
--- Rule 6.20: 16.
+-- Rule 6.20, 16: nothing is held, or another refusal or count.
 unfoldable pub notAcknowledged : Condition
 notAcknowledged d s = eqb (d .user (s .user) held) 0 || (not (eqb (s .a) (d .user (s .user) held)) || not (eqb (s .b) (d .user (s .user) missed)))

@@ -29,15 +29,15 @@ unfoldable pub someOperand : ℕ → List Kind → (ℕ → Kind → Bool) → B
 someOperand k [] p = false
 someOperand k (x ∷ xs) p = elim (p k x) [ true ↦ true | false ↦ someOperand (suc k) xs p ]
 
--- Rule 7.2.
+-- Rule 7.2: the tables fail rule 3.
 unfoldable pub notWellFormed : Rung
 notWellFormed d q = not (wellFormedTest d)
 
--- Rule 7.3.
+-- Rule 7.3: the tables fail rule 4.
 unfoldable pub notSecure : Rung
 notSecure d q = not (secureTest d)
 
--- Rule 7.4.
+-- Rule 7.4: the requester is none of the users that are there.
 unfoldable pub unknownUser : Rung
 unknownUser d q = not ((leb 1 (q .user) && leb (q .user) userCount) && not (eqb (d .user (q .user) present) 0))
 
@@ -66,11 +66,11 @@ fits o q =
 unfoldable pub notUnderstood : Rung
 notUnderstood d q = not (ofOp q (λ o. fits o q))
 
--- Rule 7.6.
+-- Rule 7.6: on no device, at an operation that wants one.
 unfoldable pub notLoggedOn : Rung
 notLoggedOn d q = ofOp q (λ o. not (openLoggedOff o) && eqb (devices d (q .user)) 0)
 
--- Rule 7.7.
+-- Rule 7.7: an operand's reference leads nowhere.
 unfoldable pub leadsNowhere : Rung
 leadsNowhere d q = ofOp q (λ o. someOperand 1 (rowOf o .operands) (λ k x. eqb (operand (asked d q) k) 0))
 
@@ -90,7 +90,7 @@ bars d l (e ∷ es) = elim (not (eqb (d .entity e mark) 0) && not (atMost (d .en
 unfoldable pub notCleared : Rung
 notCleared d q = ofOp q (λ o. someOperand 1 (rowOf o .operands) (λ k x. bars d (d .user (q .user) clearance) (basisOf (asked d q) k)))
 
--- Rule 7.10.
+-- Rule 7.10: an operand is not of the sort that its row asks.
 unfoldable pub wrongKind : Rung
 wrongKind d q = ofOp q (λ o. someOperand 1 (rowOf o .operands) (λ k x. not (x d (operand (asked d q) k))))
 

@@ -22,7 +22,7 @@ pub data Op : Type 0 where
   toCreate toDelete toMove toEdit toCopy toLevel toMark toGrant toRevoke toShow : Op
   toClear toLogin toLogout toCurrent toClearance toAuthorised toMaximum toDeviceLevel toRelease toAcknowledge : Op
 
--- "13 b not at most its level" is `refuse 13 createAbove`
+-- one refusal of a row: its number, and when it applies
 pub data Refusal : Type 0 where
   refuse : ℕ → Condition → Refusal
 

@@ -1,4 +1,4 @@
--- Rules 5.2 and 5.3: a reference is read name by name, the rest one shorter each time; 0 where a name leads nowhere.
+-- Rules 5.2 and 5.3: where a list of names leads, one name after another; 0 where one of them leads nowhere.
 use mathlib.Core.Bool.{Bool, _&&_, false, not, true}
 use mathlib.Core.List.{List, [], _∷_}
 use mathlib.Core.Logic.{_≢_}
@@ -33,7 +33,7 @@ unfoldable pub passed : Tables → ℕ → List ℕ → List ℕ
 passed d e [] = []
 passed d e (p ∷ ps) = e ∷ passed d (standing d e p) ps
 
--- the entities that a reference is based on: its path but the last
+-- a reference's basis: its path but the last, the operand
 unfoldable pub basis : Tables → List ℕ → List ℕ
 basis d [] = []
 basis d (e ∷ ps) = passed d e ps

@@ -1,4 +1,4 @@
--- What the tests behind rungs 8, 9, 14 and 15 say: permitted, open, on no screen, not inside, a free device.
+-- What the tests behind rungs 8 and 9 and behind refusals 12 and 15 say: a role, permitted, open, on no screen, not inside, a free device.
 use mathlib.Core.Bool.{Bool, _&&_, false, not, true}
 use mathlib.Core.List.{List, List·Memᴰ, List·Memᴰ·cases-cons, List·Memᴰ·head, List·Memᴰ·not-nil, List·Memᴰ·tail, [], _∷_}
 use mathlib.Core.Logic.{_≢_, _⊎_, inl, inr}

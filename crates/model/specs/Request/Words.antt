@@ -17,9 +17,11 @@ pub record Request : Type 0 where
   pub c : ℕ
   pub last : ℕ
 
+-- Rule 5.1: as many words.
 abbrev pub requestWords : ℕ
 requestWords = 16
 
+-- Rule 5.2: as many name words.
 abbrev pub nameCount : ℕ
 nameCount = 4
 

@@ -1,5 +1,5 @@
--- The test of well-formed tables, and that of secure ones, agree with the statements, on all tables of words; and well-formed
--- tables have nothing outside their records.
+-- The test of well-formed tables agrees with the statement, on all tables of words; and well-formed tables have nothing outside
+-- their records.
 use mathlib.Core.Logic.{_≢_, _⊎_, inl, inr}
 use mathlib.Core.Path.{_≡_, fun-ext, refl, subst, sym}
 use Prim.Native.Nat.{_<_, _≤_, ℕ}

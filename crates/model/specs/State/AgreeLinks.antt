@@ -18,7 +18,7 @@ use Rattle.model.specs.State.DepthLaws.{holds-one}
 use Rattle.model.specs.State.WellFormed.{In, Linked}
 use Rattle.model.specs.Tables.RowLaws.{sought}
 use Rattle.model.specs.Tables.Rows.{Member, Sought, seek}
-use Rattle.model.specs.Tables.Words.{containerKind, deviceKind, entityCount, placeCount, userCount}
+use Rattle.model.specs.Tables.Words.{containerKind, deviceKind, entityCount, objectKind, placeCount, userCount}
 
 -- c is among the first n of a row
 pub member-agrees : (r : ℕ → ℕ) (n c : ℕ) → Agrees (ltb (seek c r n) n) (Member r n c)
@@ -74,13 +74,13 @@ module _ (k n : ℕ → ℕ) (at : ℕ → ℕ → ℕ) (dev : ℕ → ℕ) (ent
       go true (under l) (inr s) e = absurd (omega (arith, s .0))
       go false (over l) s e = absurd (e refl)
 
-  contents-agrees : Agrees (contentsTest k n at dev) ((e c : ℕ) → Member (at e) (n e) c → (1 ≤ k c) × (k c ≤ 2))
+  contents-agrees : Agrees (contentsTest k n at dev) ((e c : ℕ) → Member (at e) (n e) c → (objectKind ≤ k c) × (k c ≤ containerKind))
   unfolding contentsTest
-  contents-agrees = agrees-as {P = (e : ℕ) → (i : ℕ) → i < placeCount → i < n e → (1 ≤ k (at e i)) × (k (at e i) ≤ 2)}
-      (λ f e c m. subst (λ (y : ℕ). (1 ≤ k y) × (k y ≤ 2)) (m .2) (f e (m .0) (omega (arith, m .1, room e)) (m .1)))
+  contents-agrees = agrees-as {P = (e : ℕ) → (i : ℕ) → i < placeCount → i < n e → (objectKind ≤ k (at e i)) × (k (at e i) ≤ containerKind)}
+      (λ f e c m. subst (λ (y : ℕ). (objectKind ≤ k y) × (k y ≤ containerKind)) (m .2) (f e (m .0) (omega (arith, m .1, room e)) (m .1)))
       (λ f e i h l. f e (at e i) (i, l, refl))
-      (agrees-range entityCount (λ e. every placeCount (λ i. imp (ltb i (n e)) (leb 1 (k (at e i)) && leb (k (at e i)) 2)))
-      (λ e. (i : ℕ) → i < placeCount → i < n e → (1 ≤ k (at e i)) × (k (at e i) ≤ 2))
+      (agrees-range entityCount (λ e. every placeCount (λ i. imp (ltb i (n e)) (leb objectKind (k (at e i)) && leb (k (at e i)) containerKind)))
+      (λ e. (i : ℕ) → i < placeCount → i < n e → (objectKind ≤ k (at e i)) × (k (at e i) ≤ containerKind))
       (λ e. search agreement depth 20) (λ i h l. absurd (omega (arith, entityOut 0 (inl refl)))) (λ e o i h l. absurd (omega (arith, entityOut e (inr o)))))
 
   one-agrees : Agrees (oneTest k n at dev) ((c a b : ℕ) → In k n at a c → In k n at b c → a ≡ b)
@@ -153,7 +153,7 @@ module _ (k n : ℕ → ℕ) (at : ℕ → ℕ → ℕ) (dev : ℕ → ℕ) (ent
   pub links-agrees : Agrees (linksTest k n at dev) (Linked k n at dev)
   unfolding linksTest
   links-agrees = agrees-as
-      (λ (z : ((e c : ℕ) → Member (at e) (n e) c → (1 ≤ k c) × (k c ≤ 2)) × (((c a b : ℕ) → In k n at a c → In k n at b c → a ≡ b) × (((e : ℕ) → Inside (In k n at) e e → ⊥)
+      (λ (z : ((e c : ℕ) → Member (at e) (n e) c → (objectKind ≤ k c) × (k c ≤ containerKind)) × (((c a b : ℕ) → In k n at a c → In k n at b c → a ≡ b) × (((e : ℕ) → Inside (In k n at) e e → ⊥)
       × (((u : ℕ) → dev u ≢ 0 → k (dev u) ≡ deviceKind) × (((u v : ℕ) → dev u ≢ 0 → dev u ≡ dev v → u ≡ v)
       × ((e : ℕ) → k e ≡ deviceKind → ((u : ℕ) → dev u ≢ e) → n e ≡ 0)))))).
       record { contents = z .0; oneContainer = z .1 .0; noLoop = z .1 .1 .0; deviceIs = z .1 .1 .1 .0; oneUser = z .1 .1 .1 .1 .0; idle = z .1 .1 .1 .1 .1 })

@@ -20,19 +20,20 @@ use Rattle.model.specs.Tables.Words.{kinds, level, maximum, objectKind, 
 unfoldable pub inTest : (ℕ → ℕ) → (ℕ → ℕ) → (ℕ → ℕ → ℕ) → ℕ → ℕ → Bool
 inTest k n at b a = eqb (k b) containerKind && ltb (seek a (at b) (n b)) (n b)
 
--- the first container that a stands in, or 0
+-- the place, from 0, of the first container that a stands in; 64 where there is none
 unfoldable pub spotOf : (ℕ → ℕ) → (ℕ → ℕ) → (ℕ → ℕ → ℕ) → ℕ → ℕ
 spotOf k n at a = seek 1 (λ i. pick (inTest k n at (suc i) a) 1 0) entityCount
 
+-- that container's number, or 0
 unfoldable pub parent : (ℕ → ℕ) → (ℕ → ℕ) → (ℕ → ℕ → ℕ) → ℕ → ℕ
 parent k n at a = pick (ltb (spotOf k n at a) entityCount) (suc (spotOf k n at a)) 0
 
--- Rule 3.6: contents are present and no devices.
+-- Rule 3.6: only objects and containers stand in places.
 unfoldable pub contentsTest : (k n : ℕ → ℕ) (at : ℕ → ℕ → ℕ) (dev : ℕ → ℕ) → Bool
 contentsTest k n at dev = every entityCount (λ e. every placeCount (λ i. imp (ltb i (n (suc e)))
     (leb objectKind (k (at (suc e) i)) && leb (k (at (suc e) i)) containerKind)))
 
--- Rule 3.13: no entity stands in two containers.
+-- Rule 3.13: one container at most.
 unfoldable pub oneTest : (k n : ℕ → ℕ) (at : ℕ → ℕ → ℕ) (dev : ℕ → ℕ) → Bool
 oneTest k n at dev = every entityCount (λ a. imp (eqb (k (suc a)) containerKind) (every entityCount (λ b. imp (eqb (k (suc b)) containerKind)
     (every placeCount (λ i. every placeCount (λ j. imp (ltb i (n (suc a))) (imp (ltb j (n (suc b)))
@@ -42,16 +43,16 @@ oneTest k n at dev = every entityCount (λ a. imp (eqb (k (suc a)) containerKind
 unfoldable pub loopTest : (k n : ℕ → ℕ) (at : ℕ → ℕ → ℕ) (dev : ℕ → ℕ) → Bool
 loopTest k n at dev = every entityCount (λ e. up (parent k n at) (suc entityCount) (suc e))
 
--- Rule 3.15: a user's device is a present device.
+-- Rule 3.15: who is on is on a device.
 unfoldable pub deviceTest : (k n : ℕ → ℕ) (at : ℕ → ℕ → ℕ) (dev : ℕ → ℕ) → Bool
 deviceTest k n at dev = every userCount (λ u. imp (not (eqb (dev (suc u)) 0)) (eqb (k (dev (suc u))) deviceKind))
 
--- Rule 3.16: no two users on one device.
+-- Rule 3.16: one user to a device.
 unfoldable pub aloneTest : (k n : ℕ → ℕ) (at : ℕ → ℕ → ℕ) (dev : ℕ → ℕ) → Bool
 aloneTest k n at dev = every userCount (λ u. every userCount (λ v. imp (not (eqb (dev (suc u)) 0))
     (imp (eqb (dev (suc u)) (dev (suc v))) (eqb (suc u) (suc v)))))
 
--- Rule 3.18: a device that nobody is on shows nothing.
+-- Rule 3.18: a screen without a user is empty.
 unfoldable pub idleTest : (k n : ℕ → ℕ) (at : ℕ → ℕ → ℕ) (dev : ℕ → ℕ) → Bool
 idleTest k n at dev = every entityCount (λ e. imp (eqb (k (suc e)) deviceKind)
     (imp (every userCount (λ u. not (eqb (dev (suc u)) (suc e)))) (eqb (n (suc e)) 0)))
@@ -60,33 +61,33 @@ unfoldable pub linksTest : (k n : ℕ → ℕ) (at : ℕ → ℕ → ℕ) (dev :
 linksTest k n at dev = contentsTest k n at dev && (oneTest k n at dev && (loopTest k n at dev
     && (deviceTest k n at dev && (aloneTest k n at dev && idleTest k n at dev))))
 
--- Rule 3.
+-- Rule 3, all of it.
 unfoldable pub wellFormedTest : Tables → Bool
 wellFormedTest d = every userCount (λ u. userTest (d .user (suc u)))
     && (every entityCount (λ e. entityTest (d .entity (suc e))) && linksTest (kinds d) (counts d) (places d) (devices d))
 
--- Rule 4.1: contents at most what holds them.
+-- Rule 4.1: nothing stands in or on what is not at least its level.
 unfoldable pub containedTest : Tables → ℕ → Bool
 containedTest d e = every placeCount (λ i. imp (ltb i (counts d e)) (atMost (d .entity (places d e i) level) (d .entity e level)))
 
--- Rule 4.2: what a logged-on device shows is at most its user's clearance.
+-- Rule 4.2: nobody is shown what they are not cleared for.
 unfoldable pub seenTest : Tables → ℕ → Bool
 seenTest d u = imp (not (eqb (devices d u) 0))
     (every placeCount (λ i. imp (ltb i (counts d (devices d u))) (atMost (d .entity (places d (devices d u) i) level) (d .user u clearance))))
 
--- Rule 4.3: value shown means label shown.
+-- Rule 4.3: no value without its label.
 unfoldable pub labelledTest : Tables → ℕ → Bool
 labelledTest d e = imp (eqb (kinds d e) deviceKind) (every placeCount (λ i. imp (ltb i (counts d e)) (labelled (sums d e i))))
 
--- Rule 4.4: current roles within authorised.
+-- Rule 4.4: nobody acts with a role that is not authorised.
 unfoldable pub rolesTest : Tables → ℕ → Bool
 rolesTest d u = subset roleCount (d .user u current) (d .user u authorised)
 
--- Rule 4.5: a device's level at most its maximum.
+-- Rule 4.5: no device is set above its maximum.
 unfoldable pub ceilingTest : Tables → ℕ → Bool
 ceilingTest d e = imp (eqb (kinds d e) deviceKind) (atMost (d .entity e level) (d .entity e maximum))
 
--- Rule 4.
+-- Rule 4, all of it.
 unfoldable pub secureTest : Tables → Bool
 secureTest d = every entityCount (λ e. containedTest d (suc e)) && (every userCount (λ u. seenTest d (suc u))
     && (every entityCount (λ e. labelledTest d (suc e)) && (every userCount (λ u. rolesTest d (suc u))

@@ -1,4 +1,4 @@
--- The bounded tests for "inside at any depth": steps up from one container to the notice-next, where each stands in at most one.
+-- Rules 3.14 and 6.3: bounded tests for "inside at any depth", steps up from one container to the next.
 use mathlib.Core.Bool.{Bool, false, true}
 use Prim.Native.Nat.{suc, zero, ℕ}
 use lib.Dec.{eqb}

@@ -12,7 +12,7 @@ use Rattle.model.specs.State.WellFormed.{In, Linked}
 use Rattle.model.specs.Tables.EditLaws.{case, member-cases, member-emptied}
 use Rattle.model.specs.Tables.RowLaws.{append-member}
 use Rattle.model.specs.Tables.Rows.{Member, replace}
-use Rattle.model.specs.Tables.Words.{containerKind, deviceKind}
+use Rattle.model.specs.Tables.Words.{containerKind, deviceKind, objectKind}
 
 abbrev pub atRecord : {A : Type 0} → ℕ → A → (ℕ → A) → ℕ → A
 atRecord e v f x = pick (eqb x e) v (f x)
@@ -56,7 +56,7 @@ module _ (k n : ℕ → ℕ) (at : ℕ → ℕ → ℕ) (dev : ℕ → ℕ) (l :
         go (inl m) = inl (p .0, m)
         go (inr q) = inr q
 
-    pub attach : (1 ≤ k e) × (k e ≤ 2) → (k c ≡ containerKind → (b : ℕ) → In k n at b e → ⊥) → (Within (In k n at) c e → ⊥)
+    pub attach : (objectKind ≤ k e) × (k e ≤ containerKind) → (k c ≡ containerKind → (b : ℕ) → In k n at b e → ⊥) → (Within (In k n at) c e → ⊥)
         → (k c ≡ deviceKind → (u : ℕ) × (dev u ≡ c)) → Linked k count+ place+ dev
     attach thing free apart on = record {
       contents = λ x a h. whole x a (grown x a h);
@@ -68,7 +68,7 @@ module _ (k n : ℕ → ℕ) (at : ℕ → ℕ → ℕ) (dev : ℕ → ℕ) (l :
           (z (o .0) (o .1 ∙ sym q))) (λ q. l .idle x h z);
     }
       where
-        whole : (x a : ℕ) → Member (at x) (n x) a ⊎ ((x ≡ c) × (a ≡ e)) → (1 ≤ k a) × (k a ≤ 2)
+        whole : (x a : ℕ) → Member (at x) (n x) a ⊎ ((x ≡ c) × (a ≡ e)) → (objectKind ≤ k a) × (k a ≤ containerKind)
         whole x a (inl m) = l .contents x a m
         whole x a (inr q) = rw (q .1) thing
 
@@ -80,12 +80,12 @@ module _ (k n : ℕ → ℕ) (at : ℕ → ℕ → ℕ) (dev : ℕ → ℕ) (l :
         alone a x y p′ q′ (inr p) (inr q) = p .0 ∙ sym (q .0)
 
   -- a device is in nothing
-  pub device-apart : (c e : ℕ) → k c ≡ deviceKind → (k e ≤ 2) → Within (In k n at) c e → ⊥
+  pub device-apart : (c e : ℕ) → k c ≡ deviceKind → (k e ≤ containerKind) → Within (In k n at) c e → ⊥
   device-apart c e h he (inl q) = omega (arith, ap k q)
   device-apart c e h he (inr p) = let x = held-by p in omega (arith, l .contents (x .0) c (x .1 .1))
 
   -- a number that was absent gets a kind, with nothing in it
-  module _ (e s : ℕ) (gone : k e ≡ 0) (none : n e ≡ 0) (thing : (1 ≤ s) × (s ≤ 2)) where
+  module _ (e s : ℕ) (gone : k e ≡ 0) (none : n e ≡ 0) (thing : (objectKind ≤ s) × (s ≤ containerKind)) where
     empty-in : (b c : ℕ) → In (atRecord e s k) n at b c → In k n at b c
     empty-in b c p = (
       case (λ (y : ℕ). y ≡ containerKind → k b ≡ containerKind) b e s (k b)
@@ -95,7 +95,7 @@ module _ (k n : ℕ → ℕ) (at : ℕ → ℕ → ℕ) (dev : ℕ → ℕ) (l :
 
     pub appear : Linked (atRecord e s k) n at dev
     appear = record {
-      contents = λ x c h. case (λ (y : ℕ). (1 ≤ y) × (y ≤ 2)) c e s (k c) (λ q. thing) (λ q. l .contents x c h);
+      contents = λ x c h. case (λ (y : ℕ). (objectKind ≤ y) × (y ≤ containerKind)) c e s (k c) (λ q. thing) (λ q. l .contents x c h);
       oneContainer = λ c a b p q. l .oneContainer c a b (empty-in a c p) (empty-in b c q);
       noLoop = λ x p. l .noLoop x (fewer empty-in p);
       deviceIs = λ u h. case (λ (y : ℕ). y ≡ deviceKind) (dev u) e s (k (dev u)) (λ q. absurd (omega (arith, l .deviceIs u h, ap k q))) (λ q. l .deviceIs u h);
@@ -104,7 +104,7 @@ module _ (k n : ℕ → ℕ) (at : ℕ → ℕ → ℕ) (dev : ℕ → ℕ) (l :
     }
 
   -- a record with nothing in it, that stands nowhere and is no device, is zeroed
-  module _ (e : ℕ) (nowhere : (b : ℕ) → Member (at b) (n b) e → ⊥) (thing : k e ≤ 2) where
+  module _ (e : ℕ) (nowhere : (b : ℕ) → Member (at b) (n b) e → ⊥) (thing : k e ≤ containerKind) where
     abbrev pub kind- : ℕ → ℕ
     kind- x = pick (eqb x e) 0 (k x)
 
@@ -123,7 +123,8 @@ module _ (k n : ℕ → ℕ) (at : ℕ → ℕ → ℕ) (dev : ℕ → ℕ) (l :
 
     pub vanish : Linked kind- count- place- dev
     vanish = record {
-      contents = λ x c h. case (λ (y : ℕ). (1 ≤ y) × (y ≤ 2)) c e 0 (k c) (λ q. absurd (nowhere x (subst (Member (at x) (n x)) q (still x c h))))
+      contents =
+          λ x c h. case (λ (y : ℕ). (objectKind ≤ y) × (y ≤ containerKind)) c e 0 (k c) (λ q. absurd (nowhere x (subst (Member (at x) (n x)) q (still x c h))))
           (λ q. l .contents x c (still x c h));
       oneContainer = λ c a b p q. l .oneContainer c a b (still-in a c p) (still-in b c q);
       noLoop = λ x p. l .noLoop x (fewer still-in p);

@@ -15,15 +15,15 @@ unfoldable pub labelled : ℕ → Bool
 labelled s = imp (bit valueBit s) (bit labelBit s)
 
 pub record Secure (d : Tables) : Type 0 where
-  -- rule 4.1
+  -- rule 4.1: nothing stands in or on what is not at least its level
   pub contained : (e c : ℕ) → Holds d e c → AtMost (d .entity c level) (d .entity e level)
-  -- rule 4.2
+  -- rule 4.2: nobody is shown what they are not cleared for
   pub seen : (u c : ℕ) → devices d u ≢ 0 → Holds d (devices d u) c → AtMost (d .entity c level) (d .user u clearance)
-  -- rule 4.3
+  -- rule 4.3: no value without its label
   pub valueLabelled : (e i : ℕ) → kinds d e ≡ deviceKind → i < counts d e → T (labelled (sums d e i))
-  -- rule 4.4
+  -- rule 4.4: nobody acts with a role that is not authorised
   pub roles : (u : ℕ) → Subset roleCount (d .user u current) (d .user u authorised)
-  -- rule 4.5
+  -- rule 4.5: no device is set above its maximum
   pub ceiling : (e : ℕ) → kinds d e ≡ deviceKind → AtMost (d .entity e level) (d .entity e maximum)
 
 -- well-formed and secure

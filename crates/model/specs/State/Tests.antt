@@ -8,8 +8,8 @@ use Rattle.model.specs.Tables.Rows.{seek}
 use Rattle.model.specs.Tables.Words.{EntityWord, UserWord, absentKind, authorised, clearance, containerKind, count, current, device}
 use Rattle.model.specs.Tables.Words.{deviceKind, firstNoticed, held, heldOp, kind, lastNoticed, level, mark, maximum, missed}
 use Rattle.model.specs.Tables.Words.{missedLimit, objectKind, operationCount, operationIn, place, placeCount, plainType}
-use Rattle.model.specs.Tables.Words.{positionCount, positionOf, present, releasedType, releaser, shown, spare, sumLimit, triple, type}
-use Rattle.model.specs.Tables.Words.{userCount, value, whoLimit, whoOf}
+use Rattle.model.specs.Tables.Words.{positionCount, positionOf, present, releasedType, releaser, shown, spare, spareCount, sumLimit}
+use Rattle.model.specs.Tables.Words.{triple, type, userCount, value, whoLimit, whoOf}
 
 -- Rules 3.4 and 3.5: the first n places used, distinct, the rest zero.
 unfoldable pub packedTest : (ℕ → ℕ) → ℕ → Bool
@@ -66,4 +66,4 @@ nobodyTest w = eqb (w present) 0 && (eqb (w clearance) 0 && (eqb (w authorised) 
 unfoldable pub userTest : (UserWord → ℕ) → Bool
 userTest w = imp (eqb (w present) 0) (nobodyTest w)
     && (leb (w present) 1 && (ltb (w clearance) levelCount && (ltb (w authorised) roleSets && (ltb (w current) roleSets
-    && (every placeCount (λ i. eqb (w (spare i)) 0) && (imp (eqb (w device) 0) (eqb (w current) 0) && noticeTest (w held) (w heldOp) (w missed)))))))
+    && (every spareCount (λ i. eqb (w (spare i)) 0) && (imp (eqb (w device) 0) (eqb (w current) 0) && noticeTest (w held) (w heldOp) (w missed)))))))

@@ -20,30 +20,30 @@ pub record GoodTriple (t : ℕ) : Type 0 where
 
 -- Words 0 to 6 of an entity: kind k, type t, level l, mark m, value v, releaser r, maximum x.
 pub record Shape (k t l m v r x : ℕ) : Type 0 where
-  -- rule 3.3
+  -- rule 3.3: each word within the numbers that its layout gives; a value is any word
   pub kindIn : k ≤ deviceKind
   pub typeIn : t ≤ releasedType
   pub levelIn : l < levelCount
   pub markIn : m ≤ 1
   pub maximumIn : x < levelCount
-  -- rule 3.8
+  -- rule 3.8: drafts, releases and marks are a container's
   pub typed : t ≢ plainType → k ≡ containerKind
   pub marked : m ≢ 0 → k ≡ containerKind
-  -- rule 3.9
+  -- rule 3.9: a releaser exactly where something is released
   pub releaserOn : t ≡ releasedType → (1 ≤ r) × (r ≤ userCount)
   pub releaserOff : t ≢ releasedType → r ≡ 0
-  -- rule 3.10
+  -- rule 3.10: what is no device has no maximum
   pub maximumOn : k ≢ deviceKind → x ≡ 0
-  -- rule 3.11
+  -- rule 3.11: a device has no value of its own
   pub deviceValue : k ≡ deviceKind → v ≡ 0
 
 -- The contents of an entity of kind k, n places used, and what is shown of each.
 pub record Filled (k n : ℕ) (at sum : ℕ → ℕ) : Type 0 where
-  -- rule 3.4
+  -- rule 3.4: no gap, and none twice
   pub packed : Packed at n
-  -- rule 3.7
+  -- rule 3.7: nothing stands in an object
   pub objectEmpty : k ≡ objectKind → n ≡ 0
-  -- rule 3.12
+  -- rule 3.12: a device says how much it shows of each; nothing else does
   pub sums : k ≡ deviceKind → (i : ℕ) → i < n → (1 ≤ sum i) × (sum i ≤ sumLimit)
   pub noSums : k ≢ deviceKind → (i : ℕ) → sum i ≡ 0
   pub restSums : (i : ℕ) → n ≤ i → sum i ≡ 0
@@ -55,7 +55,7 @@ pub record Access (n : ℕ) (at : ℕ → ℕ) : Type 0 where
 
 -- An entity's record by itself.
 pub record EntityOk (w : EntityWord → ℕ) : Type 0 where
-  -- rule 3.1
+  -- rule 3.1: what is absent has nothing
   pub absent : w kind ≡ absentKind → (f : EntityWord) → w f ≡ 0
   pub shape : Shape (w kind) (w type) (w level) (w mark) (w value) (w releaser) (w maximum)
   pub filled : Filled (w kind) (w count) (λ i. w (place i)) (λ i. w (shown i))
@@ -63,27 +63,27 @@ pub record EntityOk (w : EntityWord → ℕ) : Type 0 where
 
 -- A notice: the refusal held h, its operation o, the count n.
 pub record Notice (h o n : ℕ) : Type 0 where
-  -- rule 3.19
+  -- rule 3.19: only a refusal that leaves a notice is held
   pub heldIn : (h ≡ 0) ⊎ ((firstNoticed ≤ h) × (h ≤ lastNoticed))
-  -- rule 3.2
+  -- rule 3.2: the operation refused, or 0
   pub operationIn : o ≤ operationCount
-  -- rule 3.21
+  -- rule 3.21: the count has an end
   pub countIn : n ≤ missedLimit
-  -- rule 3.20
+  -- rule 3.20: nothing is held just where nothing is counted, and then there is no operation
   pub none : (h ≡ 0) ↔ (n ≡ 0)
   pub quiet : h ≡ 0 → o ≡ 0
 
 -- A user's record by itself.
 pub record UserOk (w : UserWord → ℕ) : Type 0 where
-  -- rule 3.1
+  -- rule 3.1: who is absent has nothing
   pub absent : w present ≡ 0 → (f : UserWord) → w f ≡ 0
-  -- rule 3.2
+  -- rule 3.2: each word within its numbers; that the device is 0 to 64 follows from 3.15
   pub presentIn : w present ≤ 1
   pub clearanceIn : w clearance < levelCount
   pub authorisedIn : w authorised < roleSets
   pub currentIn : w current < roleSets
   pub spareZero : (i : ℕ) → w (spare i) ≡ 0
-  -- rule 3.17
+  -- rule 3.17: who is off acts with no role
   pub off : w device ≡ 0 → w current ≡ 0
   pub notice : Notice (w held) (w heldOp) (w missed)
 
@@ -93,17 +93,17 @@ In k n at b c = (k b ≡ containerKind) × Member (at b) (n b) c
 
 -- What one record says of another, over the columns kinds k, counts n, places at, and the users' devices dev.
 pub record Linked (k n : ℕ → ℕ) (at : ℕ → ℕ → ℕ) (dev : ℕ → ℕ) : Type 0 where
-  -- rule 3.6
+  -- rule 3.6: only objects and containers stand in places
   pub contents : (e c : ℕ) → Member (at e) (n e) c → (objectKind ≤ k c) × (k c ≤ containerKind)
-  -- rule 3.13
+  -- rule 3.13: one container at most; screens do not count
   pub oneContainer : (c a b : ℕ) → In k n at a c → In k n at b c → a ≡ b
-  -- rule 3.14
+  -- rule 3.14: nothing lies in itself, however deep
   pub noLoop : (e : ℕ) → Inside (In k n at) e e → ⊥
-  -- rule 3.15
+  -- rule 3.15: who is on is on a device
   pub deviceIs : (u : ℕ) → dev u ≢ 0 → k (dev u) ≡ deviceKind
-  -- rule 3.16
+  -- rule 3.16: one user to a device; 0 is none
   pub oneUser : (u v : ℕ) → dev u ≢ 0 → dev u ≡ dev v → u ≡ v
-  -- rule 3.18
+  -- rule 3.18: a screen without a user is empty
   pub idle : (e : ℕ) → k e ≡ deviceKind → ((u : ℕ) → dev u ≢ e) → n e ≡ 0
 
 abbrev pub Links : Tables → Type 0
@@ -117,7 +117,7 @@ Holds d e c = Member (places d e) (counts d e) c
 abbrev pub InTables : Tables → ℕ → ℕ → Type 0
 InTables d = In (kinds d) (counts d) (places d)
 
--- e is an object or a container
+-- rule 5.5: e is an object or a container
 abbrev pub Thing : Tables → ℕ → Type 0
 Thing d e = (objectKind ≤ kinds d e) × (kinds d e ≤ containerKind)
 

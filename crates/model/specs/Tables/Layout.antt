@@ -9,7 +9,7 @@ use lib.ListN.{getD}
 use Rattle.model.specs.Basics.Choice.{pick}
 use Rattle.model.specs.Tables.Words.{EntityWord, Tables, UserWord, authorised, clearance, count, current, device, entityCount, held}
 use Rattle.model.specs.Tables.Words.{heldOp, index, kind, level, mark, maximum, missed, place, placeCount, present, releaser, shown}
-use Rattle.model.specs.Tables.Words.{spare, triple, type, userCount, value}
+use Rattle.model.specs.Tables.Words.{spare, spareCount, triple, type, userCount, value}
 
 -- the width of a user's record and of an entity's
 abbrev pub userWidth : ℕ
@@ -79,4 +79,4 @@ pub record Bounded (d : Tables) : Type 0 where
   pub placesOut : (e i : ℕ) → placeCount ≤ i → d .entity e (place i) ≡ 0
   pub shownOut : (e i : ℕ) → placeCount ≤ i → d .entity e (shown i) ≡ 0
   pub triplesOut : (e i : ℕ) → placeCount ≤ i → d .entity e (triple i) ≡ 0
-  pub sparesOut : (u i : ℕ) → placeCount ≤ i → d .user u (spare i) ≡ 0
+  pub sparesOut : (u i : ℕ) → spareCount ≤ i → d .user u (spare i) ≡ 0

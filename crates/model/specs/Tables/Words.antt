@@ -2,7 +2,7 @@
 use Prim.Native.Nat.{_%_, _*_, _+_, _/_, suc, ℕ}
 use Rattle.model.specs.Level.{roleCount}
 
--- Rule 2.1: sixteen users and sixty-four entities, both numbered from 1; rows of eight places.
+-- Rule 2.1: sixteen users and sixty-four entities, both numbered from 1; rows of eight places, and eight spare words of a user.
 abbrev pub userCount : ℕ
 userCount = 16
 
@@ -11,6 +11,9 @@ entityCount = 64
 
 abbrev pub placeCount : ℕ
 placeCount = 8
+
+abbrev pub spareCount : ℕ
+spareCount = 8
 
 -- Rule 2.2: the words of a user. `held`, `heldOp` and `missed` are the notice; the spare words are zero.
 pub data UserWord : Type 0 where
@@ -22,7 +25,7 @@ pub data EntityWord : Type 0 where
   kind type level mark value releaser maximum count : EntityWord
   place shown triple : ℕ → EntityWord
 
--- One word of one record. Whatever stands outside the records and their rows is zero.
+-- Rule 2.1: one word of one record. Whatever stands outside the records and their rows is zero.
 pub record Tables : Type 0 where
   pub user : ℕ → UserWord → ℕ
   pub entity : ℕ → EntityWord → ℕ
@@ -63,26 +66,33 @@ idBit = 2
 abbrev pub sumLimit : ℕ
 sumLimit = 7
 
--- Rule 2.5: an access triple is who × 65,536 + operation × 256 + operand position.
+-- Rule 2.5: an access triple is one number of three parts, who, operation and operand position, which weigh so much.
+abbrev pub operationWeight : ℕ
+operationWeight = 256
+
+abbrev pub whoWeight : ℕ
+whoWeight = 65536
+
 abbrev pub tripleOf : ℕ → ℕ → ℕ → ℕ
-tripleOf w o p = w * 65536 + o * 256 + p
+tripleOf w o p = w * whoWeight + o * operationWeight + p
 
 abbrev pub whoOf : ℕ → ℕ
-whoOf t = t / 65536
+whoOf t = t / whoWeight
 
 abbrev pub operationIn : ℕ → ℕ
-operationIn t = t / 256 % 256
+operationIn t = t / operationWeight % operationWeight
 
 abbrev pub positionOf : ℕ → ℕ
-positionOf t = t % 256
+positionOf t = t % operationWeight
 
--- Who is a user's number, or 17 + r for the role of bit r.
+-- Rule 2.5: who is a user's number, or 17 + r for the role of bit r.
 abbrev pub whoRole : ℕ → ℕ
 whoRole r = suc userCount + r
 
 abbrev pub whoLimit : ℕ
 whoLimit = userCount + roleCount
 
+-- Rule 3.22: operations are 1 to 20, positions 1 and 2.
 abbrev pub operationCount : ℕ
 operationCount = 20
 

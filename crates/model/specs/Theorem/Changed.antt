@@ -30,7 +30,8 @@ accepted-framed d w q e =
     )
 
 -- What holds of each allowed effect, of each notice and of the tables before holds of the tables after.
-after-has : (d : Tables) → WellFormed d → (q : Request) (P : Tables → Type 0) → ((o : Op) → Allowed o (asked d q) d → P (rowOf o .effect (asked d q) d))
+after-has : (d : Tables) → WellFormed d → (q : Request) (P : Tables → Type 0)
+    → ((o : Op) → Allowed o (asked d q) d → P (rowOf o .effect (asked d q) d))
     → ((n : ℕ) → P (notice (q .user) n (noticedOp q) d)) → P d → P (after d q)
 after-has d w q P effects notices none = after-each d q P settled (λ l h. none) (λ h. notices (answer d q))
   where

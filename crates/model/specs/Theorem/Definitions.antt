@@ -1,4 +1,4 @@
--- Definitions 5 to 14 of the model as document 01 reads them (rules 9.4 to 9.14), as predicates of the tables before, a request and
+-- Definitions 3 to 14 of the model as document 01 reads them (rules 9.3 to 9.14), as predicates of the tables before, a request and
 -- the tables after. They say nothing of this desk's answer: anybody's desk can be judged by them.
 use mathlib.Core.Bool.{Bool, _&&_}
 use mathlib.Core.Logic.{_≢_, _⊎_}
@@ -17,7 +17,16 @@ use Rattle.model.specs.Tables.Words.{EntityWord, Tables, UserWord, absen
 use Rattle.model.specs.Tables.Words.{devices, draftType, held, idBit, kinds, maximum, missed, places, releasedType, releaser, sums}
 use Rattle.model.specs.Tables.Words.{type, userTag}
 
--- present before and after
+-- Definition 3 (rule 9.3): a desk is a transform of tables by requests, and the tables that it starts with.
+abbrev pub Transform : Type 0
+Transform = Tables → Request → Tables
+
+-- Definition 4 (rule 9.4): a history pairs each moment with the tables that stand and the request that is put to them.
+pub record History (T : Transform) (start : Tables) (tables : ℕ → Tables) (requests : ℕ → Request) : Type 0 where
+  pub starts : tables 0 ≡ start
+  pub goesOn : (n : ℕ) → tables (suc n) ≡ T (tables n) (requests n)
+
+-- Rule 9: the numbers that rules 9.6 and 9.8 to 9.11 run over are present before and after.
 abbrev pub Both : Tables → Tables → ℕ → Type 0
 Both d d′ x = (kinds d x ≢ absentKind) × (kinds d′ x ≢ absentKind)
 
@@ -96,15 +105,6 @@ pub record Obeys (d : Tables) (q : Request) (d′ : Tables) : Type 0 where
   pub setting : SetSecure d q d′
   pub downgrade : DowngradeSecure d q d′
   pub release : ReleaseSecure d q d′
-
--- Definition 3 (rule 9.3): a desk is a transform of tables by requests, and the tables that it starts with.
-abbrev pub Transform : Type 0
-Transform = Tables → Request → Tables
-
--- Definition 4 (rule 9.4): a history pairs each moment with the tables that stand and the request that is put to them.
-pub record History (T : Transform) (start : Tables) (tables : ℕ → Tables) (requests : ℕ → Request) : Type 0 where
-  pub starts : tables 0 ≡ start
-  pub goesOn : (n : ℕ) → tables (suc n) ≡ T (tables n) (requests n)
 
 -- Definition 12 (rule 9.12), of all tables that words can give.
 abbrev pub TransformSecure : Transform → Type 0

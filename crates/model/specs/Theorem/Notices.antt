@@ -75,7 +75,8 @@ accepted-notices d w q e x n =
 
 pub held-kept : (d : Tables) → WellFormed d → (q : Request) (x : ℕ) → d .user x held ≢ 0
     → (answer d q ≡ 0 → opOf (q .operation) ≡ some toAcknowledge → x ≢ q .user) → StillHeld d (after d q) x
-held-kept d w q x h n = after-each d q (λ (d′ : Tables). StillHeld d d′ x) settled (λ l m. record { refusal = refl; operation = refl; count = omega arith }) noticed
+held-kept d w q x h n =
+    after-each d q (λ (d′ : Tables). StillHeld d d′ x) settled (λ l m. record { refusal = refl; operation = refl; count = omega arith }) noticed
   where
     settled : answer d q ≡ 0 → StillHeld d (effect d q) x
     settled e =

@@ -1,4 +1,4 @@
--- The same over words: for any two lists of words the answer and the words afterwards are fixed, and what was well-formed and secure stays so.
+-- The step on words (rules 7.1 and 8): what it answers and leaves, of any two lists of words, and that what was well-formed and secure stays so.
 use mathlib.Core.Bool.{Bool, false, not, true}
 use mathlib.Core.List.{List, [], _∷_}
 use mathlib.Core.Path.{_∙_, _≡_, ap, refl, subst, sym}
@@ -25,7 +25,7 @@ use Rattle.model.specs.Tables.Layout.{Bounded, tablesOf, wordCount}
 use Rattle.model.specs.Tables.LayoutLaws.{bounded}
 use Rattle.model.specs.Tables.Words.{Tables, firstNoticed}
 use Rattle.model.specs.Tables.WordsOf.{wordsOf}
-use Rattle.model.specs.Tables.WordsOfLaws.{tablesOf-injective, tablesOf-wordsOf, wordsOf-length, wordsOf-tablesOf}
+use Rattle.model.specs.Tables.WordsOfLaws.{tablesOf-wordsOf, wordsOf-length, wordsOf-tablesOf}
 use Rattle.model.specs.Theorem.Acceptance.{accepted, accepted-good, judged}
 use Rattle.model.specs.Theorem.Definitions.{Obeys}
 use Rattle.model.specs.Theorem.Kept.{request-good}
@@ -41,7 +41,8 @@ sized-agrees t q = agrees-and (agrees-eq (length t) wordCount) (agrees-eq (lengt
 -- Other sizes are answered 1, and nothing changes.
 pub unsized : (t q : List ℕ) → T (not (sized t q)) → (answerOf t q ≡ 1) × (afterOf t q ≡ t)
 unfolding answerOf afterOf
-unsized t q n = (pick-false (sized t q) (answer (tablesOf t) (requestOf q)) 1 n, pick-false (sized t q) (wordsOf (after (tablesOf t) (requestOf q))) t n)
+unsized t q n =
+    (pick-false (sized t q) (answer (tablesOf t) (requestOf q)) 1 n, pick-false (sized t q) (wordsOf (after (tablesOf t) (requestOf q))) t n)
 
 -- On lists of the right sizes the step is the ladder's.
 pub answerOf-sized : (t q : List ℕ) → T (sized t q) → answerOf t q ≡ answer (tablesOf t) (requestOf q)
@@ -76,10 +77,6 @@ afterOf-length t q = go (sized t q) (sized-agrees t q .to)
         → length (pick b (wordsOf (after (tablesOf t) (requestOf q))) t) ≡ length t
     go true f = wordsOf-length (after (tablesOf t) (requestOf q)) ∙ sym (f tt .0)
     go false f = refl
-
--- No other words give those tables.
-pub afterOf-unique : (t q r : List ℕ) → T (sized t q) → length r ≡ wordCount → tablesOf r ≡ after (tablesOf t) (requestOf q) → r ≡ afterOf t q
-afterOf-unique t q r h l e = tablesOf-injective r (afterOf t q) l (afterOf-length t q ∙ sized-agrees t q .to h .0) (e ∙ sym (afterOf-tables t q h))
 
 -- Refusals 1 to 4 leave every word.
 pub low-refusal-words : (t q : List ℕ) → 1 ≤ answerOf t q → answerOf t q < firstNoticed → afterOf t q ≡ t

@@ -11,7 +11,7 @@ use Rattle.model.specs.Theorem.Definitions.{Quiet}
 use Rattle.model.specs.Theorem.LawfulNotice.{notice-quiet}
 
 module _ (d : Tables) (q : Request) where
-  -- Refusals 1 to 4 change nothing.
+  -- Refusals 2 to 4 change nothing; 1 is judged on words (`low-refusal-words`).
   pub low-refusal : 1 ≤ answer d q → answer d q < firstNoticed → after d q ≡ d
   low-refusal l h = after-unchanged d q (answer d q) refl l h
 
