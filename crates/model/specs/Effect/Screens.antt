@@ -7,7 +7,7 @@ use Rattle.model.specs.Tables.Rows.{replace, seek}
 use Rattle.model.specs.Tables.Words.{EntityWord, Tables, UserWord, count, counts, current, device, devices, place, places, shown}
 use Rattle.model.specs.Tables.Words.{sums}
 
--- the place of e on the device v, or the notice-next free one
+-- the place of e on the device v, or the next free one
 abbrev pub spot : ℕ → ℕ → Tables → ℕ
 spot v e d = seek e (places d v) (counts d v)
 
