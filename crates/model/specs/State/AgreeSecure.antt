@@ -5,7 +5,7 @@ use mathlib.Core.Logic.{_≢_, _⊎_, inl, inr}
 use mathlib.Core.Path.{_≡_, refl, subst}
 use Prim.Native.Nat.{_<_, _≤_, ℕ}
 use native.Mathlib.Omega.{arith}
-use lib.Dec.{T, eqb, eqb→eq}
+use lib.Dec.{T, eqb}
 use lib.ListN.{length}
 use Rattle.model.specs.Basics.Agree.{Agrees, agreement, agrees-T, agrees-and, agrees-as, agrees-eq, agrees-range}
 use Rattle.model.specs.Basics.Choice.{pick}
@@ -88,35 +88,24 @@ module _ (d : Tables) (w : WellFormed d) where
       no-roles : (u : ℕ) → (u ≡ 0) ⊎ (userCount < u) → Subset roleCount (d .user u current) (d .user u authorised)
       no-roles u q = rw (o .userOut u q current) (subset-zero roleCount (d .user u authorised))
 
--- Rule 8.5: an answer 0 says well-formed and secure.
+-- Rule 8.5: the answer 0 says well-formed and secure.
+pub judge-agrees : (d : Tables) → Bounded d → Agrees (eqb (judge d) 0) (Good d)
+unfolding judge
+judge-agrees d o = go (wellFormedTest d) (secureTest d) (wellFormed-agrees d o) (λ w. secure-agrees d w)
+  where
+    go : (a b : Bool) → Agrees a (WellFormed d) → (WellFormed d → Agrees b (Secure d)) → Agrees (eqb (pick a (pick b 0 3) 2) 0) (Good d)
+    go true true f g = record { to = λ t. (f .to tt, g (f .to tt) .to tt); from = λ z. tt }
+    go true false f g = record { to = λ t. absurd t; from = λ z. g (z .0) .from (z .1) }
+    go false b f g = record { to = λ t. absurd t; from = λ z. f .from (z .0) }
+
 pub judge-good : (d : Tables) → Bounded d → judge d ≡ 0 → Good d
-unfolding judge
-judge-good d o e = go (wellFormedTest d) (secureTest d) (wellFormed-agrees d o .to) (λ w. secure-agrees d w .to) e
-  where
-    go : (a b : Bool) → (T a → WellFormed d) → (WellFormed d → T b → Secure d) → _≡_ {A = ℕ} (pick a (pick b 0 3) 2) 0 → Good d
-    go true true f g e = (f tt, g (f tt) tt)
-    go true false f g e = absurd (let z : _≡_ {A = ℕ} 3 0 = e in omega arith)
-    go false b f g e = absurd (let z : _≡_ {A = ℕ} 2 0 = e in omega arith)
+judge-good d o e = judge-agrees d o .to (agrees-eq (judge d) 0 .from e)
 
--- and well-formed, secure tables are answered 0
-pub good-judged : (d : Tables) → Good d → judge d ≡ 0
-unfolding judge
-good-judged d g =
-    go (wellFormedTest d) (secureTest d) (wellFormed-agrees d (wellFormed-bounded d (g .0)) .from (g .0)) (secure-agrees d (g .0) .from (g .1))
-  where
-    go : (a b : Bool) → T a → T b → _≡_ {A = ℕ} (pick a (pick b 0 3) 2) 0
-    go true true s t = refl
-    go true false s t = absurd t
-    go false b s t = absurd s
-
--- Rule 8.5 of words: the answer 0 says 2,304 words that give well-formed, secure tables.
+-- Of words: 2,304 of them, which give well-formed, secure tables.
 pub check-agrees : (t : List ℕ) → Agrees (eqb (check t) 0) ((length t ≡ wordCount) × Good (tablesOf t))
 unfolding check
 check-agrees t = go (eqb (length t) wordCount) (agrees-eq (length t) wordCount)
   where
     go : (b : Bool) → Agrees b (length t ≡ wordCount) → Agrees (eqb (pick b (judge (tablesOf t)) 1) 0) ((length t ≡ wordCount) × Good (tablesOf t))
-    go true a = record {
-      to = λ z. (a .to tt, judge-good (tablesOf t) (bounded t) (eqb→eq (judge (tablesOf t)) 0 z));
-      from = λ z. agrees-eq (judge (tablesOf t)) 0 .from (good-judged (tablesOf t) (z .1));
-    }
+    go true a = record { to = λ z. (a .to tt, judge-agrees (tablesOf t) (bounded t) .to z); from = λ z. judge-agrees (tablesOf t) (bounded t) .from (z .1) }
     go false a = record { to = λ z. absurd z; from = λ z. absurd (a .from (z .0)) }
