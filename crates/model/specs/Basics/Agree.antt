@@ -105,6 +105,24 @@ agrees-range n p P a z out =
         go true (under h) = f i h
         go false (over h) = out (suc i) (omega arith)
 
+-- some number below n passes
+pub agrees-some : (n : ℕ) (p : ℕ → Bool) (P : ℕ → Type 0) → ((i : ℕ) → Agrees (p i) (P i))
+    → Agrees (not (every n (λ i. not (p i)))) ((i : ℕ) × (i < n) × P i)
+unfolding every
+agrees-some zero p P a = record { to = λ t. absurd t; from = λ z. absurd (omega (arith, z .1)) }
+agrees-some (suc n) p P a = go (p n) (every n (λ i. not (p i))) (a n) (agrees-some n p P a)
+  where
+    go : (b c : Bool) → Agrees b (P n) → Agrees (not c) ((i : ℕ) × (i < n) × P i) → Agrees (not (not b && c)) ((i : ℕ) × (i < suc n) × P i)
+    go true c x y = record { to = λ t. (n, omega arith, x .to tt); from = λ z. tt }
+    go false c x y = record {
+      to = λ t. let z = y .to t in (z .0, omega (arith, z .1), z .2);
+      from = λ z. y .from (lower-one z (eq-or-lt-of-le (le-of-suc-le-suc (z .1))));
+    }
+      where
+        lower-one : (z : (i : ℕ) × (i < suc n) × P i) → (z .0 ≡ n) ⊎ (z .0 < n) → (i : ℕ) × (i < n) × P i
+        lower-one z (inl e) = absurd (x .from (subst P e (z .2)))
+        lower-one z (inr l) = (z .0, l, z .2)
+
 -- a test that is its own statement
 pub agrees-T : (b : Bool) → Agrees b (T b)
 agrees-T b = record { to = λ t. t; from = λ t. t }

@@ -3,12 +3,11 @@ use mathlib.Core.Bool.{Bool, _&&_, false, not, true}
 use mathlib.Core.List.{List, List·Memᴰ, List·Memᴰ·cases-cons, List·Memᴰ·head, List·Memᴰ·not-nil, List·Memᴰ·tail, [], _∷_}
 use mathlib.Core.Logic.{_≢_, _⊎_, inl, inr}
 use mathlib.Core.Path.{_≡_, refl, subst, sym}
-use Prim.Native.Nat.{_<_, _≤_, suc, zero, ℕ}
-use native.Mathlib.Nat.{eq-or-lt-of-le, le-of-suc-le-suc}
+use Prim.Native.Nat.{_<_, _≤_, suc, ℕ}
 use native.Mathlib.Omega.{arith}
 use lib.Dec.{T, eqb, ltb}
 use Rattle.model.specs.Basics.Agree.{Agrees, agrees-T, agrees-and, agrees-as, agrees-eq, agrees-imp, agrees-not, agrees-or}
-use Rattle.model.specs.Basics.Agree.{agrees-range, agrees-twice}
+use Rattle.model.specs.Basics.Agree.{agrees-range, agrees-some, agrees-twice}
 use Rattle.model.specs.Basics.TestLaws.{is-true}
 use Rattle.model.specs.Basics.Tests.{every, imp}
 use Rattle.model.specs.Level.{AtMost, atMost, bit, roleCount}
@@ -27,25 +26,6 @@ use Rattle.model.specs.Tables.Layout.{Bounded}
 use Rattle.model.specs.Tables.Rows.{Member, seek}
 use Rattle.model.specs.Tables.Words.{Tables, clearance, count, counts, current, device, deviceKind, devices, entityCount, kind, kinds}
 use Rattle.model.specs.Tables.Words.{level, mark, placeCount, places, tripleOf, triples, userCount, whoRole}
-
--- some number below n passes
-agrees-some : (n : ℕ) (p : ℕ → Bool) (P : ℕ → Type 0) → ((i : ℕ) → Agrees (p i) (P i))
-    → Agrees (not (every n (λ i. not (p i)))) ((i : ℕ) × (i < n) × P i)
-unfolding every
-agrees-some zero p P a = record { to = λ t. absurd t; from = λ z. absurd (omega (arith, z .1)) }
-agrees-some (suc n) p P a = go (p n) (every n (λ i. not (p i))) (a n) (agrees-some n p P a)
-  where
-    go : (b c : Bool) → Agrees b (P n) → Agrees (not c) ((i : ℕ) × (i < n) × P i) → Agrees (not (not b && c)) ((i : ℕ) × (i < suc n) × P i)
-    go true c x y = record { to = λ t. (n, omega arith, x .to tt); from = λ z. tt }
-    go false c x y = record {
-      to = λ t. let z = y .to t in (z .0, omega (arith, z .1), z .2);
-      from = λ z. y .from
-          (lower-one z (eq-or-lt-of-le (le-of-suc-le-suc (z .1))));
-    }
-      where
-        lower-one : (z : (i : ℕ) × (i < suc n) × P i) → (z .0 ≡ n) ⊎ (z .0 < n) → (i : ℕ) × (i < n) × P i
-        lower-one z (inl e) = absurd (x .from (subst P e (z .2)))
-        lower-one z (inr l) = (z .0, l, z .2)
 
 -- Rule 5.6: the test is of current roles.
 pub role-agrees : (d : Tables) (u r : ℕ) → Agrees (hasRole d u r) (HasRole d u r)
