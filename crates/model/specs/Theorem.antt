@@ -10,6 +10,7 @@ pub mod Kept
 pub mod Histories
 pub mod LawfulSame
 pub mod LawfulShow
+pub mod LawfulScreen
 pub mod Lawful
 pub mod LawfulNotice
 pub mod System

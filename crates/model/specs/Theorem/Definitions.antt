@@ -67,9 +67,10 @@ ShowsId d v x = (kinds d v ≡ deviceKind) × ((i : ℕ) × (i < counts d v) × 
 abbrev pub NamedOpenly : Tables → Request → ℕ → Type 0
 NamedOpenly d q x = (o : Op) × Meant o d q × ((k : ℕ) × Operand o k × (operand (asked d q) k ≡ x) × Open d (q .user) (basisOf (asked d q) k))
 
--- Definition 8 (rule 9.8): an ID newly shown on the requester's device is one that the request names openly.
+-- Definition 8 (rule 9.8): an ID that the requester's device shows afterwards, and did not show before, is one that the request names
+-- openly; a requester who is on another device than before had that one before.
 abbrev pub TranslationSecure : Tables → Request → Tables → Type 0
-TranslationSecure d q d′ = (x : ℕ) → Both d d′ x → ShowsId d′ (devices d′ (q .user)) x → ShowsId d (devices d′ (q .user)) x ⊎ NamedOpenly d q x
+TranslationSecure d q d′ = (x : ℕ) → Both d d′ x → ShowsId d′ (devices d′ (q .user)) x → ShowsId d (devices d (q .user)) x ⊎ NamedOpenly d q x
 
 -- Definition 9 (rule 9.9): maxima, clearances and authorised roles are set by the officer only, current roles by the user or the officer.
 pub record SetSecure (d : Tables) (q : Request) (d′ : Tables) : Type 0 where

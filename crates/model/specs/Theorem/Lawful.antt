@@ -21,6 +21,7 @@ use Rattle.model.specs.Tables.Words.{Tables, absentKind, containerKind, 
 use Rattle.model.specs.Theorem.Definitions.{Both, Flows, NamedOpenly, Obeys, ReleaseSecure, Released, ShowsId, TranslationSecure}
 use Rattle.model.specs.Theorem.LawfulSame.{Changes, downgrade-one, downgrade-same, erased, ids-same, release-same, sames, set-current}
 use Rattle.model.specs.Theorem.LawfulSame.{set-officer, set-same, unborn}
+use Rattle.model.specs.Theorem.LawfulScreen.{screen-kept}
 use Rattle.model.specs.Theorem.LawfulShow.{clear-ids, erase-ids, fresh-ids, leave-ids, put-ids, show-ids, show-named}
 use Rattle.model.specs.Theorem.Statements.{Ids}
 
@@ -218,12 +219,13 @@ pub ids-lawful : (o : Op) (d : Tables) → WellFormed d → (q : Request) → Ac
 ids-lawful o d w q a = changes d q o a .ids
 
 -- Rule 9.8 on the requester's device, where the paper asks it.
-translation-lawful : (d d′ : Tables) (q : Request) → Ids d q d′ → TranslationSecure d q d′
-translation-lawful d d′ q f x b h = go (f (devices d′ (q .user)) x b h)
+translation-lawful : (d d′ : Tables) (q : Request) → Ids d q d′ → ((x : ℕ) → ShowsId d (devices d′ (q .user)) x → ShowsId d (devices d (q .user)) x)
+    → TranslationSecure d q d′
+translation-lawful d d′ q f kept x b h = go (f (devices d′ (q .user)) x b h)
   where
     go : ShowsId d (devices d′ (q .user)) x ⊎ ((devices d′ (q .user) ≡ devices d (q .user)) × NamedOpenly d q x)
-        → ShowsId d (devices d′ (q .user)) x ⊎ NamedOpenly d q x
-    go (inl z) = inl z
+        → ShowsId d (devices d (q .user)) x ⊎ NamedOpenly d q x
+    go (inl z) = inl (kept x z)
     go (inr z) = inr (z .1)
 
 -- Rules 9.5 to 9.11: every accepted request obeys all seven definitions.
@@ -232,7 +234,7 @@ lawful o d w q a = record {
   access = inr (o, a .meant, a .permitted);
   copy = inr (o, a .meant, flows-upward o (asked d q) d (rowOf o .effect (asked d q) d) (a .allowed));
   ccr = inr (o, a .meant, a .cleared);
-  translation = translation-lawful d (rowOf o .effect (asked d q) d) q (ids-lawful o d w q a);
+  translation = translation-lawful d (rowOf o .effect (asked d q) d) q (ids-lawful o d w q a) (screen-kept o d w q a);
   setting = changes d q o a .setting;
   downgrade = changes d q o a .downgrade;
   release = changes d q o a .release;

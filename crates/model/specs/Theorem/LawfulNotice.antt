@@ -1,6 +1,6 @@
 -- Where nothing but the requester's notice has changed, Definitions 5 to 11 hold; a notice changes nothing else.
 use mathlib.Core.Logic.{inl}
-use mathlib.Core.Path.{_∙_, _≡_, refl, sym}
+use mathlib.Core.Path.{_∙_, _≡_, refl, subst, sym}
 use Prim.Native.Nat.{ℕ}
 use lib.Dec.{T}
 use Rattle.model.specs.Effect.Notice.{notice}
@@ -23,7 +23,7 @@ quiet-obeys d d′ q c = record {
   access = inl c;
   copy = inl c;
   ccr = inl c;
-  translation = λ x b h. inl (quiet-ids d d′ (q .user) c (devices d′ (q .user)) x h);
+  translation = λ x b h. inl (subst (λ (v : ℕ). ShowsId d v x) (c .users (q .user) device (λ z t. t)) (quiet-ids d d′ (q .user) c (devices d′ (q .user)) x h));
   setting = set-same q d d′ (λ x b. c .entities x maximum) (λ x. c .users x clearance (λ e t. t)) (λ x. c .users x authorised (λ e t. t))
       (λ x. c .users x current (λ e t. t));
   downgrade = downgrade-same q d d′ (λ x b. c .entities x level);

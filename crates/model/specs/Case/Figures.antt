@@ -1,0 +1,64 @@
+-- The figures of document 01, each as a number: names stand in the definitions, and here is what they come to.
+use mathlib.Core.Bool.{_&&_, not, true}
+use mathlib.Core.Path.{_≡_, refl}
+use Prim.Native.Nat.{_+_, _^_, ℕ}
+use native.Mathlib.Omega.{arith}
+use Rattle.model.specs.Basics.Tests.{every, imp}
+use Rattle.model.specs.Effect.Places.{draftSort, objectSort}
+use Rattle.model.specs.Level.{atMost, atMostOver, bit, compartmentCount, downgrader, levelCount, officer, rank, rankCount, releasing}
+use Rattle.model.specs.Level.{roleSets, subset}
+use Rattle.model.specs.Request.Words.{nameCount, requestWords}
+use Rattle.model.specs.Tables.Layout.{entityWidth, userWidth, wordCount}
+use Rattle.model.specs.Tables.Words.{absentKind, containerKind, deviceKind, draftType, entityCount, firstNoticed, idBit, labelBit}
+use Rattle.model.specs.Tables.Words.{lastNoticed, missedLimit, objectKind, operationCount, operationIn, placeCount, plainType}
+use Rattle.model.specs.Tables.Words.{positionCount, positionOf, releasedType, sumLimit, tripleOf, userCount, valueBit, whoLimit}
+use Rattle.model.specs.Tables.Words.{whoOf, whoRole}
+
+-- Rule 1.1: ranks 0 to 3, compartments 0 to 255, levels 0 to 1,023.
+pub levels-are : (rankCount ≡ 4) × (2 ^ compartmentCount ≡ 256) × (levelCount ≡ 1024)
+levels-are = (refl, refl, refl)
+
+-- Rule 1.2: no rank makes up for a compartment, whichever of the eight it is; and a rank counts as such.
+pub compartments-apart : every 8 (λ i. not (atMost (2 ^ i) 768) && (atMost (2 ^ i) 255 && not (atMost (256 + 2 ^ i) 255))) ≡ true
+unfolding every atMost atMostOver rank subset bit imp
+compartments-apart = refl
+
+pub ranks-apart : (atMost 0 256 && (atMost 256 512 && (atMost 512 768 && (not (atMost 256 255) && (not (atMost 512 511) && not (atMost 768 767)))))) ≡ true
+unfolding every atMost atMostOver rank subset bit imp
+ranks-apart = refl
+
+-- Rule 1.3: the security officer is role 1, the downgrader 2, the releaser 4; roles are 0 to 255.
+pub roles-are : (2 ^ officer ≡ 1) × (2 ^ downgrader ≡ 2) × (2 ^ releasing ≡ 4) × (roleSets ≡ 256)
+roles-are = (refl, refl, refl, refl)
+
+-- Rule 2.1: 16 users of 16 words, 64 entities of 32, 2,304 in all; rule 5.1: a request has 16, rule 5.2: four name words.
+pub sizes-are : (userCount ≡ 16) × (userWidth ≡ 16) × (entityCount ≡ 64) × (entityWidth ≡ 32) × (placeCount ≡ 8) × (wordCount ≡ 2304)
+    × (requestWords ≡ 16) × (nameCount ≡ 4)
+sizes-are = (refl, refl, refl, refl, refl, refl, refl, refl)
+
+-- Rule 2.3: kinds and types.
+pub kinds-are : (absentKind ≡ 0) × (objectKind ≡ 1) × (containerKind ≡ 2) × (deviceKind ≡ 3)
+kinds-are = (refl, refl, refl, refl)
+
+pub types-are : (plainType ≡ 0) × (draftType ≡ 1) × (releasedType ≡ 2)
+types-are = (refl, refl, refl)
+
+-- Rule 2.4: the value is 1 of a sum, the label 2, the ID 4; sums go to 7.
+pub sums-are : (2 ^ valueBit ≡ 1) × (2 ^ labelBit ≡ 2) × (2 ^ idBit ≡ 4) × (sumLimit ≡ 7)
+sums-are = (refl, refl, refl, refl)
+
+-- Rule 2.5: a triple, and its parts; who is 17 to 24 for the eight roles.
+pub triples-are : (tripleOf 3 12 1 ≡ 199681) × (whoRole officer ≡ 17) × (whoRole 7 ≡ 24) × (whoLimit ≡ 24)
+triples-are = (refl, refl, refl, refl)
+
+-- Rule 3.22: a triple's word has nothing but its three parts.
+pub triple-parts : (t : ℕ) → t ≡ tripleOf (whoOf t) (operationIn t) (positionOf t)
+triple-parts t = omega arith
+
+-- Rules 3.19, 3.21 and 3.22: refusals held, their count, operations and positions.
+pub limits-are : (firstNoticed ≡ 5) × (lastNoticed ≡ 16) × (missedLimit ≡ 65535) × (operationCount ≡ 20) × (positionCount ≡ 2)
+limits-are = (refl, refl, refl, refl, refl)
+
+-- Rule 6.1: the sorts of a new entity.
+pub sorts-are : (objectSort ≡ 1) × (draftSort ≡ 3)
+sorts-are = (refl, refl)
