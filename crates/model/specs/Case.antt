@@ -14,3 +14,9 @@ pub mod S2Cases14to20
 pub mod S2Holds
 pub mod S3
 pub mod S3Holds
+pub mod Forms
+pub mod Malformed1to5
+pub mod Malformed6to10
+pub mod Malformed11to15
+pub mod Malformed16to20
+pub mod FormsHold
