@@ -12,6 +12,7 @@ pub mod S2Cases1to5
 pub mod S2Cases6to13
 pub mod S2Cases14to20
 pub mod S2Holds
+pub mod S2Roles
 pub mod S3
 pub mod S3Holds
 pub mod Forms

@@ -1,7 +1,7 @@
 -- The answer is the lowest rung that applies, and nothing else is (rule 7.0); what the rungs over operands and operations say.
 use mathlib.Core.Bool.{Bool, false, not, true}
 use mathlib.Core.List.{List, [], _∷_}
-use mathlib.Core.Logic.{_⊎_, inl, inr}
+use mathlib.Core.Logic.{_≢_, _⊎_, inl, inr}
 use mathlib.Core.Option.{Option, none, some}
 use mathlib.Core.Path.{_∙_, _≡_, ap, refl, subst, sym}
 use Prim.Native.Nat.{_+_, _<_, _≤_, suc, zero, ℕ}
@@ -9,13 +9,15 @@ use native.Mathlib.Omega.{arith}
 use lib.Dec.{T, eqb}
 use lib.ListN.{length}
 use Rattle.model.specs.Basics.Agree.{Agrees}
-use Rattle.model.specs.Basics.Choice.{Same, it, other, same}
+use Rattle.model.specs.Basics.Choice.{Same, it, other, pick, same}
 use Rattle.model.specs.Basics.Fails.{Fails, fails-as, fails-or}
 use Rattle.model.specs.Basics.TestLaws.{fails-false}
 use Rattle.model.specs.Request.Conditions.{Kind}
-use Rattle.model.specs.Request.Ladder.{IsAnswer, Rung, answer, applies, ladder, lowest, never, ofOp, rungAt, someOperand}
+use Rattle.model.specs.Request.Ladder.{IsAnswer, Rung, answer, applies, ladder, lowest, never, notSecure, notWellFormed, ofOp, rungAt}
+use Rattle.model.specs.Request.Ladder.{someOperand}
 use Rattle.model.specs.Request.Operations.{Op, opOf}
 use Rattle.model.specs.Request.Words.{Request}
+use Rattle.model.specs.State.Check.{judge, secureTest, wellFormedTest}
 use Rattle.model.specs.Tables.Words.{Tables, lastNoticed}
 
 module _ (d : Tables) (q : Request) where
@@ -154,3 +156,14 @@ operands-all k (x ∷ xs) P f = (f k (omega arith) (omega arith), operands-all (
 pub positions-fail : (k : ℕ) (xs : List Kind) (p : ℕ → Bool) (P : ℕ → Type 0) → ((j : ℕ) → Fails (p j) (P j))
     → Fails (someOperand k xs (λ j x. p j)) ((j : ℕ) → k ≤ j → j < k + length xs → P j)
 positions-fail k xs p P f = fails-as (operands-at k xs P) (operands-all k xs P) (someOperand-fails k xs (λ j x. p j) (λ j x. P j) (λ j x. f j))
+
+-- Rules 7.2 and 7.3: tables that fail the state check are answered with its number, whatever is asked.
+pub judge-answer : (d : Tables) (q : Request) → judge d ≢ 0 → answer d q ≡ judge d
+unfolding judge answer lowest ladder notWellFormed notSecure
+judge-answer d q = go (wellFormedTest d) (secureTest d) _
+  where
+    go : (a b : Bool) (n : ℕ) → _≢_ {A = ℕ} (pick a (pick b 0 3) 2) 0
+        → _≡_ {A = ℕ} (elim (not a) [ true ↦ 2 | false ↦ elim (not b) [ true ↦ 3 | false ↦ n ] ]) (pick a (pick b 0 3) 2)
+    go true true n h = absurd (h refl)
+    go true false n h = refl
+    go false b n h = refl

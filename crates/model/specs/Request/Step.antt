@@ -22,7 +22,7 @@ answerOf t q = pick (sized t q) (answer (tablesOf t) (requestOf q)) 1
 unfoldable pub afterOf : List ℕ → List ℕ → List ℕ
 afterOf t q = pick (sized t q) (wordsOf (after (tablesOf t) (requestOf q))) t
 
--- Rules 7.0, 7.1 and 8: what a step is, said without computing it; a is its answer and r are the words that stand afterwards.
+-- Rules 7.0, 7.1 and 8: what a step is, said of any answer a and any words r afterwards.
 pub record Settles (t q : List ℕ) (a : ℕ) (r : List ℕ) : Type 0 where
   pub otherSize : T (not (sized t q)) → (a ≡ 1) × (r ≡ t)
   pub answered : T (sized t q) → IsAnswer (tablesOf t) (requestOf q) a

@@ -16,6 +16,7 @@ use Rattle.model.specs.State.Check.{ceilingTest, check, containedTest, j
 use Rattle.model.specs.State.Check.{wellFormedTest}
 use Rattle.model.specs.State.Secure.{Good, Secure, labelled}
 use Rattle.model.specs.State.WellFormed.{Holds, WellFormed}
+use Rattle.model.specs.Tables.EditLaws.{case}
 use Rattle.model.specs.Tables.Layout.{Bounded, tablesOf, wordCount}
 use Rattle.model.specs.Tables.LayoutLaws.{bounded}
 use Rattle.model.specs.Tables.Words.{Tables, authorised, clearance, count, counts, current, device, deviceKind, devices, entityCount}
@@ -109,3 +110,12 @@ check-agrees t = go (eqb (length t) wordCount) (agrees-eq (length t) wordCount)
     go : (b : Bool) → Agrees b (length t ≡ wordCount) → Agrees (eqb (pick b (judge (tablesOf t)) 1) 0) ((length t ≡ wordCount) × Good (tablesOf t))
     go true a = record { to = λ z. (a .to tt, judge-agrees (tablesOf t) (bounded t) .to z); from = λ z. judge-agrees (tablesOf t) (bounded t) .from (z .1) }
     go false a = record { to = λ z. absurd z; from = λ z. absurd (a .from (z .0)) }
+
+-- Rule 8.5: 1 for another size, and else what the tables are answered.
+pub check-other : (t : List ℕ) → length t ≢ wordCount → check t ≡ 1
+unfolding check
+check-other t n = case (λ (y : ℕ). y ≡ 1) (length t) wordCount (judge (tablesOf t)) 1 (λ e. absurd (n e)) (λ e. refl)
+
+pub check-tables : (t : List ℕ) → length t ≡ wordCount → check t ≡ judge (tablesOf t)
+unfolding check
+check-tables t h = case (λ (y : ℕ). y ≡ judge (tablesOf t)) (length t) wordCount (judge (tablesOf t)) 1 (λ e. refl) (λ e. absurd (e h))

@@ -1,5 +1,6 @@
 -- A notice is kept until it is acknowledged (rules 8.2 and 8.3): nobody's request, accepted or refused, takes it away otherwise.
 use mathlib.Core.Bool.{Bool, false, true}
+use mathlib.Core.List.{List, [], _∷_}
 use mathlib.Core.Logic.{_≢_}
 use mathlib.Core.Option.{some}
 use mathlib.Core.Path.{_∙_, _≡_, ap, refl, subst, sym}
@@ -17,12 +18,14 @@ use Rattle.model.specs.Request.Ladder.{answer}
 use Rattle.model.specs.Request.OperationLaws.{number-injective}
 use Rattle.model.specs.Request.Operations.{Op, numberOf, opOf, rowOf, toAcknowledge}
 use Rattle.model.specs.Request.Words.{Request}
+use Rattle.model.specs.State.Secure.{Good}
 use Rattle.model.specs.State.WellFormed.{WellFormed}
 use Rattle.model.specs.Tables.EditLaws.{elsewhere}
 use Rattle.model.specs.Tables.Words.{Tables, firstNoticed, held, heldOp, missed, missedLimit}
 use Rattle.model.specs.Theorem.Acceptance.{accepted}
 use Rattle.model.specs.Theorem.Fixed.{notices-left}
-use Rattle.model.specs.Theorem.Statements.{SameNotice, StillHeld}
+use Rattle.model.specs.Theorem.Kept.{request-good}
+use Rattle.model.specs.Theorem.Statements.{SameNotice, StillHeld, Unacknowledged, afterAll}
 
 -- A refusal that is held stays held through every notice.
 notice-keeps : (d : Tables) (u r o x : ℕ) → d .user x held ≢ 0
@@ -87,3 +90,15 @@ held-kept d w q x h n =
     noticed l =
         let k = notice-keeps d (q .user) (answer d q) (noticedOp q) x h in
         record { refusal = k .0; operation = k .1; count = notice-counts d (q .user) (answer d q) (noticedOp q) x (w .users x .notice .countIn) }
+
+still-held : (d e f : Tables) (x : ℕ) → StillHeld d e x → StillHeld e f x → StillHeld d f x
+still-held d e f x a b = record { refusal = b .refusal ∙ a .refusal; operation = b .operation ∙ a .operation; count = omega (arith, a .count, b .count) }
+
+-- And so along every list of requests in which it is not acknowledged.
+pub held-through : (d : Tables) → Good d → (x : ℕ) → d .user x held ≢ 0 → (qs : List Request) → Unacknowledged d x qs → StillHeld d (afterAll d qs) x
+unfolding Unacknowledged afterAll
+held-through d g x h [] u = record { refusal = refl; operation = refl; count = omega arith }
+held-through d g x h (q ∷ qs) u =
+    let a = held-kept d (g .0) q x h (u .0) in
+    still-held d (after d q) (afterAll (after d q) qs) x a
+    (held-through (after d q) (request-good d g q) x (λ z. h (sym (a .refusal) ∙ z)) qs (u .1))

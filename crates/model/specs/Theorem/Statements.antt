@@ -1,9 +1,12 @@
 -- What some theorems say, put in words of its own: notices that stay, IDs on devices, and the tables after many requests.
 use mathlib.Core.List.{List, [], _∷_}
-use mathlib.Core.Logic.{_⊎_}
+use mathlib.Core.Logic.{_≢_, _⊎_}
+use mathlib.Core.Option.{some}
 use mathlib.Core.Path.{_≡_}
 use Prim.Native.Nat.{_≤_, ℕ}
 use Rattle.model.specs.Request.After.{after}
+use Rattle.model.specs.Request.Ladder.{answer}
+use Rattle.model.specs.Request.Operations.{opOf, toAcknowledge}
 use Rattle.model.specs.Request.Step.{afterOf}
 use Rattle.model.specs.Request.Words.{Request}
 use Rattle.model.specs.Tables.Words.{Tables, count, devices, held, heldOp, missed}
@@ -32,3 +35,8 @@ afterAll d (q ∷ qs) = afterAll (after d q) qs
 unfoldable pub afterWords : List ℕ → List (List ℕ) → List ℕ
 afterWords t [] = t
 afterWords t (q ∷ qs) = afterWords (afterOf t q) qs
+
+-- along a list of requests from d on, no acknowledgement of user x is accepted
+unfoldable pub Unacknowledged : Tables → ℕ → List Request → Type 0
+Unacknowledged d x [] = Unit {0}
+Unacknowledged d x (q ∷ qs) = (answer d q ≡ 0 → opOf (q .operation) ≡ some toAcknowledge → x ≢ q .user) × Unacknowledged (after d q) x qs

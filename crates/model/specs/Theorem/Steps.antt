@@ -1,6 +1,8 @@
 -- The step on words (rules 7.1 and 8): what it answers and leaves, of any two lists of words, and that what was well-formed and secure stays so.
 use mathlib.Core.Bool.{Bool, false, not, true}
 use mathlib.Core.List.{List, [], _∷_}
+use mathlib.Core.Logic.{_≢_}
+use mathlib.Core.Option.{some}
 use mathlib.Core.Path.{_∙_, _≡_, ap, refl, subst, sym}
 use Prim.Native.Nat.{_<_, _≤_, ℕ}
 use native.Mathlib.Omega.{arith}
@@ -12,13 +14,14 @@ use Rattle.model.specs.Basics.TestLaws.{is-false, is-true, pick-false, p
 use Rattle.model.specs.Request.After.{after}
 use Rattle.model.specs.Request.AfterLaws.{after-accepted, after-each, after-noticed}
 use Rattle.model.specs.Request.Allowed.{Accepted}
+use Rattle.model.specs.Request.Asked.{asked}
 use Rattle.model.specs.Request.Ladder.{answer}
-use Rattle.model.specs.Request.LadderLaws.{answer-is}
-use Rattle.model.specs.Request.Operations.{Op}
+use Rattle.model.specs.Request.LadderLaws.{answer-is, judge-answer}
+use Rattle.model.specs.Request.Operations.{Op, opOf}
 use Rattle.model.specs.Request.Step.{afterOf, answerOf, sized}
 use Rattle.model.specs.Request.Words.{Request, requestOf, requestWords}
 use Rattle.model.specs.State.Agree.{wellFormed-bounded}
-use Rattle.model.specs.State.AgreeSecure.{check-agrees}
+use Rattle.model.specs.State.AgreeSecure.{check-agrees, check-tables}
 use Rattle.model.specs.State.Check.{check}
 use Rattle.model.specs.State.Secure.{Good}
 use Rattle.model.specs.Tables.Layout.{Bounded, tablesOf, wordCount}
@@ -27,11 +30,13 @@ use Rattle.model.specs.Tables.Words.{Tables, firstNoticed}
 use Rattle.model.specs.Tables.WordsOf.{wordsOf}
 use Rattle.model.specs.Tables.WordsOfLaws.{tablesOf-wordsOf, wordsOf-length, wordsOf-tablesOf}
 use Rattle.model.specs.Theorem.Acceptance.{accepted, accepted-good, judged}
-use Rattle.model.specs.Theorem.Definitions.{Obeys}
+use Rattle.model.specs.Theorem.Changed.{accepted-framed}
+use Rattle.model.specs.Theorem.Definitions.{Obeys, Quiet}
 use Rattle.model.specs.Theorem.Kept.{request-good}
+use Rattle.model.specs.Theorem.MayChange.{Frame}
 use Rattle.model.specs.Theorem.Statements.{afterWords}
 use Rattle.model.specs.Theorem.System.{request-obeys}
-use Rattle.model.specs.Theorem.Unchanged.{low-refusal}
+use Rattle.model.specs.Theorem.Unchanged.{high-refusal-quiet, low-refusal}
 
 -- Rule 7.1: what a step on lists of the right sizes is.
 pub sized-agrees : (t q : List ℕ) → Agrees (sized t q) ((length t ≡ wordCount) × (length q ≡ requestWords))
@@ -111,7 +116,7 @@ unfolding afterWords
 history-checked t [] e = e
 history-checked t (q ∷ qs) e = history-checked (afterOf t q) qs (check-kept t q e)
 
--- Definitions 5 to 11 of words: whatever the words of tables and request, the step obeys them.
+-- Definitions 5 to 11 of words: whatever the 2,304 words of tables and the sixteen of a request, the step obeys them.
 pub words-obey : (t q : List ℕ) → T (sized t q) → Obeys (tablesOf t) (requestOf q) (tablesOf (afterOf t q))
 words-obey t q h = subst (Obeys (tablesOf t) (requestOf q)) (sym (afterOf-tables t q h)) (request-obeys (tablesOf t) (bounded t) (requestOf q))
 
@@ -123,4 +128,35 @@ words-accepted t q e = go (sized t q) refl
     go true z =
         let a = sym (answerOf-sized t q (is-true (sized t q) z)) ∙ e in
         accepted (tablesOf t) (requestOf q) a (accepted-good (tablesOf t) (requestOf q) a (bounded t) .0)
+    go false z = absurd (omega (arith, unsized t q (is-false (sized t q) z) .0))
+
+-- Words that fail the state check are answered with its number, whatever is asked.
+pub check-answer : (t q : List ℕ) → T (sized t q) → check t ≢ 0 → answerOf t q ≡ check t
+check-answer t q h n =
+    let c = check-tables t (sized-agrees t q .to h .0) in
+    answerOf-sized t q h ∙ judge-answer (tablesOf t) (requestOf q) (λ z. n (c ∙ z)) ∙ sym c
+
+-- Refusals 5 to 16 change the requester's notice in the words, and nothing else.
+pub high-refusal-words : (t q : List ℕ) → firstNoticed ≤ answerOf t q → Quiet (tablesOf t) (requestOf q .user) (tablesOf (afterOf t q))
+high-refusal-words t q h = go (sized t q) refl
+  where
+    go : (b : Bool) → sized t q ≡ b → Quiet (tablesOf t) (requestOf q .user) (tablesOf (afterOf t q))
+    go true z =
+        let s = is-true (sized t q) z in
+        let a = answerOf-sized t q s in
+        subst (Quiet (tablesOf t) (requestOf q .user)) (sym (afterOf-tables t q s)) (high-refusal-quiet (tablesOf t) (requestOf q) (omega arith))
+    go false z = absurd (omega (arith, unsized t q (is-false (sized t q) z) .0))
+
+-- An accepted request changes, in the words, the words of its row and no others.
+pub words-framed : (t q : List ℕ) → answerOf t q ≡ 0
+    → (o : Op) × (opOf (requestOf q .operation) ≡ some o) × Frame o (asked (tablesOf t) (requestOf q)) (tablesOf t) (tablesOf (afterOf t q))
+words-framed t q e = go (sized t q) refl
+  where
+    go : (b : Bool) → sized t q ≡ b
+        → (o : Op) × (opOf (requestOf q .operation) ≡ some o) × Frame o (asked (tablesOf t) (requestOf q)) (tablesOf t) (tablesOf (afterOf t q))
+    go true z =
+        let s = is-true (sized t q) z in
+        let a = sym (answerOf-sized t q s) ∙ e in
+        let f = accepted-framed (tablesOf t) (accepted-good (tablesOf t) (requestOf q) a (bounded t) .0) (requestOf q) a in
+        (f .0, f .1, subst (Frame (f .0) (asked (tablesOf t) (requestOf q)) (tablesOf t)) (sym (afterOf-tables t q s)) (f .2))
     go false z = absurd (omega (arith, unsized t q (is-false (sized t q) z) .0))

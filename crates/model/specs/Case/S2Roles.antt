@@ -1,0 +1,60 @@
+-- Rules 1.3 and 5.6: state S2 with one role at a time for user 1, and what each of the three opens.
+use mathlib.Core.Bool.{true}
+use mathlib.Core.List.{List, [], _∷_}
+use mathlib.Core.Path.{_≡_, refl}
+use Prim.Native.Nat.{ℕ}
+use Rattle.model.specs.Case.Cases.{Case, allPass, ask, entityIs, expect, userIs}
+use Rattle.model.specs.Case.Opened.{opened}
+use Rattle.model.specs.Case.S2.{s2, s2Sheet}
+use Rattle.model.specs.Tables.Edits.{onUser, userWord}
+use Rattle.model.specs.Tables.Words.{Tables, authorised, clearance, current, level, maximum, releaser, type}
+
+-- user 1 has these current roles
+unfoldable pub s2With : ℕ → Tables
+s2With r = onUser 1 (userWord current r) s2
+
+-- role 1, the security officer: clearance, authorised roles, maximum, another's current roles; and nothing else
+unfoldable pub officerCases : List Case
+officerCases =
+    expect [] (ask 1 15 [] [] 3 0 0) 0 (userIs 3 clearance 0 ∷ [])
+    ∷ expect [] (ask 1 16 [] [] 3 0 0) 0 (userIs 3 authorised 0 ∷ [])
+    ∷ expect [] (ask 1 17 (6 ∷ []) [] 513 0 0) 0 (entityIs 6 maximum 513 ∷ [])
+    ∷ expect [] (ask 1 14 [] [] 3 0 0) 0 (userIs 3 current 0 ∷ [])
+    ∷ expect [] (ask 1 6 (13 ∷ []) [] 0 0 0) 12 (entityIs 13 level 256 ∷ [])
+    ∷ expect [] (ask 1 18 (6 ∷ []) [] 1 0 0) 12 (entityIs 6 level 513 ∷ [])
+    ∷ expect [] (ask 1 19 (29 ∷ []) [] 0 0 0) 12 (entityIs 29 type 1 ∷ [])
+    ∷ []
+
+-- role 2, the downgrader: a strictly lower level, also of a device that is not one's own
+unfoldable pub downgraderCases : List Case
+downgraderCases =
+    expect [] (ask 1 6 (13 ∷ []) [] 0 0 0) 0 (entityIs 13 level 0 ∷ [])
+    ∷ expect [] (ask 1 18 (6 ∷ []) [] 1 0 0) 0 (entityIs 6 level 1 ∷ [])
+    ∷ expect [] (ask 1 15 [] [] 3 0 0) 12 (userIs 3 clearance 513 ∷ [])
+    ∷ expect [] (ask 1 16 [] [] 3 0 0) 12 (userIs 3 authorised 6 ∷ [])
+    ∷ expect [] (ask 1 17 (6 ∷ []) [] 513 0 0) 12 (entityIs 6 maximum 1023 ∷ [])
+    ∷ expect [] (ask 1 14 [] [] 3 0 0) 12 []
+    ∷ expect [] (ask 1 19 (29 ∷ []) [] 0 0 0) 12 (entityIs 29 type 1 ∷ [])
+    ∷ []
+
+-- role 4, the releaser: a release
+unfoldable pub releaserCases : List Case
+releaserCases =
+    expect [] (ask 1 19 (29 ∷ []) [] 0 0 0) 0 (entityIs 29 type 2 ∷ entityIs 29 releaser 1 ∷ [])
+    ∷ expect [] (ask 1 6 (13 ∷ []) [] 0 0 0) 12 (entityIs 13 level 256 ∷ [])
+    ∷ expect [] (ask 1 18 (6 ∷ []) [] 1 0 0) 12 (entityIs 6 level 513 ∷ [])
+    ∷ expect [] (ask 1 15 [] [] 3 0 0) 12 (userIs 3 clearance 513 ∷ [])
+    ∷ expect [] (ask 1 17 (6 ∷ []) [] 513 0 0) 12 (entityIs 6 maximum 1023 ∷ [])
+    ∷ []
+
+pub officer-holds : allPass (s2With 1) officerCases ≡ true
+unfolding opened s2 s2Sheet s2With officerCases
+officer-holds = refl
+
+pub downgrader-holds : allPass (s2With 2) downgraderCases ≡ true
+unfolding opened s2 s2Sheet s2With downgraderCases
+downgrader-holds = refl
+
+pub releaser-holds : allPass (s2With 4) releaserCases ≡ true
+unfolding opened s2 s2Sheet s2With releaserCases
+releaser-holds = refl
