@@ -3,16 +3,23 @@ use mathlib.Core.List.{List, [], _++_, _∷_}
 use mathlib.Core.Path.{_∙_, _≡_, ap, refl, subst, sym}
 use Prim.Native.Nat.{_*_, ℕ}
 use lib.Dec.{eqb→eq}
-use lib.ListN.{length, replicate}
-use Rattle.model.specs.Case.Cases.{item}
+use lib.ListN.{length, replicate, take}
+use Rattle.model.specs.Case.Cases.{asking, item}
+use Rattle.model.specs.Case.Opened.{opened}
 use Rattle.model.specs.Case.S1.{s1, s1Sheet}
 use Rattle.model.specs.Case.S1Holds.{s1-good}
+use Rattle.model.specs.Request.After.{after}
+use Rattle.model.specs.Request.Ladder.{answer}
+use Rattle.model.specs.Request.Step.{afterOf, answerOf, sized}
+use Rattle.model.specs.Request.Words.{requestOf, requestWords}
 use Rattle.model.specs.State.AgreeSecure.{check-agrees}
 use Rattle.model.specs.State.Check.{check}
 use Rattle.model.specs.State.Secure.{Good}
 use Rattle.model.specs.Tables.Layout.{entityWidth, tablesOf, userWidth, wordCount}
 use Rattle.model.specs.Tables.Sheet.{padded, paddedRecords, sheetWords}
 use Rattle.model.specs.Tables.SheetLaws.{sheet-tables, sheetWords-length}
+use Rattle.model.specs.Tables.Words.{Tables}
+use Rattle.model.specs.Theorem.Steps.{afterOf-tables, answerOf-sized, sized-agrees}
 
 -- n words of zero
 abbrev zeros : ℕ → List ℕ
@@ -63,3 +70,16 @@ s1Words-length = ap length s1Words-sheet ∙ sheetWords-length s1Sheet
 -- the state check passes them
 pub s1Words-checked : check s1Words ≡ 0
 s1Words-checked = eqb→eq (check s1Words) 0 (check-agrees s1Words .from (s1Words-length, subst Good (sym s1Words-tables) s1-good))
+
+-- a step on them answers and leaves what it does on S1, so every case of S1 is a case of words
+pub s1Words-answer : (q : List ℕ) → length q ≡ requestWords → answerOf s1Words q ≡ answer s1 (requestOf q)
+s1Words-answer q h = answerOf-sized s1Words q (sized-agrees s1Words q .from (s1Words-length, h)) ∙ ap (λ (d : Tables). answer d (requestOf q)) s1Words-tables
+
+pub s1Words-after : (q : List ℕ) → length q ≡ requestWords → tablesOf (afterOf s1Words q) ≡ after s1 (requestOf q)
+s1Words-after q h = afterOf-tables s1Words q (sized-agrees s1Words q .from (s1Words-length, h)) ∙ ap (λ (d : Tables). after d (requestOf q)) s1Words-tables
+
+-- a word too few or too many, of the tables or of a request, is answered 1
+pub s1Words-sizes : (answerOf (take 2303 s1Words) (asking 2 10 (5 ∷ []) [] 3 0 0) ≡ 1) × (answerOf (0 ∷ s1Words) (asking 2 10 (5 ∷ []) [] 3 0 0) ≡ 1)
+    × (answerOf s1Words (take 15 (asking 2 10 (5 ∷ []) [] 3 0 0)) ≡ 1) × (answerOf s1Words (0 ∷ asking 2 10 (5 ∷ []) [] 3 0 0) ≡ 1)
+unfolding opened answerOf sized s1Words s1Users s1Entities
+s1Words-sizes = (refl, refl, refl, refl)
