@@ -5,6 +5,8 @@ pub mod Figures
 pub mod S1
 pub mod S1Holds
 pub mod S1Words
+pub mod Condemned
+pub mod CondemnedFlows
 pub mod Damaged
 pub mod DamagedFound
 pub mod S2
