@@ -13,5 +13,6 @@ pub mod OperationLaws
 pub mod LadderLaws
 pub mod TestLaws
 pub mod ConditionLaws
+pub mod FitLaws
 pub mod AfterLaws
 pub mod RungLaws

@@ -10,6 +10,7 @@ use Rattle.model.specs.Effect.Places.{leave, vacant}
 use Rattle.model.specs.Effect.Screens.{spot}
 use Rattle.model.specs.Level.{AtMost, Lower, Subset, atMost, downgrader, officer, roleCount, subset}
 use Rattle.model.specs.LevelLaws.{lower-agrees}
+use Rattle.model.specs.Request.Allowed.{Between}
 use Rattle.model.specs.Request.Asked.{Asked, HasRole, namedTriple, own}
 use Rattle.model.specs.Request.Conditions.{between, createAbove, createNoRoom, currentOutside, deleteForbidden, deviceAbove}
 use Rattle.model.specs.Request.Conditions.{deviceLowered, firstAbove, grantNoRoom, insecure, isAny, isContainer, isDevice, isDraft}
@@ -52,7 +53,7 @@ unfolding isDraft
 draft-agrees d e = agrees-and (agrees-eq (kinds d e) containerKind) (agrees-eq (d .entity e type) draftType)
 
 -- Rule 5.4: a range goes from one number up to another.
-pub between-agrees : (m n x : ℕ) → Agrees (between m n x) ((m ≤ x) × (x ≤ n))
+pub between-agrees : (m n x : ℕ) → Agrees (between m n x) (Between m n x)
 unfolding between
 between-agrees m n x = agrees-and (agrees-le m x) (agrees-le x n)
 

@@ -8,8 +8,9 @@ use native.Mathlib.Omega.{arith}
 use lib.Dec.{T, eqb}
 use Rattle.model.specs.Basics.Agree.{agrees-T, agrees-and, agrees-eq, agrees-le, agrees-not}
 use Rattle.model.specs.Basics.Fails.{Fails, fails-T, fails-agreed, fails-and, fails-as, fails-not, fails-where}
-use Rattle.model.specs.Request.Allowed.{Known, On, Open, Operand, Permitted}
+use Rattle.model.specs.Request.Allowed.{Fits, Known, On, Open, Operand, Permitted}
 use Rattle.model.specs.Request.Asked.{asked, basisOf, operand}
+use Rattle.model.specs.Request.FitLaws.{fits-agrees}
 use Rattle.model.specs.Request.Ladder.{bars, fits, leadsNowhere, noAccess, notCleared, notLoggedOn, notSecure, notUnderstood}
 use Rattle.model.specs.Request.Ladder.{notWellFormed, ofOp, ownRung, permits, refused, someOperand, unknownUser, wrongKind}
 use Rattle.model.specs.Request.LadderLaws.{AllOperands, ofOp-agrees, ofOp-fails, positions-fail, someOperand-fails}
@@ -41,9 +42,10 @@ module _ (d : Tables) (q : Request) where
       (fails-not (agrees-and (agrees-and (agrees-le 1 (q .user)) (agrees-le (q .user) userCount)) (agrees-not (agrees-eq (d .user (q .user) present) 0))))
 
   -- Rule 7.5: the request names an operation, and fits it.
-  pub notUnderstood-fails : Fails (notUnderstood d q) ((o : Op) × (opOf (q .operation) ≡ some o) × T (fits o q))
+  pub notUnderstood-fails : Fails (notUnderstood d q) ((o : Op) × (opOf (q .operation) ≡ some o) × Fits o q)
   unfolding notUnderstood
-  notUnderstood-fails = fails-not (ofOp-agrees q (λ o. fits o q))
+  notUnderstood-fails = fails-as (λ z. (z .0, z .1, fits-agrees (z .0) q .to (z .2))) (λ z. (z .0, z .1, fits-agrees (z .0) q .from (z .2)))
+      (fails-not (ofOp-agrees q (λ o. fits o q)))
 
   -- The further rungs are asked of the operation that is named.
   module _ (o : Op) (named : opOf (q .operation) ≡ some o) where

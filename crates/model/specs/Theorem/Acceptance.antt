@@ -3,14 +3,12 @@ use mathlib.Core.Bool.{false, not}
 use mathlib.Core.Option.{some}
 use mathlib.Core.Path.{_≡_}
 use Prim.Native.Nat.{ℕ}
-use lib.Dec.{T, eqb}
-use Rattle.model.specs.Basics.Agree.{agrees-T, agrees-and}
+use lib.Dec.{T}
 use Rattle.model.specs.Basics.TestLaws.{is-false}
-use Rattle.model.specs.Request.Allowed.{Accepted, Known, On}
+use Rattle.model.specs.Request.Allowed.{Accepted, Fits, Known, On}
 use Rattle.model.specs.Request.Asked.{asked}
-use Rattle.model.specs.Request.Ladder.{answer, applies, fits, ladder, leadsNowhere, lengthFits, namesFit, noAccess, notCleared}
-use Rattle.model.specs.Request.Ladder.{notLoggedOn, notSecure, notUnderstood, notWellFormed, ownRung, rangeAt, refused, rungAt}
-use Rattle.model.specs.Request.Ladder.{unknownUser, wrongKind}
+use Rattle.model.specs.Request.Ladder.{answer, applies, ladder, leadsNowhere, noAccess, notCleared, notLoggedOn, notSecure}
+use Rattle.model.specs.Request.Ladder.{notUnderstood, notWellFormed, ownRung, refused, rungAt, unknownUser, wrongKind}
 use Rattle.model.specs.Request.LadderLaws.{answer-is}
 use Rattle.model.specs.Request.Operations.{Op, opOf, rowOf}
 use Rattle.model.specs.Request.RungLaws.{leadsNowhere-fails, noAccess-fails, notCleared-fails, notLoggedOn-fails, notSecure-fails}
@@ -21,17 +19,6 @@ use Rattle.model.specs.State.WellFormed.{WellFormed}
 use Rattle.model.specs.Tables.Layout.{Bounded}
 use Rattle.model.specs.Tables.Words.{Tables}
 use Rattle.model.specs.Theorem.NoRefusal.{NoRefusal, noRefusal-allowed}
-
--- Rule 7.5: what fits has its arguments in their ranges.
-fits-ranges : (o : Op) (q : Request) → T (fits o q)
-    → T (rangeAt 0 (rowOf o .arguments) (q .a)) × (T (rangeAt 1 (rowOf o .arguments) (q .b)) × T (rangeAt 2 (rowOf o .arguments) (q .c)))
-unfolding fits
-fits-ranges o q t =
-    let z = agrees-and (agrees-T (lengthFits 0 (rowOf o .operands) (q .first))) (agrees-and (agrees-T (lengthFits 1 (rowOf o .operands) (q .second)))
-    (agrees-and (agrees-T (namesFit (q .first))) (agrees-and (agrees-T (namesFit (q .second)))
-    (agrees-and (agrees-T (rangeAt 0 (rowOf o .arguments) (q .a))) (agrees-and (agrees-T (rangeAt 1 (rowOf o .arguments) (q .b)))
-    (agrees-and (agrees-T (rangeAt 2 (rowOf o .arguments) (q .c))) (agrees-T (eqb (q .last) 0)))))))) .to t in
-    (z .1 .1 .1 .1 .0, (z .1 .1 .1 .1 .1 .0, z .1 .1 .1 .1 .1 .1 .0))
 
 -- Rules 7.2 and 7.3: where rungs 2 and 3 do not apply the tables are well-formed and secure.
 pub judged : (d : Tables) (q : Request) → Bounded d → applies 2 d q ≡ false → applies 3 d q ≡ false → Good d
@@ -54,11 +41,11 @@ module _ (d : Tables) (q : Request) (e : answer d q ≡ 0) where
   accepted-good b = judged d q b (no 2) (no 3)
 
   -- Rule 7.5.
-  understood : (o : Op) × (opOf (q .operation) ≡ some o) × T (fits o q)
+  understood : (o : Op) × (opOf (q .operation) ≡ some o) × Fits o q
   unfolding applies rungAt ladder
   understood = notUnderstood-fails d q .to (is-false (notUnderstood d q) (no 5))
 
-  module _ (o : Op) (named : opOf (q .operation) ≡ some o) (t : T (fits o q)) where
+  module _ (o : Op) (named : opOf (q .operation) ≡ some o) (f : Fits o q) where
     -- Rule 7.6.
     logged-on : On o d (q .user)
     unfolding applies rungAt ladder
@@ -70,21 +57,17 @@ module _ (d : Tables) (q : Request) (e : answer d q ≡ 0) where
 
     no-refusal : NoRefusal o (asked d q) d
     unfolding applies rungAt ladder asked
-    no-refusal =
-        let r = fits-ranges o q t in
-        record {
-          a = r .0;
-          b = r .1 .0;
-          c = r .1 .1;
-          on = logged-on;
-          kinds = wrongKind-fails d q o named .to (is-false (wrongKind d q) (no 10));
-          no11 = own-clear 11 (no 11);
-          no12 = own-clear 12 (no 12);
-          no13 = own-clear 13 (no 13);
-          no14 = own-clear 14 (no 14);
-          no15 = own-clear 15 (no 15);
-          no16 = own-clear 16 (no 16);
-        }
+    no-refusal = record {
+      arguments = f .arguments;
+      on = logged-on;
+      kinds = wrongKind-fails d q o named .to (is-false (wrongKind d q) (no 10));
+      no11 = own-clear 11 (no 11);
+      no12 = own-clear 12 (no 12);
+      no13 = own-clear 13 (no 13);
+      no14 = own-clear 14 (no 14);
+      no15 = own-clear 15 (no 15);
+      no16 = own-clear 16 (no 16);
+    }
 
     accepted-by : WellFormed d → Accepted o d q
     unfolding applies rungAt ladder
@@ -92,7 +75,7 @@ module _ (d : Tables) (q : Request) (e : answer d q ≡ 0) where
       meant = record {
         known = requester-known d q (no 4);
         named = named;
-        fitting = t;
+        fitting = f;
         leading = leadsNowhere-fails d q o named .to (is-false (leadsNowhere d q) (no 7));
       };
       on = logged-on;

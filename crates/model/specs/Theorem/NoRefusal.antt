@@ -1,35 +1,30 @@
 -- An operation whose own rungs do not apply, on operands of the right kinds and arguments in their ranges, is allowed (rungs 5 and 10 to 16).
 use mathlib.Core.Bool.{not}
 use mathlib.Core.Path.{_≡_}
-use Prim.Native.Nat.{_≤_, ℕ}
+use Prim.Native.Nat.{ℕ}
 use native.Mathlib.Omega.{arith}
-use lib.Dec.{T, leb→le, ltb→lt}
-use Rattle.model.specs.Effect.Places.{draftSort, objectSort}
+use lib.Dec.{T}
 use Rattle.model.specs.Effect.WordsLaws.{clearance-wellFormed, level-wellFormed}
-use Rattle.model.specs.Level.{levelCount, officer, releasing, roleSets}
-use Rattle.model.specs.Request.Allowed.{Allowed, On}
+use Rattle.model.specs.Level.{officer, releasing}
+use Rattle.model.specs.Request.Allowed.{Allowed, Between, InRange, On}
 use Rattle.model.specs.Request.Asked.{Asked, namedTriple, operand}
-use Rattle.model.specs.Request.ConditionLaws.{any-agrees, between-agrees, container-agrees, createAbove-fails, createNoRoom-fails}
+use Rattle.model.specs.Request.ConditionLaws.{any-agrees, container-agrees, createAbove-fails, createNoRoom-fails}
 use Rattle.model.specs.Request.ConditionLaws.{currentOutside-fails, deleteForbidden-fails, device-agrees, deviceAbove-fails}
 use Rattle.model.specs.Request.ConditionLaws.{deviceLowered-fails, draft-agrees, firstAbove-fails, grantNoRoom-fails, insecure-fails}
 use Rattle.model.specs.Request.ConditionLaws.{lacks-fails, levelLowered-fails, loginTaken-fails, moveInside-fails, moveNoRoom-fails}
 use Rattle.model.specs.Request.ConditionLaws.{notAcknowledged-fails, rolesOfAnother-fails, rolesOff-fails, rolesUnauthorised-fails}
 use Rattle.model.specs.Request.ConditionLaws.{showAbove-fails, showNoRoom-fails, showUnlabelled-fails, thing-agrees, userAbsent-fails}
-use Rattle.model.specs.Request.Conditions.{aFlag, aLevel, aPosition, aSort, aSum, aWho, anOperation, someRoles}
-use Rattle.model.specs.Request.Ladder.{rangeAt, refused}
+use Rattle.model.specs.Request.Ladder.{refused}
 use Rattle.model.specs.Request.LadderLaws.{AllOperands}
 use Rattle.model.specs.Request.Operations.{Op, clearanceEffect, levelEffect, rowOf, toAcknowledge, toAuthorised, toClear, toClearance}
 use Rattle.model.specs.Request.Operations.{toCopy, toCreate, toCurrent, toDelete, toDeviceLevel, toEdit, toGrant, toLevel, toLogin}
 use Rattle.model.specs.Request.Operations.{toLogout, toMark, toMaximum, toMove, toRelease, toRevoke, toShow}
 use Rattle.model.specs.State.WellFormed.{GoodTriple, WellFormed}
-use Rattle.model.specs.Tables.Words.{Tables, operationCount, operationIn, positionCount, positionOf, sumLimit, tripleOf, whoLimit}
-use Rattle.model.specs.Tables.Words.{whoOf}
+use Rattle.model.specs.Tables.Words.{Tables, operationCount, operationIn, positionCount, positionOf, tripleOf, whoLimit, whoOf}
 
 -- What rungs 5, 6 and 10 to 16 leave when they do not apply.
 pub record NoRefusal (o : Op) (s : Asked) (d : Tables) : Type 0 where
-  pub a : T (rangeAt 0 (rowOf o .arguments) (s .a))
-  pub b : T (rangeAt 1 (rowOf o .arguments) (s .b))
-  pub c : T (rangeAt 2 (rowOf o .arguments) (s .c))
+  pub arguments : InRange o (s .a) (s .b) (s .c)
   pub on : On o d (s .user)
   pub kinds : AllOperands 1 (rowOf o .operands) (λ k x. T (x d (operand s k)))
   pub no11 : T (not (refused 11 (rowOf o .conditions) d s))
@@ -40,7 +35,7 @@ pub record NoRefusal (o : Op) (s : Asked) (d : Tables) : Type 0 where
   pub no16 : T (not (refused 16 (rowOf o .conditions) d s))
 
 -- a triple made of three numbers in their ranges is a good one
-triple-good : (w o p : ℕ) → (1 ≤ w) × (w ≤ whoLimit) → (1 ≤ o) × (o ≤ operationCount) → (1 ≤ p) × (p ≤ positionCount) → GoodTriple (tripleOf w o p)
+triple-good : (w o p : ℕ) → Between 1 whoLimit w → Between 1 operationCount o → Between 1 positionCount p → GoodTriple (tripleOf w o p)
 triple-good w o p hw ho hp =
     let a : whoOf (tripleOf w o p) ≡ w = omega arith in
     let b : operationIn (tripleOf w o p) ≡ o = omega arith in
@@ -48,21 +43,19 @@ triple-good w o p hw ho hp =
     record { who = rw a hw; operation = rw b ho; position = rw c hp }
 
 -- arguments in the ranges of operations 8 and 9 name a good triple
-named-good : (s : Asked) → T (aWho (s .a)) → T (anOperation (s .b)) → T (aPosition (s .c)) → GoodTriple (namedTriple s)
-unfolding aWho anOperation aPosition
-named-good s a b c = triple-good (s .a) (s .b) (s .c)
-    (between-agrees 1 whoLimit (s .a) .to a) (between-agrees 1 operationCount (s .b) .to b) (between-agrees 1 positionCount (s .c) .to c)
+named-good : (s : Asked) → InRange toGrant (s .a) (s .b) (s .c) → GoodTriple (namedTriple s)
+named-good s r = triple-good (s .a) (s .b) (s .c) (r .0) (r .1 .0) (r .1 .1)
 
 module _ (d : Tables) (w : WellFormed d) (s : Asked) where
   -- What rungs 5, 6 and 10 to 16 leave is what each of the twenty operations asks (rules 6.1 to 6.20).
   pub noRefusal-allowed : (o : Op) → NoRefusal o s d → Allowed o s d
-  unfolding refused rangeAt aSort aLevel aFlag aSum someRoles
+  unfolding refused
   noRefusal-allowed toCreate h =
       let r = createNoRoom-fails d s .to (h .no14) in
       record {
         box = container-agrees d (s .first) .to (h .kinds .0);
-        sort = between-agrees objectSort draftSort (s .a) .to (h .a);
-        levelIn = ltb→lt (s .b) levelCount (h .b);
+        sort = h .arguments .0;
+        levelIn = h .arguments .1 .0;
         low = createAbove-fails d s .to (h .no13);
         number = r .0;
         room = r .1;
@@ -85,26 +78,26 @@ module _ (d : Tables) (w : WellFormed d) (s : Asked) where
   }
   noRefusal-allowed toLevel h =
       let t = thing-agrees d (s .first) .to (h .kinds .0) in
-      let l = ltb→lt (s .a) levelCount (h .a) in
+      let l = h .arguments .0 in
       record {
         thing = t;
         levelIn = l;
         downgrade = levelLowered-fails d s .to (h .no12);
         secure = insecure-fails d s levelEffect (level-wellFormed d w (s .first) (s .a) (t .0) l) .to (h .no13);
       }
-  noRefusal-allowed toMark h = record { box = container-agrees d (s .first) .to (h .kinds .0); flag = leb→le (s .a) 1 (h .a) }
+  noRefusal-allowed toMark h = record { box = container-agrees d (s .first) .to (h .kinds .0); flag = h .arguments .0 }
   noRefusal-allowed toGrant h = record {
     here = any-agrees d (s .first) .to (h .kinds .0);
-    good = named-good s (h .a) (h .b) (h .c);
+    good = named-good s (h .arguments);
     room = grantNoRoom-fails d s .to (h .no14);
   }
-  noRefusal-allowed toRevoke h = record { here = any-agrees d (s .first) .to (h .kinds .0); good = named-good s (h .a) (h .b) (h .c) }
+  noRefusal-allowed toRevoke h = record { here = any-agrees d (s .first) .to (h .kinds .0); good = named-good s (h .arguments) }
   noRefusal-allowed toShow h =
       let l = showAbove-fails d s .to (h .no13) in
       record {
         on = h .on tt;
         thing = thing-agrees d (s .first) .to (h .kinds .0);
-        sum = between-agrees 1 sumLimit (s .a) .to (h .a);
+        sum = h .arguments .0;
         low = l .1;
         clear = l .0;
         label = showUnlabelled-fails d s .to (h .no15);
@@ -120,14 +113,14 @@ module _ (d : Tables) (w : WellFormed d) (s : Asked) where
       let p = rolesOff-fails d s .to (h .no11) in
       record {
         present = p .0;
-        rolesIn = ltb→lt (s .b) roleSets (h .b);
+        rolesIn = h .arguments .1 .0;
         off = p .1;
         officer = rolesOfAnother-fails d s .to (h .no12);
         authorised = rolesUnauthorised-fails d s .to (h .no13);
       }
   noRefusal-allowed toClearance h =
       let p = userAbsent-fails d s .to (h .no11) in
-      let l = ltb→lt (s .b) levelCount (h .b) in
+      let l = h .arguments .1 .0 in
       record {
         present = p;
         levelIn = l;
@@ -136,19 +129,19 @@ module _ (d : Tables) (w : WellFormed d) (s : Asked) where
       }
   noRefusal-allowed toAuthorised h = record {
     present = userAbsent-fails d s .to (h .no11);
-    rolesIn = ltb→lt (s .b) roleSets (h .b);
+    rolesIn = h .arguments .1 .0;
     officer = lacks-fails d s officer .to (h .no12);
     within = currentOutside-fails d s .to (h .no13);
   }
   noRefusal-allowed toMaximum h = record {
     screen = device-agrees d (s .first) .to (h .kinds .0);
-    levelIn = ltb→lt (s .a) levelCount (h .a);
+    levelIn = h .arguments .0;
     officer = lacks-fails d s officer .to (h .no12);
     low = deviceAbove-fails d s .to (h .no13);
   }
   noRefusal-allowed toDeviceLevel h =
       let k = device-agrees d (s .first) .to (h .kinds .0) in
-      let l = ltb→lt (s .a) levelCount (h .a) in
+      let l = h .arguments .0 in
       record {
         screen = k;
         levelIn = l;
