@@ -7,6 +7,7 @@ pub mod Operations
 pub mod Ladder
 pub mod After
 pub mod Step
+pub mod Form
 pub mod Allowed
 pub mod ReferenceLaws
 pub mod OperationLaws

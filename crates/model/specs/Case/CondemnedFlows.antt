@@ -15,6 +15,7 @@ use Rattle.model.specs.Case.S1.{s1, s1Sheet}
 use Rattle.model.specs.Level.{bit}
 use Rattle.model.specs.Request.Allowed.{Meant, Open, Operand, Permitted, arity}
 use Rattle.model.specs.Request.Asked.{asked, basisOf, operand}
+use Rattle.model.specs.Request.FitLaws.{fits-agrees}
 use Rattle.model.specs.Request.Ladder.{fits, permits}
 use Rattle.model.specs.Request.Operations.{Op, numberOf, opOf, toClear, toCopy, toEdit, toLogin, toShow}
 use Rattle.model.specs.Request.TestLaws.{permits-agrees}
@@ -136,7 +137,9 @@ no-operation-condemned o m =
 -- nor does an edit with a second reference;
 pub unfitting-condemned : (o : Op) → Meant o s1 (ask 2 4 (7 ∷ []) (7 ∷ []) 41 0 0) → ⊥
 unfolding opened s1 s1Sheet
-unfitting-condemned o m = subst (λ (p : Op). T (fits p (ask 2 4 (7 ∷ []) (7 ∷ []) 41 0 0))) (only refl m) (m .fitting)
+unfitting-condemned o m =
+    let q : Request = ask 2 4 (7 ∷ []) (7 ∷ []) 41 0 0 in
+    subst (λ (p : Op). T (fits p q)) (only refl m) (fits-agrees o q .from (m .fitting))
 
 -- nor an edit of 8, which is not there.
 pub nowhere-condemned : (o : Op) → Meant o s1 (ask 2 4 (8 ∷ []) [] 41 0 0) → ⊥

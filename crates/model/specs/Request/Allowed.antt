@@ -12,19 +12,19 @@ use Rattle.model.specs.Effect.Screens.{spot}
 use Rattle.model.specs.Level.{AtMost, Lower, Subset, downgrader, levelCount, officer, releasing, roleCount, roleSets}
 use Rattle.model.specs.Request.Asked.{Asked, HasRole, asked, basisOf, namedTriple, operand, own}
 use Rattle.model.specs.Request.Conditions.{levelOf}
+use Rattle.model.specs.Request.Form.{Between, Fits}
 use Rattle.model.specs.Request.Operations.{Op, clearanceEffect, levelEffect, numberOf, opOf, openLoggedOff, rowOf, toAcknowledge}
 use Rattle.model.specs.Request.Operations.{toAuthorised, toClear, toClearance, toCopy, toCreate, toCurrent, toDelete, toDeviceLevel}
 use Rattle.model.specs.Request.Operations.{toEdit, toGrant, toLevel, toLogin, toLogout, toMark, toMaximum, toMove, toRelease}
 use Rattle.model.specs.Request.Operations.{toRevoke, toShow}
-use Rattle.model.specs.Request.Words.{Reference, Request, nameCount}
+use Rattle.model.specs.Request.Words.{Request}
 use Rattle.model.specs.State.Depth.{Within}
 use Rattle.model.specs.State.Secure.{Secure, labelled}
 use Rattle.model.specs.State.WellFormed.{GoodTriple, Holds, InTables, Thing}
 use Rattle.model.specs.Tables.Rows.{Member, seek}
 use Rattle.model.specs.Tables.Words.{Tables, authorised, clearance, containerKind, counts, current, deviceKind, devices, draftType}
-use Rattle.model.specs.Tables.Words.{entityCount, held, kinds, level, mark, missed, objectKind, operationCount, placeCount}
-use Rattle.model.specs.Tables.Words.{positionCount, present, releasedType, sumLimit, tripleOf, triples, type, userCount, whoLimit}
-use Rattle.model.specs.Tables.Words.{whoRole}
+use Rattle.model.specs.Tables.Words.{entityCount, held, kinds, level, mark, missed, objectKind, placeCount, present, releasedType}
+use Rattle.model.specs.Tables.Words.{sumLimit, tripleOf, triples, type, userCount, whoRole}
 
 -- Rule 7.4: the requester is one of the users that are there.
 pub record Known (d : Tables) (u : ℕ) : Type 0 where
@@ -38,78 +38,6 @@ arity o = length (rowOf o .operands)
 
 abbrev pub Operand : Op → ℕ → Type 0
 Operand o k = (1 ≤ k) × (k ≤ arity o)
-
--- Rule 5.4: a reference that an operation takes has 1 to 4 names, and its name words behind them are zero;
-abbrev pub Named : Reference → Type 0
-Named r = (1 ≤ r .length) × (r .length ≤ nameCount) × ((i : ℕ) → i < nameCount → r .length ≤ i → r .name i ≡ 0)
-
--- one that it does not take is zero, its length and all its name words.
-abbrev pub Unnamed : Reference → Type 0
-Unnamed r = (r .length ≡ 0) × ((i : ℕ) → i < nameCount → r .name i ≡ 0)
-
--- the reference at position k, where the first n are taken
-abbrev pub Referred : ℕ → ℕ → Reference → Type 0
-Referred k n r = (k ≤ n → Named r) × (n < k → Unnamed r)
-
--- Rules 6.1 to 6.20: how many references each operation takes.
-abbrev pub taken : Op → ℕ
-taken toCreate = 1
-taken toDelete = 1
-taken toMove = 2
-taken toEdit = 1
-taken toCopy = 2
-taken toLevel = 1
-taken toMark = 1
-taken toGrant = 1
-taken toRevoke = 1
-taken toShow = 1
-taken toClear = 0
-taken toLogin = 1
-taken toLogout = 0
-taken toCurrent = 0
-taken toClearance = 0
-taken toAuthorised = 0
-taken toMaximum = 1
-taken toDeviceLevel = 1
-taken toRelease = 1
-taken toAcknowledge = 0
-
--- Rule 5.4: a number from one up to another.
-abbrev pub Between : ℕ → ℕ → ℕ → Type 0
-Between low high n = (low ≤ n) × (n ≤ high)
-
--- Rules 6.1 to 6.20: what each operation asks of the arguments a, b and c. One that it does not list is zero; of one that may be any word
--- nothing is said.
-abbrev pub InRange : Op → ℕ → ℕ → ℕ → Type 0
-InRange toCreate a b c = Between objectSort draftSort a × ((b < levelCount) × (c ≡ 0))
-InRange toDelete a b c = (a ≡ 0) × ((b ≡ 0) × (c ≡ 0))
-InRange toMove a b c = (a ≡ 0) × ((b ≡ 0) × (c ≡ 0))
-InRange toEdit a b c = (b ≡ 0) × (c ≡ 0)
-InRange toCopy a b c = (a ≡ 0) × ((b ≡ 0) × (c ≡ 0))
-InRange toLevel a b c = (a < levelCount) × ((b ≡ 0) × (c ≡ 0))
-InRange toMark a b c = (a ≤ 1) × ((b ≡ 0) × (c ≡ 0))
-InRange toGrant a b c = Between 1 whoLimit a × (Between 1 operationCount b × Between 1 positionCount c)
-InRange toRevoke a b c = Between 1 whoLimit a × (Between 1 operationCount b × Between 1 positionCount c)
-InRange toShow a b c = Between 1 sumLimit a × ((b ≡ 0) × (c ≡ 0))
-InRange toClear a b c = (a ≡ 0) × ((b ≡ 0) × (c ≡ 0))
-InRange toLogin a b c = (a ≡ 0) × ((b ≡ 0) × (c ≡ 0))
-InRange toLogout a b c = (a ≡ 0) × ((b ≡ 0) × (c ≡ 0))
-InRange toCurrent a b c = Between 1 userCount a × ((b < roleSets) × (c ≡ 0))
-InRange toClearance a b c = Between 1 userCount a × ((b < levelCount) × (c ≡ 0))
-InRange toAuthorised a b c = Between 1 userCount a × ((b < roleSets) × (c ≡ 0))
-InRange toMaximum a b c = (a < levelCount) × ((b ≡ 0) × (c ≡ 0))
-InRange toDeviceLevel a b c = (a < levelCount) × ((b ≡ 0) × (c ≡ 0))
-InRange toRelease a b c = (a ≡ 0) × ((b ≡ 0) × (c ≡ 0))
-InRange toAcknowledge a b c = c ≡ 0
-
--- Rules 5.4 and 7.5: a request in the form that the operation o asks.
-pub record Fits (o : Op) (q : Request) : Type 0 where
-  -- a reference has names where the operation takes it, and none where it does not
-  pub first : Referred 1 (taken o) (q .first)
-  pub second : Referred 2 (taken o) (q .second)
-  pub arguments : InRange o (q .a) (q .b) (q .c)
-  -- word 15 has no use
-  pub last : q .last ≡ 0
 
 -- Rules 7.4, 7.5 and 7.7: a request that means something in these tables, by the operation o.
 pub record Meant (o : Op) (d : Tables) (q : Request) : Type 0 where

@@ -10,13 +10,13 @@ use Rattle.model.specs.Effect.Places.{leave, vacant}
 use Rattle.model.specs.Effect.Screens.{spot}
 use Rattle.model.specs.Level.{AtMost, Lower, Subset, atMost, downgrader, officer, roleCount, subset}
 use Rattle.model.specs.LevelLaws.{lower-agrees}
-use Rattle.model.specs.Request.Allowed.{Between}
 use Rattle.model.specs.Request.Asked.{Asked, HasRole, namedTriple, own}
 use Rattle.model.specs.Request.Conditions.{between, createAbove, createNoRoom, currentOutside, deleteForbidden, deviceAbove}
 use Rattle.model.specs.Request.Conditions.{deviceLowered, firstAbove, grantNoRoom, insecure, isAny, isContainer, isDevice, isDraft}
 use Rattle.model.specs.Request.Conditions.{isEntity, lacks, levelLowered, levelOf, loginTaken, moveInside, moveNoRoom}
 use Rattle.model.specs.Request.Conditions.{notAcknowledged, onScreen, rolesOfAnother, rolesOff, rolesUnauthorised, showAbove}
 use Rattle.model.specs.Request.Conditions.{showNoRoom, showUnlabelled, userAbsent}
+use Rattle.model.specs.Request.Form.{Between}
 use Rattle.model.specs.Request.TestLaws.{inside-agrees, nobody-agrees, role-agrees, screen-agrees}
 use Rattle.model.specs.State.AgreeSecure.{secure-agrees}
 use Rattle.model.specs.State.Depth.{Within}

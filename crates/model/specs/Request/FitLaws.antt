@@ -6,10 +6,11 @@ use Prim.Native.Nat.{_<_, _≤_, suc, zero, ℕ}
 use native.Mathlib.Omega.{arith}
 use lib.ListN.{length}
 use Rattle.model.specs.Basics.Agree.{Agrees, agreement, agrees-and, agrees-as, agrees-eq, agrees-le}
-use Rattle.model.specs.Request.Allowed.{Fits, InRange, Referred, arity, taken}
+use Rattle.model.specs.Request.Allowed.{arity}
 use Rattle.model.specs.Request.ConditionLaws.{between-agrees}
 use Rattle.model.specs.Request.Conditions.{Kind, aFlag, aLevel, aPosition, aSort, aSum, aUser, aWho, anOperation, free, someRoles}
 use Rattle.model.specs.Request.Conditions.{unused}
+use Rattle.model.specs.Request.Form.{Fits, InRange, Referred, taken}
 use Rattle.model.specs.Request.Ladder.{fits, lengthFits, namesFit, rangeAt}
 use Rattle.model.specs.Request.Operations.{Op, rowOf, toAcknowledge, toAuthorised, toClear, toClearance, toCopy, toCreate, toCurrent}
 use Rattle.model.specs.Request.Operations.{toDelete, toDeviceLevel, toEdit, toGrant, toLevel, toLogin, toLogout, toMark, toMaximum}

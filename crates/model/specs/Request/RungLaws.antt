@@ -8,9 +8,10 @@ use native.Mathlib.Omega.{arith}
 use lib.Dec.{T, eqb}
 use Rattle.model.specs.Basics.Agree.{agrees-T, agrees-and, agrees-eq, agrees-le, agrees-not}
 use Rattle.model.specs.Basics.Fails.{Fails, fails-T, fails-agreed, fails-and, fails-as, fails-not, fails-where}
-use Rattle.model.specs.Request.Allowed.{Fits, Known, On, Open, Operand, Permitted}
+use Rattle.model.specs.Request.Allowed.{Known, On, Open, Operand, Permitted}
 use Rattle.model.specs.Request.Asked.{asked, basisOf, operand}
 use Rattle.model.specs.Request.FitLaws.{fits-agrees}
+use Rattle.model.specs.Request.Form.{Fits}
 use Rattle.model.specs.Request.Ladder.{bars, fits, leadsNowhere, noAccess, notCleared, notLoggedOn, notSecure, notUnderstood}
 use Rattle.model.specs.Request.Ladder.{notWellFormed, ofOp, ownRung, permits, refused, someOperand, unknownUser, wrongKind}
 use Rattle.model.specs.Request.LadderLaws.{AllOperands, ofOp-agrees, ofOp-fails, positions-fail, someOperand-fails}

@@ -108,7 +108,8 @@ unfolding check
 check-agrees t = go (eqb (length t) wordCount) (agrees-eq (length t) wordCount)
   where
     go : (b : Bool) → Agrees b (length t ≡ wordCount) → Agrees (eqb (pick b (judge (tablesOf t)) 1) 0) ((length t ≡ wordCount) × Good (tablesOf t))
-    go true a = record { to = λ z. (a .to tt, judge-agrees (tablesOf t) (bounded t) .to z); from = λ z. judge-agrees (tablesOf t) (bounded t) .from (z .1) }
+    go true a =
+        record { to = λ z. (a .to tt, judge-agrees (tablesOf t) (bounded t) .to z); from = λ z. judge-agrees (tablesOf t) (bounded t) .from (z .1) }
     go false a = record { to = λ z. absurd z; from = λ z. absurd (a .from (z .0)) }
 
 -- Rule 8.5: 1 for another size, and else what the tables are answered.

@@ -5,8 +5,9 @@ use mathlib.Core.Path.{_≡_}
 use Prim.Native.Nat.{ℕ}
 use lib.Dec.{T}
 use Rattle.model.specs.Basics.TestLaws.{is-false}
-use Rattle.model.specs.Request.Allowed.{Accepted, Fits, Known, On}
+use Rattle.model.specs.Request.Allowed.{Accepted, Known, On}
 use Rattle.model.specs.Request.Asked.{asked}
+use Rattle.model.specs.Request.Form.{Fits}
 use Rattle.model.specs.Request.Ladder.{answer, applies, ladder, leadsNowhere, noAccess, notCleared, notLoggedOn, notSecure}
 use Rattle.model.specs.Request.Ladder.{notUnderstood, notWellFormed, ownRung, refused, rungAt, unknownUser, wrongKind}
 use Rattle.model.specs.Request.LadderLaws.{answer-is}

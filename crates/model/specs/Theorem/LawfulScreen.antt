@@ -45,7 +45,8 @@ screen-kept toGrant d w q a x h = h
 screen-kept toRevoke d w q a x h = h
 screen-kept toShow d w q a x h = h
 screen-kept toClear d w q a x h = h
-screen-kept toLogin d w q a x h = device-set d w (q .user) x (asked d q .first) (idle-shows d w (q .user) x (asked d q .first) (a .allowed .screen) (a .allowed .free)) h
+screen-kept toLogin d w q a x h =
+    device-set d w (q .user) x (asked d q .first) (idle-shows d w (q .user) x (asked d q .first) (a .allowed .screen) (a .allowed .free)) h
 screen-kept toLogout d w q a x h = device-set d w (q .user) x 0 (none-shows d w (q .user) x) h
 screen-kept toCurrent d w q a x h = h
 screen-kept toClearance d w q a x h = h

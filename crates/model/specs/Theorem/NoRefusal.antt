@@ -6,7 +6,7 @@ use native.Mathlib.Omega.{arith}
 use lib.Dec.{T}
 use Rattle.model.specs.Effect.WordsLaws.{clearance-wellFormed, level-wellFormed}
 use Rattle.model.specs.Level.{officer, releasing}
-use Rattle.model.specs.Request.Allowed.{Allowed, Between, InRange, On}
+use Rattle.model.specs.Request.Allowed.{Allowed, On}
 use Rattle.model.specs.Request.Asked.{Asked, namedTriple, operand}
 use Rattle.model.specs.Request.ConditionLaws.{any-agrees, container-agrees, createAbove-fails, createNoRoom-fails}
 use Rattle.model.specs.Request.ConditionLaws.{currentOutside-fails, deleteForbidden-fails, device-agrees, deviceAbove-fails}
@@ -14,6 +14,7 @@ use Rattle.model.specs.Request.ConditionLaws.{deviceLowered-fails, draft
 use Rattle.model.specs.Request.ConditionLaws.{lacks-fails, levelLowered-fails, loginTaken-fails, moveInside-fails, moveNoRoom-fails}
 use Rattle.model.specs.Request.ConditionLaws.{notAcknowledged-fails, rolesOfAnother-fails, rolesOff-fails, rolesUnauthorised-fails}
 use Rattle.model.specs.Request.ConditionLaws.{showAbove-fails, showNoRoom-fails, showUnlabelled-fails, thing-agrees, userAbsent-fails}
+use Rattle.model.specs.Request.Form.{Between, InRange}
 use Rattle.model.specs.Request.Ladder.{refused}
 use Rattle.model.specs.Request.LadderLaws.{AllOperands}
 use Rattle.model.specs.Request.Operations.{Op, clearanceEffect, levelEffect, rowOf, toAcknowledge, toAuthorised, toClear, toClearance}

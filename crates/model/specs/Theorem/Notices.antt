@@ -92,7 +92,8 @@ held-kept d w q x h n =
         record { refusal = k .0; operation = k .1; count = notice-counts d (q .user) (answer d q) (noticedOp q) x (w .users x .notice .countIn) }
 
 still-held : (d e f : Tables) (x : ℕ) → StillHeld d e x → StillHeld e f x → StillHeld d f x
-still-held d e f x a b = record { refusal = b .refusal ∙ a .refusal; operation = b .operation ∙ a .operation; count = omega (arith, a .count, b .count) }
+still-held d e f x a b =
+    record { refusal = b .refusal ∙ a .refusal; operation = b .operation ∙ a .operation; count = omega (arith, a .count, b .count) }
 
 -- And so along every list of requests in which it is not acknowledged.
 pub held-through : (d : Tables) → Good d → (x : ℕ) → d .user x held ≢ 0 → (qs : List Request) → Unacknowledged d x qs → StillHeld d (afterAll d qs) x
