@@ -1,0 +1,92 @@
+-- Tests as equations, which is how a branch of code tells its outcome.
+use mathlib.Core.Bool.{Bool, _&&_, _||_, false, false≢true, not, true, true≢false}
+use mathlib.Core.Logic.{_⊎_, inl, inr}
+use mathlib.Core.Path.{_∙_, _≡_, refl, subst, sym}
+use lib.Dec.{T}
+use Rattle.model.specs.Basics.Agree.{Agrees}
+use Rattle.model.specs.Basics.Choice.{pick}
+use Rattle.model.specs.Basics.Tests.{imp}
+
+-- a test that passes is true, one that fails is false
+pub holds : (b : Bool) → T b → b ≡ true
+holds true t = refl
+holds false t = absurd t
+
+pub passes : (b : Bool) → b ≡ true → T b
+passes b e = subst T (sym e) tt
+
+pub fails : (b : Bool) → (T b → ⊥) → b ≡ false
+fails true h = absurd (h tt)
+fails false h = refl
+
+pub refuted : (b : Bool) → b ≡ false → T b → ⊥
+refuted b e t = subst T e t
+
+pub clash : {P : Type 0} (b : Bool) → b ≡ true → b ≡ false → P
+clash b t f = absurd (true≢false (sym t ∙ f))
+
+-- two tests that pass for each other are one
+pub equal-bools : (a b : Bool) → (T a → T b) → (T b → T a) → a ≡ b
+equal-bools true true f g = refl
+equal-bools true false f g = absurd (f tt)
+equal-bools false true f g = absurd (g tt)
+equal-bools false false f g = refl
+
+-- two tests that agree with one statement are one
+pub agreed : (a b : Bool) {P : Type 0} → Agrees a P → Agrees b P → a ≡ b
+agreed a b p q = equal-bools a b (λ t. q .from (p .to t)) (λ t. p .from (q .to t))
+
+-- a test that was found true, or false, from a statement that it agrees with
+pub agreed-true : (b : Bool) {P : Type 0} → Agrees b P → P → true ≡ b
+agreed-true b a p = sym (holds b (a .from p))
+
+pub agreed-false : (b : Bool) {P : Type 0} → Agrees b P → (P → ⊥) → false ≡ b
+agreed-false b a n = sym (fails b (λ t. n (a .to t)))
+
+-- "where a, then b" is "not a, or b"
+pub or-imp : (a b : Bool) → (not a || b) ≡ imp a b
+unfolding imp
+or-imp true b = refl
+or-imp false b = refl
+
+-- `and`, `or` and `not` of tests that are known
+pub and-l : (a b : Bool) → (a && b) ≡ true → a ≡ true
+and-l true b e = refl
+and-l false b e = e
+
+pub and-r : (a b : Bool) → (a && b) ≡ true → b ≡ true
+and-r true b e = e
+and-r false b e = absurd (false≢true e)
+
+pub both : (a b : Bool) → a ≡ true → b ≡ true → (a && b) ≡ true
+both true b p q = q
+both false b p q = p
+
+pub not-yes : (b : Bool) → not b ≡ true → b ≡ false
+not-yes true e = sym e
+not-yes false e = refl
+
+pub not-no : (b : Bool) → not b ≡ false → b ≡ true
+not-no true e = refl
+not-no false e = sym e
+
+pub or-cases : (a b : Bool) → (a || b) ≡ true → (a ≡ true) ⊎ (b ≡ true)
+or-cases true b e = inl refl
+or-cases false b e = inr e
+
+pub neither-l : (a b : Bool) → (a || b) ≡ false → a ≡ false
+neither-l true b e = e
+neither-l false b e = refl
+
+pub neither-r : (a b : Bool) → (a || b) ≡ false → b ≡ false
+neither-r true b e = absurd (true≢false e)
+neither-r false b e = e
+
+-- a choice whose test is known
+pub pick-yes : {A : Type 0} (b : Bool) (x y : A) → b ≡ true → pick b x y ≡ x
+pick-yes true x y e = refl
+pick-yes false x y e = absurd (false≢true e)
+
+pub pick-no : {A : Type 0} (b : Bool) (x y : A) → b ≡ false → pick b x y ≡ y
+pick-no true x y e = absurd (true≢false e)
+pick-no false x y e = refl

@@ -1,0 +1,58 @@
+// Users, entities and levels as types of their own, and the order of levels.
+ghost use mathlib.Core.Path.{_≡_};
+ghost use Prim.Native.Nat.{_<_};
+ghost use Rattle.model.specs.Basics.Tests.{imp};
+ghost use Rattle.model.specs.Level.{atMost, bit, lower, roleCount, subset};
+
+// A user's number.
+pub struct User(pub u32);
+
+// An entity's number.
+pub struct Entity(pub u32);
+
+// A level: a rank and a set of compartments in one number.
+pub struct Level(pub u32);
+
+// Whether bit i is in n.
+pub fn has_bit(i: u32, n: u32) -> bool
+    requires { ⌜ i < 32 ⌝ }
+    ensures { λ r. ⌜ r ≡ bit i n ⌝ }
+{
+    (n >> i) % 2 == 1
+}
+
+// Whether bit i is in b, where it is in a.
+fn bit_kept(i: u32, a: u32, b: u32) -> bool
+    requires { ⌜ i < 32 ⌝ }
+    ensures { λ r. ⌜ r ≡ imp (bit i a) (bit i b) ⌝ }
+{
+    !has_bit(i, a) | has_bit(i, b)
+}
+
+// Whether each of the first eight bits that is in a is in b: the comparison is made bit by bit.
+pub fn within(a: u32, b: u32) -> bool
+    ensures { λ r. ⌜ r ≡ subset roleCount a b ⌝ }
+{
+    bit_kept(7, a, b)
+        & (bit_kept(6, a, b)
+            & (bit_kept(5, a, b)
+                & (bit_kept(4, a, b)
+                    & (bit_kept(3, a, b)
+                        & (bit_kept(2, a, b) & (bit_kept(1, a, b) & bit_kept(0, a, b)))))))
+}
+
+// Whether a is at most b: no higher rank, and no compartment that b lacks.
+pub fn at_most(a: Level, b: Level) -> bool
+    ensures { λ r. ⌜ r ≡ atMost (a .0) (b .0) ⌝ }
+{
+    let x = a.0;
+    let y = b.0;
+    (x / 256 <= y / 256) & within(x, y)
+}
+
+// Whether a is strictly lower than b: at most, and another level.
+pub fn lower(a: Level, b: Level) -> bool
+    ensures { λ r. ⌜ r ≡ lower (a .0) (b .0) ⌝ }
+{
+    at_most(a, b) & !(a.0 == b.0)
+}

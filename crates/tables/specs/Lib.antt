@@ -1,0 +1,3 @@
+-- What the readers and writers of words promise.
+pub mod Singles
+pub mod Laws

@@ -1,0 +1,24 @@
+-- The single words of a record by their place, and what a reader asks of the words and of a number.
+use mathlib.Core.List.{List, [], _∷_}
+use mathlib.Core.Path.{_≡_}
+use Prim.Native.Nat.{_≤_, ℕ}
+use lib.ListN.{getD, length}
+use Rattle.model.specs.Tables.Layout.{wordCount}
+use Rattle.model.specs.Tables.Words.{EntityWord, UserWord, authorised, clearance, count, current, device, entityCount, held, heldOp, kind}
+use Rattle.model.specs.Tables.Words.{level, mark, maximum, missed, present, releaser, type, userCount, value}
+
+-- the first eight words of a user
+abbrev pub userSingle : ℕ → UserWord
+userSingle f = getD (present ∷ clearance ∷ authorised ∷ current ∷ device ∷ held ∷ heldOp ∷ missed ∷ []) f present
+
+-- the first eight words of an entity
+abbrev pub entitySingle : ℕ → EntityWord
+entitySingle f = getD (kind ∷ type ∷ level ∷ mark ∷ value ∷ releaser ∷ maximum ∷ count ∷ []) f kind
+
+-- the tables are whole, and u is the number of a user's record
+abbrev pub UserIn : List ℕ → ℕ → Type 0
+UserIn t u = (length t ≡ wordCount) × (1 ≤ u) × (u ≤ userCount)
+
+-- the tables are whole, and e is the number of an entity's record
+abbrev pub EntityIn : List ℕ → ℕ → Type 0
+EntityIn t e = (length t ≡ wordCount) × (1 ≤ e) × (e ≤ entityCount)
