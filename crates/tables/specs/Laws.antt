@@ -1,7 +1,8 @@
 -- A word is read where it stands, and stored where it stands.
 use mathlib.Core.Bool.{Bool}
 use mathlib.Core.List.{List}
-use mathlib.Core.Path.{_∙_, _≡_, ap, refl, sym}
+use mathlib.Core.Logic.{inl, inr}
+use mathlib.Core.Path.{_∙_, _≡_, ap, sym}
 use Prim.Native.Nat.{_*_, _+_, _-_, _<_, _≤_, ℕ}
 use native.Mathlib.Omega.{arith}
 use lib.Dec.{T, eqb, eqb→eq}
@@ -10,7 +11,7 @@ use Rattle.laws.specs.Loops.{every-at}
 use Rattle.model.specs.Basics.Tests.{every}
 use Rattle.model.specs.Tables.Edits.{onEntity, onUser, userWord, word}
 use Rattle.model.specs.Tables.Layout.{entityAt, entityIn, entityWidth, offset, tablesOf, userAt, userIn, userOffset, userWidth, wordCount}
-use Rattle.model.specs.Tables.LayoutLaws.{entity-set, user-set}
+use Rattle.model.specs.Tables.LayoutLaws.{bounded, entity-set, user-set}
 use Rattle.model.specs.Tables.RangeLaws.{guard-in, in-entity, in-user}
 use Rattle.model.specs.Tables.WordAt.{entityWordAt, userWordAt}
 use Rattle.model.specs.Tables.WordAtLaws.{index-below, offset-at, user-offset-at}
@@ -73,3 +74,17 @@ module _ (t : List ℕ) where
   entity-store e f v i h =
       ap (λ (n : ℕ). tablesOf (set t (256 + (e - 1) * entityWidth + n) v)) (sym (entity-single-at f h))
       ∙ entity-set t (i .0) e (entitySingle f) v (i .1) (i .2) (omega (arith, entity-single-index f h))
+
+  -- a store of any word of an entity is an edit of that word
+  pub entity-store-at : (e f v : ℕ) → EntityIn t e → f < entityWidth
+      → tablesOf (set t (256 + (e - 1) * entityWidth + f) v) ≡ onEntity e (word (entityWordAt f) v) (tablesOf t)
+  entity-store-at e f v i h =
+      ap (λ (n : ℕ). tablesOf (set t (256 + (e - 1) * entityWidth + n) v)) (sym (offset-at f h))
+      ∙ entity-set t (i .0) e (entityWordAt f) v (i .1) (i .2) (index-below f h)
+
+  -- an entity of any other number is zero
+  pub entity-below : (e : ℕ) (f : EntityWord) → e < 1 → 0 ≡ tablesOf t .entity e f
+  entity-below e f h = sym (bounded t .entityOut e (inl (omega arith)) f)
+
+  pub entity-above : (e : ℕ) (f : EntityWord) → entityCount < e → 0 ≡ tablesOf t .entity e f
+  entity-above e f h = sym (bounded t .entityOut e (inr h) f)

@@ -6,8 +6,9 @@ use levels::Level;
 use levels::User;
 ghost use mathlib.Core.Path.{_≡_};
 ghost use Prim.Native.Nat.{_<_, _≤_};
+ghost use lib.ListN.{length};
 ghost use Rattle.model.specs.Tables.Edits.{onEntity, onUser, userWord, word};
-ghost use Rattle.model.specs.Tables.Layout.{tablesOf, userWidth, entityWidth};
+ghost use Rattle.model.specs.Tables.Layout.{entityWidth, tablesOf, userWidth, wordCount};
 ghost use Rattle.model.specs.Tables.WordAt.{entityWordAt, userWordAt};
 ghost use Rattle.model.specs.Tables.Words.{authorised, clearance, count, current, device, held, heldOp, kind, level, mark, maximum, missed};
 ghost use Rattle.model.specs.Tables.Words.{place, placeCount, present, releaser, shown, triple, type, value};
@@ -106,6 +107,7 @@ fn set_user_word(t: &mut [u32], u: User, f: usize, v: u32)
     t[(n - 1) * 16 + f] = v;
 }
 
+// The clearance of user u is v now, and no other word has changed.
 pub fn set_clearance(t: &mut [u32], u: User, v: Level)
     requires { ⌜ UserIn (now t) (u .0) ⌝ }
     ensures { λ _. ⌜ tablesOf (now (t .exit)) ≡ onUser (u .0) (userWord clearance (v .0)) (tablesOf (now (t .entry))) ⌝ }
@@ -113,6 +115,7 @@ pub fn set_clearance(t: &mut [u32], u: User, v: Level)
     set_user_word(t, u, 1, v.0);
 }
 
+// The roles that user u may take are v now, and no other word has changed.
 pub fn set_authorised(t: &mut [u32], u: User, v: u32)
     requires { ⌜ UserIn (now t) (u .0) ⌝ }
     ensures { λ _. ⌜ tablesOf (now (t .exit)) ≡ onUser (u .0) (userWord authorised v) (tablesOf (now (t .entry))) ⌝ }
@@ -120,6 +123,7 @@ pub fn set_authorised(t: &mut [u32], u: User, v: u32)
     set_user_word(t, u, 2, v);
 }
 
+// The roles that user u acts with are v now, and no other word has changed.
 pub fn set_current(t: &mut [u32], u: User, v: u32)
     requires { ⌜ UserIn (now t) (u .0) ⌝ }
     ensures { λ _. ⌜ tablesOf (now (t .exit)) ≡ onUser (u .0) (userWord current v) (tablesOf (now (t .entry))) ⌝ }
@@ -127,6 +131,7 @@ pub fn set_current(t: &mut [u32], u: User, v: u32)
     set_user_word(t, u, 3, v);
 }
 
+// User u is on device v now, on none where it is entity 0, and no other word has changed.
 pub fn set_device(t: &mut [u32], u: User, v: Entity)
     requires { ⌜ UserIn (now t) (u .0) ⌝ }
     ensures { λ _. ⌜ tablesOf (now (t .exit)) ≡ onUser (u .0) (userWord device (v .0)) (tablesOf (now (t .entry))) ⌝ }
@@ -134,6 +139,7 @@ pub fn set_device(t: &mut [u32], u: User, v: Entity)
     set_user_word(t, u, 4, v.0);
 }
 
+// The refusal that user u has not read is v now, and no other word has changed.
 pub fn set_held(t: &mut [u32], u: User, v: u32)
     requires { ⌜ UserIn (now t) (u .0) ⌝ }
     ensures { λ _. ⌜ tablesOf (now (t .exit)) ≡ onUser (u .0) (userWord held v) (tablesOf (now (t .entry))) ⌝ }
@@ -141,6 +147,7 @@ pub fn set_held(t: &mut [u32], u: User, v: u32)
     set_user_word(t, u, 5, v);
 }
 
+// The operation of the refusal held is v now, and no other word has changed.
 pub fn set_held_op(t: &mut [u32], u: User, v: u32)
     requires { ⌜ UserIn (now t) (u .0) ⌝ }
     ensures { λ _. ⌜ tablesOf (now (t .exit)) ≡ onUser (u .0) (userWord heldOp v) (tablesOf (now (t .entry))) ⌝ }
@@ -148,6 +155,7 @@ pub fn set_held_op(t: &mut [u32], u: User, v: u32)
     set_user_word(t, u, 6, v);
 }
 
+// The count of refusals of user u is v now, and no other word has changed.
 pub fn set_missed(t: &mut [u32], u: User, v: u32)
     requires { ⌜ UserIn (now t) (u .0) ⌝ }
     ensures { λ _. ⌜ tablesOf (now (t .exit)) ≡ onUser (u .0) (userWord missed v) (tablesOf (now (t .entry))) ⌝ }
@@ -275,6 +283,7 @@ fn set_entity_word(t: &mut [u32], e: Entity, f: usize, v: u32)
     t[256 + (n - 1) * 32 + f] = v;
 }
 
+// The kind of entity e is v now, and no other word has changed.
 pub fn set_kind(t: &mut [u32], e: Entity, v: u32)
     requires { ⌜ EntityIn (now t) (e .0) ⌝ }
     ensures { λ _. ⌜ tablesOf (now (t .exit)) ≡ onEntity (e .0) (word kind v) (tablesOf (now (t .entry))) ⌝ }
@@ -282,6 +291,7 @@ pub fn set_kind(t: &mut [u32], e: Entity, v: u32)
     set_entity_word(t, e, 0, v);
 }
 
+// The type of entity e is v now, and no other word has changed.
 pub fn set_type(t: &mut [u32], e: Entity, v: u32)
     requires { ⌜ EntityIn (now t) (e .0) ⌝ }
     ensures { λ _. ⌜ tablesOf (now (t .exit)) ≡ onEntity (e .0) (word type v) (tablesOf (now (t .entry))) ⌝ }
@@ -289,6 +299,7 @@ pub fn set_type(t: &mut [u32], e: Entity, v: u32)
     set_entity_word(t, e, 1, v);
 }
 
+// The level of entity e is v now, and no other word has changed.
 pub fn set_level(t: &mut [u32], e: Entity, v: Level)
     requires { ⌜ EntityIn (now t) (e .0) ⌝ }
     ensures { λ _. ⌜ tablesOf (now (t .exit)) ≡ onEntity (e .0) (word level (v .0)) (tablesOf (now (t .entry))) ⌝ }
@@ -296,6 +307,7 @@ pub fn set_level(t: &mut [u32], e: Entity, v: Level)
     set_entity_word(t, e, 2, v.0);
 }
 
+// The mark of entity e is v now, and no other word has changed.
 pub fn set_mark(t: &mut [u32], e: Entity, v: u32)
     requires { ⌜ EntityIn (now t) (e .0) ⌝ }
     ensures { λ _. ⌜ tablesOf (now (t .exit)) ≡ onEntity (e .0) (word mark v) (tablesOf (now (t .entry))) ⌝ }
@@ -303,6 +315,7 @@ pub fn set_mark(t: &mut [u32], e: Entity, v: u32)
     set_entity_word(t, e, 3, v);
 }
 
+// The value of entity e is v now, and no other word has changed.
 pub fn set_value(t: &mut [u32], e: Entity, v: u32)
     requires { ⌜ EntityIn (now t) (e .0) ⌝ }
     ensures { λ _. ⌜ tablesOf (now (t .exit)) ≡ onEntity (e .0) (word value v) (tablesOf (now (t .entry))) ⌝ }
@@ -310,6 +323,7 @@ pub fn set_value(t: &mut [u32], e: Entity, v: u32)
     set_entity_word(t, e, 4, v);
 }
 
+// The releaser of entity e is v now, and no other word has changed.
 pub fn set_releaser(t: &mut [u32], e: Entity, v: User)
     requires { ⌜ EntityIn (now t) (e .0) ⌝ }
     ensures { λ _. ⌜ tablesOf (now (t .exit)) ≡ onEntity (e .0) (word releaser (v .0)) (tablesOf (now (t .entry))) ⌝ }
@@ -317,6 +331,7 @@ pub fn set_releaser(t: &mut [u32], e: Entity, v: User)
     set_entity_word(t, e, 5, v.0);
 }
 
+// The maximum of entity e is v now, and no other word has changed.
 pub fn set_maximum(t: &mut [u32], e: Entity, v: Level)
     requires { ⌜ EntityIn (now t) (e .0) ⌝ }
     ensures { λ _. ⌜ tablesOf (now (t .exit)) ≡ onEntity (e .0) (word maximum (v .0)) (tablesOf (now (t .entry))) ⌝ }
@@ -324,6 +339,7 @@ pub fn set_maximum(t: &mut [u32], e: Entity, v: Level)
     set_entity_word(t, e, 6, v.0);
 }
 
+// Entity e uses v places now, and no other word has changed.
 pub fn set_count(t: &mut [u32], e: Entity, v: u32)
     requires { ⌜ EntityIn (now t) (e .0) ⌝ }
     ensures { λ _. ⌜ tablesOf (now (t .exit)) ≡ onEntity (e .0) (word count v) (tablesOf (now (t .entry))) ⌝ }
@@ -331,6 +347,7 @@ pub fn set_count(t: &mut [u32], e: Entity, v: u32)
     set_entity_word(t, e, 7, v);
 }
 
+// Place i of entity e holds v now, and no other word has changed.
 pub fn set_place(t: &mut [u32], e: Entity, i: u32, v: Entity)
     requires { ⌜ EntityIn (now t) (e .0) × (i < placeCount) ⌝ }
     ensures { λ _. ⌜ tablesOf (now (t .exit)) ≡ onEntity (e .0) (word (place i) (v .0)) (tablesOf (now (t .entry))) ⌝ }
@@ -339,6 +356,7 @@ pub fn set_place(t: &mut [u32], e: Entity, i: u32, v: Entity)
     t[256 + (n - 1) * 32 + (8 + i as usize)] = v.0;
 }
 
+// What device e shows of place i is v now, and no other word has changed.
 pub fn set_shown(t: &mut [u32], e: Entity, i: u32, v: u32)
     requires { ⌜ EntityIn (now t) (e .0) × (i < placeCount) ⌝ }
     ensures { λ _. ⌜ tablesOf (now (t .exit)) ≡ onEntity (e .0) (word (shown i) v) (tablesOf (now (t .entry))) ⌝ }
@@ -347,10 +365,52 @@ pub fn set_shown(t: &mut [u32], e: Entity, i: u32, v: u32)
     t[256 + (n - 1) * 32 + (16 + i as usize)] = v;
 }
 
+// Access triple i of entity e is v now, and no other word has changed.
 pub fn set_triple(t: &mut [u32], e: Entity, i: u32, v: u32)
     requires { ⌜ EntityIn (now t) (e .0) × (i < placeCount) ⌝ }
     ensures { λ _. ⌜ tablesOf (now (t .exit)) ≡ onEntity (e .0) (word (triple i) v) (tablesOf (now (t .entry))) ⌝ }
 {
     let n = e.0 as usize;
     t[256 + (n - 1) * 32 + (24 + i as usize)] = v;
+}
+
+// ---- any number
+
+// The kind of the entity of any number; 0 where there is none.
+pub fn kind_or_zero(t: &[u32], e: Entity) -> u32
+    requires { ⌜ length (now t) ≡ wordCount ⌝ }
+    ensures { λ r. ⌜ r ≡ tablesOf (now (t .entry)) .entity (e .0) kind ⌝ }
+{
+    let n = e.0;
+    if n < 1 {
+        return 0;
+    }
+    if 64 < n {
+        return 0;
+    }
+    kind(t, e)
+}
+
+// The level of the entity of any number; 0 where there is none.
+pub fn level_or_zero(t: &[u32], e: Entity) -> Level
+    requires { ⌜ length (now t) ≡ wordCount ⌝ }
+    ensures { λ r. ⌜ r .0 ≡ tablesOf (now (t .entry)) .entity (e .0) level ⌝ }
+{
+    let n = e.0;
+    if n < 1 {
+        return Level(0);
+    }
+    if 64 < n {
+        return Level(0);
+    }
+    level(t, e)
+}
+
+// Word f of entity e, counted from 0, is v now, and no other word has changed.
+pub fn set_entity_at(t: &mut [u32], e: Entity, f: usize, v: u32)
+    requires { ⌜ EntityIn (now t) (e .0) × (f < entityWidth) ⌝ }
+    ensures { λ _. ⌜ tablesOf (now (t .exit)) ≡ onEntity (e .0) (word (entityWordAt f) v) (tablesOf (now (t .entry))) ⌝ }
+{
+    let n = e.0 as usize;
+    t[256 + (n - 1) * 32 + f] = v;
 }
