@@ -90,3 +90,40 @@ pick-yes false x y e = absurd (false≢true e)
 pub pick-no : {A : Type 0} (b : Bool) (x y : A) → b ≡ false → pick b x y ≡ y
 pick-no true x y e = absurd (true≢false e)
 pick-no false x y e = refl
+
+-- a choice between two tests agrees with what each of them says where it is chosen
+pub agrees-pick : {c a b : Bool} {C P Q : Type 0} → Agrees c C → Agrees a P → Agrees b Q → Agrees (pick c a b) ((C → P) × ((C → ⊥) → Q))
+agrees-pick {c} {a} {b} {C} {P} {Q} x y z = record { to = go c x; from = back c x }
+  where
+    go : (c : Bool) → Agrees c C → T (pick c a b) → (C → P) × ((C → ⊥) → Q)
+    go true x t = (λ h. y .to t, λ n. absurd (n (x .to tt)))
+    go false x t = (λ h. absurd (x .from h), λ n. z .to t)
+
+    back : (c : Bool) → Agrees c C → (C → P) × ((C → ⊥) → Q) → T (pick c a b)
+    back true x w = y .from (w .0 (x .to tt))
+    back false x w = z .from (w .1 (λ h. x .from h))
+
+-- "not a, then b" is "a, or b"
+pub or-imp-not : (a b : Bool) → (a || b) ≡ imp (not a) b
+unfolding imp
+or-imp-not true b = refl
+or-imp-not false b = refl
+
+-- `and` of two tests that are asked of every number is asked of every number
+pub and-comm : (a b : Bool) → (a && b) ≡ (b && a)
+and-comm true true = refl
+and-comm true false = refl
+and-comm false true = refl
+and-comm false false = refl
+
+pub and-T : (a b : Bool) → T a → T b → T (a && b)
+and-T true b s t = t
+and-T false b s t = s
+
+pub T-l : (a b : Bool) → T (a && b) → T a
+T-l true b t = tt
+T-l false b t = t
+
+pub T-r : (a b : Bool) → T (a && b) → T b
+T-r true b t = t
+T-r false b t = absurd t

@@ -1,14 +1,18 @@
 -- A loop that asks a test of 0, 1, .. in turn and stops at the first that fails computes `every`; one that stops at the first place
 -- with a word computes `seek`. The laws of each: where the loop begins, goes on, stops early, and ends.
 use mathlib.Core.Bool.{Bool, _&&_, false, not, true}
+use mathlib.Core.Logic.{_≢_, inl, inr}
 use mathlib.Core.Path.{_∙_, _≡_, ap, refl, subst, sym}
 use Prim.Native.Nat.{_+_, _-_, _<_, _≤_, suc, zero, ℕ}
 use native.Mathlib.Numerals.{add-one}
 use native.Mathlib.Omega.{arith}
-use lib.Dec.{T}
-use Rattle.laws.specs.Bools.{both, fails, holds, passes}
+use lib.Dec.{T, eqb}
+use Rattle.laws.specs.Bools.{both, equal-bools, fails, holds, passes}
 use Rattle.model.specs.Basics.Agree.{agrees-T, agrees-every}
+use Rattle.model.specs.Basics.Choice.{Same, it, other, pick, same}
 use Rattle.model.specs.Basics.Tests.{every}
+use Rattle.model.specs.Tables.RowLaws.{sought}
+use Rattle.model.specs.Tables.Rows.{Sought, seek}
 
 -- what every number below n passes, i passes; and what each of them passes, every one does
 pub every-at : (n : ℕ) (p : ℕ → Bool) → T (every n p) → (i : ℕ) → i < n → T (p i)
@@ -38,3 +42,73 @@ each-more i p h e = every-more i (λ k. p (suc k)) h (ap p (sym (add-one i)) ∙
 
 pub each-fails : (n : ℕ) (p : ℕ → Bool) (k : ℕ) → k < n → p (k + 1) ≡ false → false ≡ every n (λ k. p (suc k))
 each-fails n p k h e = every-fails n (λ k. p (suc k)) k h (ap p (sym (add-one k)) ∙ e)
+
+-- two tests asked of every number, together or one after the other
+pub every-both : (n : ℕ) (p q : ℕ → Bool) → every n (λ i. p i && q i) ≡ (every n p && every n q)
+unfolding every
+every-both zero p q = refl
+every-both (suc n) p q = go (p n) (q n) (every n p) (every n q) (every n (λ i. p i && q i)) (every-both n p q)
+  where
+    go : (a b c d r : Bool) → r ≡ (c && d) → ((a && b) && r) ≡ ((a && c) && (b && d))
+    go true true c d r e = e
+    go true false true d r e = refl
+    go true false false d r e = refl
+    go false b c d r e = refl
+
+-- tests that are the same below n are the same for every number below n
+pub every-same : (n : ℕ) (p q : ℕ → Bool) → ((i : ℕ) → i < n → p i ≡ q i) → every n p ≡ every n q
+every-same n p q e = equal-bools (every n p) (every n q) (λ t. every-of n q (λ i h. subst T (e i h) (every-at n p t i h)))
+    (λ t. every-of n p (λ i h. subst T (sym (e i h)) (every-at n q t i h)))
+
+-- a loop that gathers `and` from the front
+pub every-gather : (i : ℕ) (p : ℕ → Bool) (a b : Bool) → a ≡ p i → b ≡ every i p → (a && b) ≡ every (i + 1) p
+unfolding every
+every-gather i p a b x y = rw (x, y) (ap (λ (n : ℕ). every n p) (sym (add-one i)))
+
+-- ---- seeking a word in a row
+
+-- it does not stand before the place that was found
+pub seek-before : (v : ℕ) (row : ℕ → ℕ) (n i : ℕ) → i < seek v row n → row i ≢ v
+unfolding seek
+seek-before v row zero i h = absurd (omega arith)
+seek-before v row (suc n) i h = go (eqb (row 0) v) (same (row 0) v) (seek-before v (λ j. row (suc j)) n) i h
+  where
+    go : (b : Bool) → Same (row 0) v b → ((i : ℕ) → i < seek v (λ j. row (suc j)) n → row (suc i) ≢ v)
+        → (i : ℕ) → i < pick b 0 (suc (seek v (λ j. row (suc j)) n)) → row i ≢ v
+    go true (it e) f i h = absurd (omega arith)
+    go false (other e) f zero h = e
+    go false (other e) f (suc i) h = f i (omega arith)
+
+-- the place that was found is the first with v
+pub seek-here : (v : ℕ) (row : ℕ → ℕ) (n k : ℕ) → k < n → row k ≡ v → ((i : ℕ) → i < k → row i ≢ v) → k ≡ seek v row n
+seek-here v row n k h e f = go (sought v row n)
+  where
+    low : seek v row n ≤ k
+    low = let z : ¬ (k < seek v row n) = λ l. seek-before v row n k l e in omega arith
+
+    go : Sought v row n (seek v row n) → k ≡ seek v row n
+    go (inl s) = let z : ¬ (seek v row n < k) = λ l. f (seek v row n) l (s .1) in omega (arith, low)
+    go (inr s) = absurd (s .1 k h e)
+
+-- n where there is none
+pub seek-none : (v : ℕ) (row : ℕ → ℕ) (n : ℕ) → ((i : ℕ) → i < n → row i ≢ v) → n ≡ seek v row n
+seek-none v row n f = go (sought v row n)
+  where
+    go : Sought v row n (seek v row n) → n ≡ seek v row n
+    go (inl s) = absurd (f (seek v row n) (s .0) (s .1))
+    go (inr s) = sym (s .0)
+
+pub seek-within : (v : ℕ) (row : ℕ → ℕ) (n : ℕ) → seek v row n ≤ n
+seek-within v row n = go (sought v row n)
+  where
+    go : Sought v row n (seek v row n) → seek v row n ≤ n
+    go (inl s) = omega (arith, s .0)
+    go (inr s) = omega (arith, s .0)
+
+-- a loop that has not met v yet goes on by one
+pub none-more : (v : ℕ) (row : ℕ → ℕ) (i : ℕ) → ((j : ℕ) → j < i → row j ≢ v) → row i ≢ v → (j : ℕ) → j < i + 1 → row j ≢ v
+none-more v row i f n j h = go (eqb j i) (same j i)
+  where
+    go : (b : Bool) → Same j i b → row j ≢ v
+    go true (it e) = rw e n
+    go false (other e) = f j (omega arith)

@@ -24,11 +24,11 @@ zero-ok = record {
   access = (0, record { packed = packed-none; good = λ i l. absurd (not-suc-le-zero l) });
 }
 
-zero-user : UserOk (λ f. 0)
+pub zero-user : UserOk (λ f. 0)
 zero-user = search (arith, inl)
 
 module _ (d : Tables) (o : Bounded d) where
-  eights : (e : ℕ) → Eights (d .entity e)
+  pub eights : (e : ℕ) → Eights (d .entity e)
   eights e = record { place8 = o .placesOut e; shown8 = o .shownOut e; triple8 = o .triplesOut e }
 
   zero-users : (u : ℕ) → (u ≡ 0) ⊎ (userCount < u) → UserOk (d .user u)

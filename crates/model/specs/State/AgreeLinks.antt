@@ -83,7 +83,7 @@ module _ (k n : ℕ → ℕ) (at : ℕ → ℕ → ℕ) (dev : ℕ → ℕ) (ent
       (λ e. (i : ℕ) → i < placeCount → i < n e → (objectKind ≤ k (at e i)) × (k (at e i) ≤ containerKind))
       (λ e. search agreement depth 20) (λ i h l. absurd (omega (arith, entityOut 0 (inl refl)))) (λ e o i h l. absurd (omega (arith, entityOut e (inr o)))))
 
-  one-agrees : Agrees (oneTest k n at dev) ((c a b : ℕ) → In k n at a c → In k n at b c → a ≡ b)
+  pub one-agrees : Agrees (oneTest k n at dev) ((c a b : ℕ) → In k n at a c → In k n at b c → a ≡ b)
   unfolding oneTest
   one-agrees = agrees-as {P = (a : ℕ) → k a ≡ containerKind → (b : ℕ) → k b ≡ containerKind → (i : ℕ) → i < placeCount → (j : ℕ) → j < placeCount
       → i < n a → j < n b → at a i ≡ at b j → a ≡ b}
@@ -103,7 +103,7 @@ module _ (k n : ℕ → ℕ) (at : ℕ → ℕ → ℕ) (dev : ℕ → ℕ) (ent
       row a b = imp (eqb (k b) containerKind) (every placeCount (λ i. every placeCount
           (λ j. imp (ltb i (n a)) (imp (ltb j (n b)) (imp (eqb (at a i) (at b j)) (eqb a b))))))
 
-  loop-agrees : ((c a b : ℕ) → In k n at a c → In k n at b c → a ≡ b) → Agrees (loopTest k n at dev) ((e : ℕ) → Inside (In k n at) e e → ⊥)
+  pub loop-agrees : ((c a b : ℕ) → In k n at a c → In k n at b c → a ≡ b) → Agrees (loopTest k n at dev) ((e : ℕ) → Inside (In k n at) e e → ⊥)
   unfolding loopTest
   loop-agrees one = agrees-as {P = (i : ℕ) → i < entityCount → T (up (parent k n at) (suc entityCount) (suc i))}
       (λ g e p. low g e p (let x = holds-one p in boxed e (x .0) (x .1)))
@@ -117,13 +117,13 @@ module _ (k n : ℕ → ℕ) (at : ℕ → ℕ → ℕ) (dev : ℕ → ℕ) (ent
       low g (suc e) p r =
           sound entityCount (In k n at) (parent k n at) parent-top parent-holds one boxed (suc entityCount) (suc e) (g e (omega arith)) p
 
-  device-agrees : Agrees (deviceTest k n at dev) ((u : ℕ) → dev u ≢ 0 → k (dev u) ≡ deviceKind)
+  pub device-agrees : Agrees (deviceTest k n at dev) ((u : ℕ) → dev u ≢ 0 → k (dev u) ≡ deviceKind)
   unfolding deviceTest
   device-agrees =
       agrees-range userCount (λ u. imp (not (eqb (dev u) 0)) (eqb (k (dev u)) deviceKind)) (λ u. dev u ≢ 0 → k (dev u) ≡ deviceKind) (λ u. search agreement)
       (λ q. absurd (q (userOut 0 (inl refl)))) (λ u o q. absurd (q (userOut u (inr o))))
 
-  alone-agrees : Agrees (aloneTest k n at dev) ((u v : ℕ) → dev u ≢ 0 → dev u ≡ dev v → u ≡ v)
+  pub alone-agrees : Agrees (aloneTest k n at dev) ((u v : ℕ) → dev u ≢ 0 → dev u ≡ dev v → u ≡ v)
   unfolding aloneTest
   alone-agrees = agrees-range userCount (λ u. every userCount (λ v. imp (not (eqb (dev u) 0)) (imp (eqb (dev u) (dev (suc v))) (eqb u (suc v)))))
       (λ u. (v : ℕ) → dev u ≢ 0 → dev u ≡ dev v → u ≡ v)

@@ -61,7 +61,7 @@ packed-agrees row n out = agrees-as
     (search agreement depth 20)
 
 -- Rules 3.19 to 3.21.
-notice-agrees : (h o n : ℕ) → Agrees (noticeTest h o n) (Notice h o n)
+pub notice-agrees : (h o n : ℕ) → Agrees (noticeTest h o n) (Notice h o n)
 unfolding noticeTest
 notice-agrees h o n = agrees-as
     {P = ((h ≡ 0) ⊎ ((firstNoticed ≤ h) × (h ≤ lastNoticed))) × ((o ≤ operationCount)
@@ -69,7 +69,7 @@ notice-agrees h o n = agrees-as
     (λ z. search) (λ s. search) (search agreement depth 20)
 
 -- Rules 3.4, 3.7 and 3.12.
-filled-agrees : (k n : ℕ) (at sum : ℕ → ℕ) → Eight at → Eight sum → Agrees (filledTest k n at sum) (Filled k n at sum)
+pub filled-agrees : (k n : ℕ) (at sum : ℕ → ℕ) → Eight at → Eight sum → Agrees (filledTest k n at sum) (Filled k n at sum)
 unfolding filledTest
 filled-agrees k n at sum ea es = agrees-as
     {P = Packed at n × ((k ≡ objectKind → n ≡ 0) × ((k ≡ deviceKind → (i : ℕ) → i < placeCount → i < n → (1 ≤ sum i) × (sum i ≤ sumLimit))
@@ -85,14 +85,14 @@ filled-agrees k n at sum ea es = agrees-as
     (agrees-and (packed-agrees at n ea) (search agreement depth 20))
 
 -- Rule 3.22.
-good-agrees : (t : ℕ) → Agrees (tripleTest t) (GoodTriple t)
+pub good-agrees : (t : ℕ) → Agrees (tripleTest t) (GoodTriple t)
 unfolding tripleTest
 good-agrees t = agrees-as
     {P = ((1 ≤ whoOf t) × (whoOf t ≤ whoLimit)) × (((1 ≤ operationIn t) × (operationIn t ≤ operationCount)) × ((1 ≤ positionOf t) × (positionOf t ≤ positionCount)))}
     (λ z. search) (λ s. search) (search agreement depth 20)
 
 -- Rule 3.5.
-access-agrees : (r : ℕ → ℕ) → Eight r → Agrees (accessTest r) ((n : ℕ) × Access n r)
+pub access-agrees : (r : ℕ → ℕ) → Eight r → Agrees (accessTest r) ((n : ℕ) × Access n r)
 unfolding accessTest
 access-agrees r out = agrees-as
     {P = Packed r (seek 0 r placeCount) × ((i : ℕ) → i < placeCount → i < seek 0 r placeCount → GoodTriple (r i))}
