@@ -1,0 +1,34 @@
+use mathlib.Core.Bool.{not}
+use mathlib.Core.Path.{_∙_, ap}
+use Rattle.reference.specs.TripleLaws.{permits-some}
+use borrow.Author.Needs.{needs}
+use Rattle.reference.proofs.is_permitted.Statement.{statement}
+use Rattle.reference.proofs.is_permitted.Tie as tie
+use Rattle.reference.proofs.is_permitted.Reads as reads
+use Rattle.reference.proofs.is_permitted.Lts as lts
+use Rattle.reference.proofs.all_shut.Reads as all-shut-reads
+use Rattle.tables.proofs.current.Reads as current-reads
+
+-- src/lib.rt:124:24
+current-requires : tie.Need-current-requires
+current-requires c κs = search needs
+
+-- src/lib.rt:124:47
+mul-all-shut : tie.Need-mul-all-shut
+mul-all-shut c = search needs
+
+-- src/lib.rt:124:47
+add-all-shut : tie.Need-add-all-shut
+add-all-shut c = search needs
+
+-- src/lib.rt:124:6
+all-shut-requires : tie.Need-all-shut-requires
+all-shut-requires c κs = search needs
+
+-- src/lib.rt:120:1
+returns : tie.Need-returns
+returns c = rw (c .all-shut .ensures, c .before .current .ensures) (permits-some _ (c .before .before .before .args .u .0) (c .before .before .before .args .op) (c .before .before .before .args .position) (c .before .before .before .args .e .0) (c .before .before .before .pre .2) (c .before .before .before .pre .3))
+
+pub is-permitted-spec : {M : Type 1} → statement M
+is-permitted-spec =
+    tie.close (tie.spec current-requires mul-all-shut add-all-shut all-shut-requires returns)

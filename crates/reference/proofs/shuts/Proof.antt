@@ -1,0 +1,25 @@
+use mathlib.Core.Bool.{not}
+use mathlib.Core.Path.{_∙_, ap}
+use Rattle.reference.specs.Ways.{admits}
+use borrow.Author.Needs.{needs}
+use Rattle.reference.proofs.shuts.Statement.{statement}
+use Rattle.reference.proofs.shuts.Tie as tie
+use Rattle.reference.proofs.shuts.Reads as reads
+use Rattle.reference.proofs.shuts.Lts as lts
+use Rattle.reference.proofs.is_admitted.Reads as is-admitted-reads
+use Rattle.tables.proofs.triple.Reads as triple-reads
+
+-- src/lib.rt:101:18
+triple-requires : tie.Need-triple-requires
+triple-requires c κs = search needs
+
+-- src/lib.rt:101:6
+is-admitted-requires : tie.Need-is-admitted-requires
+is-admitted-requires c κs = search needs
+
+-- src/lib.rt:97:1
+returns : tie.Need-returns
+returns c = rw (c .is-admitted .ensures, c .before .triple .ensures)
+
+pub shuts-spec : {M : Type 1} → statement M
+shuts-spec = tie.close (tie.spec triple-requires is-admitted-requires returns)
