@@ -1,0 +1,25 @@
+use Rattle.model.specs.Request.Asked.{hasRole}
+use mathlib.Core.Path.{_∙_}
+use borrow.Author.Needs.{needs}
+use Rattle.ladder.proofs.kinds.has_role.Statement.{statement}
+use Rattle.ladder.proofs.kinds.has_role.Tie as tie
+use Rattle.ladder.proofs.kinds.has_role.Reads as reads
+use Rattle.ladder.proofs.kinds.has_role.Lts as lts
+use Rattle.levels.proofs.has_bit.Reads as has-bit-reads
+use Rattle.tables.proofs.current.Reads as current-reads
+
+-- src/kinds.rt:58:24
+current-requires : tie.Need-current-requires
+current-requires c κs = search needs
+
+-- src/kinds.rt:58:5
+has-bit-requires : tie.Need-has-bit-requires
+has-bit-requires c κs = search needs
+
+-- src/kinds.rt:54:1
+returns : tie.Need-returns
+unfolding hasRole
+returns c = c .has-bit .ensures ∙ rw (c .before .current .ensures)
+
+pub has-role-spec : {M : Type 1} → statement M
+has-role-spec = tie.close (tie.spec current-requires has-bit-requires returns)

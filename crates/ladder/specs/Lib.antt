@@ -1,0 +1,11 @@
+-- What the ladder's functions promise, and the laws by which an operation climbs it.
+pub mod Contract
+pub mod Shape
+pub mod Path
+pub mod ClimbLaws
+pub mod ShapeLaws
+pub mod NoticeLaws
+pub mod PathLaws
+pub mod OperandLaws
+pub mod NameLaws
+pub mod OwnLaws
