@@ -1,0 +1,71 @@
+use mathlib.Core.Path.{_∙_, _≡_, sym}
+use mathlib.Core.Bool.{not, true}
+use native.Mathlib.Omega.{arith}
+use borrow.Author.Needs.{needs}
+use borrow.Author.Tests.{not-false, not-true}
+use Rattle.model.specs.Basics.Tests.{every}
+use Prim.Native.Nat.{_-_, _≤_}
+use Rattle.laws.specs.Loops.{every-done, every-fails, every-more, every-none}
+use Rattle.model.specs.Tables.Layout.{tablesOf}
+use lib.Dec.{eqb}
+use Rattle.model.specs.Tables.Words.{places}
+use Rattle.state.specs.RowLaws.{unlike-of}
+use Rattle.state.proofs.entities.place_new.Statement.{statement}
+use Rattle.state.proofs.entities.place_new.Tie as tie
+use Rattle.state.proofs.entities.place_new.Reads as reads
+use Rattle.state.proofs.entities.place_new.Lts as lts
+use Rattle.state.proofs.entities.place_other.Reads as place-other-reads
+use Rattle.tables.proofs.place.Reads as place-reads
+
+abbrev Inv-loop : tie.InvT-loop
+Inv-loop t e i x j₀ j = (j ≤ i) × (every j (λ k. not (eqb (places (tablesOf t) (e .0) k) x)) ≡ true)
+
+abbrev μ-loop : tie.MeasureT-loop
+μ-loop t e i x j₀ j = i - j
+
+-- src/entities.rt:103:13
+place-requires : tie.Need-place-requires Inv-loop μ-loop
+place-requires c κs = search needs
+
+-- src/entities.rt:105:5
+loop-holds : tie.Need-loop-holds Inv-loop μ-loop
+loop-holds c = (omega arith, every-none _)
+
+-- src/entities.rt:106:13
+place-other-requires : tie.Need-place-other-requires Inv-loop μ-loop
+place-other-requires c κs = search needs
+
+-- src/entities.rt:107:13
+returns : tie.Need-returns Inv-loop μ-loop
+returns c = unlike-of _ _ _ (c .before .before .before .before .place .ensures) _ (every-fails _ _ _ (c .before .before .loop-test .taken) (sym (c .before .place-other .ensures) ∙ not-true _ (c .if1 .taken)))
+
+-- src/entities.rt:109:9
+add-j : tie.Need-add-j Inv-loop μ-loop
+add-j c = omega arith
+
+-- src/entities.rt:105:5
+loop-less : tie.Need-loop-less Inv-loop μ-loop
+loop-less c = omega arith
+
+-- src/entities.rt:105:5
+loop-again : tie.Need-loop-again Inv-loop μ-loop
+loop-again c = (omega arith, every-more _ _ (c .before .before .before .loop .inv .1) (sym (c .before .place-other .ensures) ∙ not-false _ (c .if1 .left)))
+
+-- src/entities.rt:99:1
+returns-2 : tie.Need-returns-2 Inv-loop μ-loop
+returns-2 c = unlike-of _ _ _ (c .before .before .place .ensures) _ (every-done _ _ _ (c .before .loop .inv .1) (c .before .loop .inv .0) (omega arith))
+
+pub place-new-spec : {M : Type 1} → statement M
+place-new-spec =
+    tie.close
+    (tie.spec
+    Inv-loop
+    μ-loop
+    place-requires
+    loop-holds
+    place-other-requires
+    returns
+    add-j
+    loop-less
+    loop-again
+    returns-2)

@@ -1,0 +1,17 @@
+use borrow.Author.Needs.{needs}
+use Rattle.state.proofs.entities.place_other.Statement.{statement}
+use Rattle.state.proofs.entities.place_other.Tie as tie
+use Rattle.state.proofs.entities.place_other.Reads as reads
+use Rattle.state.proofs.entities.place_other.Lts as lts
+use Rattle.tables.proofs.place.Reads as place-reads
+
+-- src/entities.rt:95:7
+place-requires : tie.Need-place-requires
+place-requires c κs = search needs
+
+-- src/entities.rt:91:1
+returns : tie.Need-returns
+returns c = rw (c .before .place .ensures)
+
+pub place-other-spec : {M : Type 1} → statement M
+place-other-spec = tie.close (tie.spec place-requires returns)

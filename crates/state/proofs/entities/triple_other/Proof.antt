@@ -1,0 +1,17 @@
+use borrow.Author.Needs.{needs}
+use Rattle.state.proofs.entities.triple_other.Statement.{statement}
+use Rattle.state.proofs.entities.triple_other.Tie as tie
+use Rattle.state.proofs.entities.triple_other.Reads as reads
+use Rattle.state.proofs.entities.triple_other.Lts as lts
+use Rattle.tables.proofs.triple.Reads as triple-reads
+
+-- src/entities.rt:144:7
+triple-requires : tie.Need-triple-requires
+triple-requires c κs = search needs
+
+-- src/entities.rt:140:1
+returns : tie.Need-returns
+returns c = rw (c .triple .ensures)
+
+pub triple-other-spec : {M : Type 1} → statement M
+triple-other-spec = tie.close (tie.spec triple-requires returns)

@@ -1,0 +1,17 @@
+use borrow.Author.Needs.{needs}
+use Rattle.state.proofs.entities.word_zero.Statement.{statement}
+use Rattle.state.proofs.entities.word_zero.Tie as tie
+use Rattle.state.proofs.entities.word_zero.Reads as reads
+use Rattle.state.proofs.entities.word_zero.Lts as lts
+use Rattle.tables.proofs.entity_at.Reads as entity-at-reads
+
+-- src/entities.rt:21:5
+entity-at-requires : tie.Need-entity-at-requires
+entity-at-requires c κs = search needs
+
+-- src/entities.rt:17:1
+returns : tie.Need-returns
+returns c = rw (c .entity-at .ensures)
+
+pub word-zero-spec : {M : Type 1} → statement M
+word-zero-spec = tie.close (tie.spec entity-at-requires returns)

@@ -1,0 +1,17 @@
+use native.Mathlib.Omega.{arith}
+use Rattle.state.specs.SecureLaws.{capped-over, capped-within}
+use Rattle.state.proofs.secure.at_most_eight.Statement.{statement}
+use Rattle.state.proofs.secure.at_most_eight.Tie as tie
+use Rattle.state.proofs.secure.at_most_eight.Reads as reads
+use Rattle.state.proofs.secure.at_most_eight.Lts as lts
+
+-- src/secure.rt:54:9
+returns : tie.Need-returns
+returns c = capped-over _ (c .if1 .taken)
+
+-- src/secure.rt:50:1
+returns-2 : tie.Need-returns-2
+returns-2 c = capped-within _ (omega arith)
+
+pub at-most-eight-spec : {M : Type 1} → statement M
+at-most-eight-spec = tie.close (tie.spec returns returns-2)

@@ -1,0 +1,63 @@
+use mathlib.Core.Path.{_∙_, _≡_, sym}
+use mathlib.Core.Bool.{true}
+use Prim.Native.Nat.{_-_, _≤_}
+use native.Mathlib.Omega.{arith}
+use borrow.Author.Needs.{needs}
+use borrow.Author.Tests.{not-false, not-true}
+use Rattle.model.specs.Basics.Tests.{every}
+use Rattle.laws.specs.Loops.{every-done, every-fails, every-more, every-none}
+use Rattle.model.specs.Tables.Layout.{tablesOf}
+use Rattle.state.specs.Passes.{placeSecure}
+use Rattle.state.proofs.secure.places_secure.Statement.{statement}
+use Rattle.state.proofs.secure.places_secure.Tie as tie
+use Rattle.state.proofs.secure.places_secure.Reads as reads
+use Rattle.state.proofs.secure.places_secure.Lts as lts
+use Rattle.state.proofs.secure.place_secure.Reads as place-secure-reads
+
+abbrev Inv-loop : tie.InvT-loop
+Inv-loop t e l s n i₀ i = (i ≤ n) × (every i (placeSecure (tablesOf t) (e .0)) ≡ true)
+
+abbrev μ-loop : tie.MeasureT-loop
+μ-loop t e l s n i₀ i = n - i
+
+-- src/secure.rt:40:5
+loop-holds : tie.Need-loop-holds Inv-loop μ-loop
+loop-holds c = (omega arith, every-none _)
+
+-- src/secure.rt:41:13
+place-secure-requires : tie.Need-place-secure-requires Inv-loop μ-loop
+place-secure-requires c κs = search needs
+
+-- src/secure.rt:42:13
+returns : tie.Need-returns Inv-loop μ-loop
+returns c = every-fails _ _ _ (c .before .before .loop-test .taken) (sym (c .before .place-secure .ensures) ∙ not-true _ (c .if1 .taken))
+
+-- src/secure.rt:44:9
+add-i : tie.Need-add-i Inv-loop μ-loop
+add-i c = omega arith
+
+-- src/secure.rt:40:5
+loop-less : tie.Need-loop-less Inv-loop μ-loop
+loop-less c = omega arith
+
+-- src/secure.rt:40:5
+loop-again : tie.Need-loop-again Inv-loop μ-loop
+loop-again c = (omega arith, every-more _ _ (c .before .before .before .loop .inv .1) (sym (c .before .place-secure .ensures) ∙ not-false _ (c .if1 .left)))
+
+-- src/secure.rt:35:1
+returns-2 : tie.Need-returns-2 Inv-loop μ-loop
+returns-2 c = every-done _ _ _ (c .before .loop .inv .1) (c .before .loop .inv .0) (omega arith)
+
+pub places-secure-spec : {M : Type 1} → statement M
+places-secure-spec =
+    tie.close
+    (tie.spec
+    Inv-loop
+    μ-loop
+    loop-holds
+    place-secure-requires
+    returns
+    add-i
+    loop-less
+    loop-again
+    returns-2)

@@ -1,0 +1,52 @@
+use mathlib.Core.Path.{_≡_, sym}
+use Prim.Native.Nat.{_-_, _≤_}
+use native.Mathlib.Omega.{arith}
+use lib.Dec.{eqb}
+use borrow.Author.Needs.{needs}
+use Rattle.model.specs.Tables.Layout.{tablesOf}
+use Rattle.model.specs.Basics.Tests.{every}
+use Rattle.laws.specs.Loops.{every-gather, every-none}
+use Rattle.state.specs.TestLaws.{every-gathered}
+use Rattle.model.specs.Tables.WordAt.{userWordAt}
+use Rattle.state.specs.Passes.{userBlank}
+use Rattle.state.proofs.users.user_blank.Statement.{statement}
+use Rattle.state.proofs.users.user_blank.Tie as tie
+use Rattle.state.proofs.users.user_blank.Reads as reads
+use Rattle.state.proofs.users.user_blank.Lts as lts
+use Rattle.state.proofs.users.word_zero.Reads as word-zero-reads
+
+abbrev Inv-loop : tie.InvT-loop
+Inv-loop t u blank₀ f₀ blank f = (f ≤ 16) × (blank ≡ every f (λ i. eqb (tablesOf t .user (u .0) (userWordAt i)) 0))
+
+abbrev μ-loop : tie.MeasureT-loop
+μ-loop t u blank₀ f₀ blank f = 16 - f
+
+-- src/users.rt:32:5
+loop-holds : tie.Need-loop-holds Inv-loop μ-loop
+loop-holds c = (omega arith, sym (every-none _))
+
+-- src/users.rt:33:17
+word-zero-requires : tie.Need-word-zero-requires Inv-loop μ-loop
+word-zero-requires c κs = search needs
+
+-- src/users.rt:34:9
+add-f : tie.Need-add-f Inv-loop μ-loop
+add-f c = omega arith
+
+-- src/users.rt:32:5
+loop-less : tie.Need-loop-less Inv-loop μ-loop
+loop-less c = omega arith
+
+-- src/users.rt:32:5
+loop-again : tie.Need-loop-again Inv-loop μ-loop
+loop-again c = (omega arith, every-gather _ _ _ _ (c .word-zero .ensures) (c .before .before .loop .inv .1))
+
+-- src/users.rt:26:1
+returns : tie.Need-returns Inv-loop μ-loop
+unfolding userBlank
+returns c = every-gathered _ _ _ _ (c .before .loop .inv .1) (c .before .loop .inv .0) (omega arith)
+
+pub user-blank-spec : {M : Type 1} → statement M
+user-blank-spec =
+    tie.close
+    (tie.spec Inv-loop μ-loop loop-holds word-zero-requires add-f loop-less loop-again returns)

@@ -1,0 +1,12 @@
+use Rattle.state.specs.UserLaws.{head-form}
+use Rattle.state.proofs.users.user_head.Statement.{statement}
+use Rattle.state.proofs.users.user_head.Tie as tie
+use Rattle.state.proofs.users.user_head.Reads as reads
+use Rattle.state.proofs.users.user_head.Lts as lts
+
+-- src/users.rt:64:1
+returns : tie.Need-returns
+returns c = head-form _ _ _ _ _
+
+pub user-head-spec : {M : Type 1} → statement M
+user-head-spec = tie.close (tie.spec returns)

@@ -1,0 +1,17 @@
+use borrow.Author.Needs.{needs}
+use Rattle.state.proofs.users.word_zero.Statement.{statement}
+use Rattle.state.proofs.users.word_zero.Tie as tie
+use Rattle.state.proofs.users.word_zero.Reads as reads
+use Rattle.state.proofs.users.word_zero.Lts as lts
+use Rattle.tables.proofs.user_at.Reads as user-at-reads
+
+-- src/users.rt:22:5
+user-at-requires : tie.Need-user-at-requires
+user-at-requires c κs = search needs
+
+-- src/users.rt:18:1
+returns : tie.Need-returns
+returns c = rw (c .user-at .ensures)
+
+pub word-zero-spec : {M : Type 1} → statement M
+word-zero-spec = tie.close (tie.spec user-at-requires returns)

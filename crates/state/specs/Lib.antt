@@ -1,0 +1,12 @@
+-- The passes of the state check, and that together they are the model's tests.
+pub mod Passes
+pub mod Holders
+pub mod TestLaws
+pub mod RowLaws
+pub mod UserLaws
+pub mod EntityLaws
+pub mod OwnLaws
+pub mod PassLaws
+pub mod HolderLaws
+pub mod UpLaws
+pub mod SecureLaws

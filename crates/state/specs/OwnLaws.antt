@@ -1,0 +1,186 @@
+-- All that is asked of one entity, pass by pass.
+use mathlib.Core.Bool.{Bool, _&&_, _||_, false, not, true}
+use mathlib.Core.Logic.{_≢_, _⊎_, inl, inr}
+use mathlib.Core.Path.{_∙_, _≡_, ap, refl, sym}
+use Prim.Native.Nat.{_+_, _-_, _<_, _≤_, suc, zero, ℕ}
+use native.Mathlib.Omega.{arith}
+use lib.Dec.{eqb, ltb}
+use borrow.Author.Tests.{ne-eqb}
+use Rattle.laws.specs.Bools.{agrees-pick, equal-bools, passes}
+use Rattle.laws.specs.Loops.{seek-before, seek-within}
+use Rattle.model.specs.Basics.Agree.{Agrees, agrees-and, agrees-eq, agrees-every, agrees-le, agrees-or}
+use Rattle.model.specs.Basics.Choice.{Below, below, over, under}
+use Rattle.model.specs.Basics.Tests.{every, imp}
+use Rattle.model.specs.State.AgreeRecords.{Eight, access-agrees, good-agrees}
+use Rattle.model.specs.State.Tests.{accessTest, entityTest, filledTest, shapeTest}
+use Rattle.model.specs.State.WellFormed.{Access, GoodTriple}
+use Rattle.model.specs.Tables.Layout.{Bounded}
+use Rattle.model.specs.Tables.RowLaws.{sought}
+use Rattle.model.specs.Tables.Rows.{Sought, seek}
+use Rattle.model.specs.Tables.Words.{Tables, counts, devices, kinds, level, mark, maximum, placeCount, places, releaser, sums}
+use Rattle.model.specs.Tables.Words.{triples, type, userCount, value}
+use Rattle.state.specs.EntityLaws.{apart, count-agrees, filled-passes, unlike-agrees}
+use Rattle.state.specs.Passes.{contentsAt, countTest, idleAt, ownTest, placeTest, tripleNew, unlike}
+use Rattle.state.specs.TestLaws.{imp-quiet, imp-shown}
+
+-- ---- triples
+
+-- what `tripleNew` says of triple i
+abbrev Tripled : (ℕ → ℕ) → ℕ → Type 0
+Tripled row i = (row i ≡ 0 → (7 ≤ i) ⊎ (row (i + 1) ≡ 0)) × ((row i ≡ 0 → ⊥) → GoodTriple (row i) × ((j : ℕ) → j < i → row j ≡ row i → ⊥))
+
+-- the test says so
+triple-agrees : (row : ℕ → ℕ) (i : ℕ) → Agrees (tripleNew row i) (Tripled row i)
+unfolding tripleNew
+triple-agrees row i = agrees-pick (agrees-eq (row i) 0) (agrees-or (agrees-le 7 i) (agrees-eq (row (i + 1)) 0))
+    (agrees-and (good-agrees (row i)) (unlike-agrees row i))
+
+module _ (row : ℕ → ℕ) (out : Eight row) where
+  -- behind a zero all are zero
+  zero-up : ((i : ℕ) → i < placeCount → Tripled row i) → (k m i : ℕ) → row k ≡ 0 → i ≡ k + m → row i ≡ 0
+  zero-up f k zero i z e = let q : i ≡ k = omega arith in rw q z
+  zero-up f k (suc m) i z e = go (ltb (k + m) placeCount) (below (k + m) placeCount) (zero-up f k m (k + m) z refl)
+    where
+      next : (7 ≤ k + m) ⊎ (row (k + m + 1) ≡ 0) → row i ≡ 0
+      next (inl h) = out i (omega arith)
+      next (inr h) = let q : i ≡ k + m + 1 = omega arith in rw q h
+
+      go : (b : Bool) → Below (k + m) placeCount b → row (k + m) ≡ 0 → row i ≡ 0
+      go true (under h) q = next (f (k + m) h .0 q)
+      go false (over h) q = out i (omega arith)
+
+  -- triples that are each new are packed and good
+  access-of : ((i : ℕ) → i < placeCount → Tripled row i) → Access (seek 0 row placeCount) row
+  access-of f = record {
+    packed = record {
+      room = seek-within 0 row placeCount;
+      used = λ i h. let z : row i ≢ 0 = seek-before 0 row placeCount i h in omega arith;
+      rest = λ i h. rest i h (sought 0 row placeCount);
+      distinct = apart row (seek 0 row placeCount) (λ i h. named i h .1);
+    };
+    good = λ i h. named i h .0;
+  }
+    where
+      named : (i : ℕ) → i < seek 0 row placeCount → GoodTriple (row i) × ((j : ℕ) → j < i → row j ≡ row i → ⊥)
+      named i h = f i (omega (arith, seek-within 0 row placeCount)) .1 (seek-before 0 row placeCount i h)
+
+      rest : (i : ℕ) → seek 0 row placeCount ≤ i → Sought 0 row placeCount (seek 0 row placeCount) → row i ≡ 0
+      rest i h (inl s) = zero-up f (seek 0 row placeCount) (i - seek 0 row placeCount) i (s .1) (omega arith)
+      rest i h (inr s) = out i (omega (arith, s .0))
+
+  -- and packed and good ones are each new
+  of-access : (n : ℕ) → Access n row → (i : ℕ) → i < placeCount → Tripled row i
+  of-access n a i h = (
+    λ z. inr (a .packed .rest (i + 1) (let q : ¬ (i < n) = λ l. omega (arith, a .packed .used i l) in omega arith)),
+    λ z. let l : i < n = within z (ltb i n) (below i n) in (a .good i l, λ j m q. omega (arith, a .packed .distinct j i (omega arith) l q)),
+  )
+    where
+      within : (row i ≡ 0 → ⊥) → (b : Bool) → Below i n b → i < n
+      within z true (under l) = l
+      within z false (over l) = absurd (z (a .packed .rest i l))
+
+  -- each triple by itself, and against those before it
+  pub triples-pass : every placeCount (tripleNew row) ≡ accessTest row
+  triples-pass = equal-bools (every placeCount (tripleNew row)) (accessTest row)
+      (λ t. access-agrees row out .from (seek 0 row placeCount, access-of (each .to t)))
+      (λ t. let a = access-agrees row out .to t in each .from (of-access (a .0) (a .1)))
+    where
+      each : Agrees (every placeCount (tripleNew row)) ((i : ℕ) → i < placeCount → Tripled row i)
+      each = agrees-every placeCount (tripleNew row) (Tripled row) (triple-agrees row)
+
+-- ---- an entity that is there
+
+-- what is asked of contents stands together
+contents-first : (s f a c i : Bool) → ((s && (f && a)) && (c && i)) ≡ (s && ((f && c) && (a && i)))
+contents-first true true true c i = refl
+contents-first true true false true i = refl
+contents-first true true false false i = refl
+contents-first true false a c i = refl
+contents-first false f a c i = refl
+
+-- and is asked piece by piece
+one-by-one : (s n p u x : Bool) → (s && ((n && (p && u)) && x)) ≡ (s && (n && (p && (u && x))))
+one-by-one true true true u x = refl
+one-by-one true true false u x = refl
+one-by-one true false p u x = refl
+one-by-one false n p u x = refl
+
+module _ (d : Tables) (o : Bounded d) (e : ℕ) (present : 1 ≤ kinds d e) where
+  -- words 0 to 6 are in order
+  abbrev shape : Bool
+  shape = shapeTest (kinds d e) (d .entity e type) (d .entity e level) (d .entity e mark) (d .entity e value) (d .entity e releaser) (d .entity e maximum)
+
+  -- all that is asked of an entity that is there, in the order of the code
+  pub own-present : (shape && (countTest (kinds d e) (counts d e) && (every placeCount (placeTest d e)
+      && (every (counts d e) (unlike (places d e)) && (every placeCount (tripleNew (triples d e)) && idleAt d e))))) ≡ ownTest d e
+  unfolding ownTest entityTest imp
+  own-present = rw (ne-eqb (kinds d e) 0 (λ q. omega arith), triples-pass (triples d e) (o .triplesOut e))
+      (sym (one-by-one shape (countTest (kinds d e) (counts d e)) (every placeCount (placeTest d e)) (every (counts d e) (unlike (places d e)))
+      (accessTest (triples d e) && idleAt d e))
+      ∙ ap (λ (b : Bool). shape && (b && (accessTest (triples d e) && idleAt d e))) (sym (filled-passes d o e))
+      ∙ sym (contents-first shape (filledTest (kinds d e) (counts d e) (places d e) (sums d e)) (accessTest (triples d e)) (contentsAt d e) (idleAt d e)))
+
+-- what the pass over entity e, which is there, has read and found
+module _ (d : Tables) (o : Bounded d) (e k y l m v b x : ℕ) (ke : k ≡ kinds d e) (present : 1 ≤ k) (ye : y ≡ d .entity e type) (le : l ≡ d .entity e level)
+    (me : m ≡ d .entity e mark) (ve : v ≡ d .entity e value) (be : b ≡ d .entity e releaser) (xe : x ≡ d .entity e maximum)
+    (s : Bool) (se : s ≡ shapeTest k y l m v b x) where
+  -- all is asked from the shape on
+  from-shape : (s && (countTest k (counts d e) && (every placeCount (placeTest d e) && (every (counts d e) (unlike (places d e))
+      && (every placeCount (tripleNew (triples d e)) && idleAt d e))))) ≡ ownTest d e
+  from-shape = rw (se, ke, ye, le, me, ve, be, xe) (own-present d o e (omega arith))
+
+  -- words 0 to 6 are not in order
+  pub own-shape : s ≡ false → false ≡ ownTest d e
+  own-shape f = rw f at from-shape
+
+  module _ (st : s ≡ true) (n : ℕ) (ne : n ≡ counts d e) (c : Bool) (ce : c ≡ countTest k n) where
+    -- what is left to ask from the count on
+    from-count : (c && (every placeCount (placeTest d e) && (every n (unlike (places d e)) && (every placeCount (tripleNew (triples d e)) && idleAt d e)))) ≡ ownTest d e
+    from-count = rw (ce, ne) (rw st at from-shape)
+
+    -- too many places are used
+    pub own-count : c ≡ false → false ≡ ownTest d e
+    own-count f = rw f at from-count
+
+    -- no more than eight are used
+    pub own-room : c ≡ true → n ≤ placeCount
+    own-room t = rw ne (count-agrees d o e .to (rw (← ke, ← ne) (passes (countTest k n) (sym ce ∙ t))) .0)
+
+    module _ (ct : c ≡ true) (p : Bool) (pe : p ≡ every placeCount (placeTest d e)) where
+      -- what is left from the places on
+      from-places : (p && (every n (unlike (places d e)) && (every placeCount (tripleNew (triples d e)) && idleAt d e))) ≡ ownTest d e
+      from-places = rw pe (rw ct at from-count)
+
+      -- some place is not in order
+      pub own-places : p ≡ false → false ≡ ownTest d e
+      own-places f = rw f at from-places
+
+      module _ (pt : p ≡ true) (q : Bool) (qe : q ≡ every n (unlike (places d e))) where
+        -- what is left from their likeness on
+        from-unlike : (q && (every placeCount (tripleNew (triples d e)) && idleAt d e)) ≡ ownTest d e
+        from-unlike = rw qe (rw pt at from-places)
+
+        -- two places hold the same
+        pub own-unlike : q ≡ false → false ≡ ownTest d e
+        own-unlike f = rw f at from-unlike
+
+        module _ (qt : q ≡ true) (r : Bool) (re : r ≡ every placeCount (tripleNew (triples d e))) where
+          -- what is left from the triples on
+          from-triples : (r && idleAt d e) ≡ ownTest d e
+          from-triples = rw re (rw qt at from-unlike)
+
+          -- some triple is not in order
+          pub own-triples : r ≡ false → false ≡ ownTest d e
+          own-triples f = rw f at from-triples
+
+          module _ (rt : r ≡ true) where
+            -- what is no device, or empty, may have nobody on it
+            pub own-quiet : (not (eqb k 3) || eqb n 0) ≡ true → true ≡ ownTest d e
+            unfolding idleAt
+            own-quiet h = sym (imp-quiet (eqb k 3) (eqb n 0) (every userCount (λ u. not (eqb (devices d (suc u)) e))) h)
+                ∙ rw (ke, ne) (rw rt at from-triples)
+
+            -- on a device that shows something somebody is
+            pub own-shown : (not (eqb k 3) || eqb n 0) ≡ false → (z : Bool) → z ≡ every userCount (λ u. not (eqb (devices d (suc u)) e)) → not z ≡ ownTest d e
+            unfolding idleAt
+            own-shown h z ze = sym (imp-shown (eqb k 3) (eqb n 0) z h) ∙ rw (ke, ne, ze) (rw rt at from-triples)

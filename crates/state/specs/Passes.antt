@@ -1,0 +1,84 @@
+-- What each pass of the state check asks, record by record. The model asks sentence by sentence; the laws beside show that all passes
+-- together ask what all sentences do.
+use mathlib.Core.Bool.{Bool, _&&_, _||_, not}
+use Prim.Native.Nat.{_+_, pred, suc, ℕ}
+use lib.Dec.{eqb, leb, ltb}
+use Rattle.model.specs.Basics.Choice.{pick}
+use Rattle.model.specs.Basics.Tests.{every, imp}
+use Rattle.model.specs.Level.{atMost, levelCount, roleSets}
+use Rattle.model.specs.State.Check.{ceilingTest, containedTest, labelledTest, rolesTest, seenTest}
+use Rattle.model.specs.State.Secure.{labelled}
+use Rattle.model.specs.State.Tests.{entityTest, tripleTest}
+use Rattle.model.specs.Tables.Layout.{entityWidth, userWidth}
+use Rattle.model.specs.Tables.WordAt.{entityWordAt, userWordAt}
+use Rattle.model.specs.Tables.Words.{Tables, containerKind, counts, deviceKind, devices, kinds, level, objectKind, placeCount, places}
+use Rattle.model.specs.Tables.Words.{sumLimit, sums, userCount}
+
+-- ---- users
+
+-- every word of user u is zero
+unfoldable pub userBlank : Tables → ℕ → Bool
+userBlank d u = every userWidth (λ f. eqb (d .user u (userWordAt f)) 0)
+
+-- words 0 to 4 of a user, who is there
+unfoldable pub userHead : (p c a r v : ℕ) → Bool
+userHead p c a r v = leb p 1 && (ltb c levelCount && (ltb a roleSets && (ltb r roleSets && imp (eqb v 0) (eqb r 0))))
+
+-- user u is off, or on a device on which no user of a lower number is
+unfoldable pub onDevice : Tables → ℕ → Bool
+onDevice d u = imp (not (eqb (devices d u) 0))
+    (eqb (kinds d (devices d u)) deviceKind && every (pred u) (λ v. not (eqb (devices d (suc v)) (devices d u))))
+
+-- ---- entities
+
+-- every word of entity e is zero
+unfoldable pub entityBlank : Tables → ℕ → Bool
+entityBlank d e = every entityWidth (λ f. eqb (d .entity e (entityWordAt f)) 0)
+
+-- how many places an entity of kind k may use
+unfoldable pub countTest : ℕ → ℕ → Bool
+countTest k n = leb n placeCount && imp (eqb k objectKind) (eqb n 0)
+
+-- place i of entity e: beyond the places used there is nothing; in them stands what may, and only a device shows some of it
+unfoldable pub placeTest : Tables → ℕ → ℕ → Bool
+placeTest d e i = pick (leb (counts d e) i) (eqb (places d e i) 0 && eqb (sums d e i) 0)
+    (leb objectKind (kinds d (places d e i)) && (leb (kinds d (places d e i)) containerKind
+    && (imp (eqb (kinds d e) deviceKind) (leb 1 (sums d e i) && leb (sums d e i) sumLimit) && imp (not (eqb (kinds d e) deviceKind)) (eqb (sums d e i) 0))))
+
+-- what stands at i of a row stands nowhere before it
+unfoldable pub unlike : (ℕ → ℕ) → ℕ → Bool
+unlike row i = every i (λ j. not (eqb (row j) (row i)))
+
+-- triple i of a row: zero, and then the next one too; else it names what it may, and is none of those before it
+unfoldable pub tripleNew : (ℕ → ℕ) → ℕ → Bool
+tripleNew row i = pick (eqb (row i) 0) (leb 7 i || eqb (row (i + 1)) 0) (tripleTest (row i) && unlike row i)
+
+-- only objects and containers stand in the places of e
+unfoldable pub contentsAt : Tables → ℕ → Bool
+contentsAt d e = every placeCount (λ i. imp (ltb i (counts d e)) (leb objectKind (kinds d (places d e i)) && leb (kinds d (places d e i)) containerKind))
+
+-- a device that nobody is on shows nothing
+unfoldable pub idleAt : Tables → ℕ → Bool
+idleAt d e = imp (eqb (kinds d e) deviceKind) (imp (every userCount (λ u. not (eqb (devices d (suc u)) e))) (eqb (counts d e) 0))
+
+-- all that is asked of entity e but for what it stands in
+unfoldable pub ownTest : Tables → ℕ → Bool
+ownTest d e = entityTest (d .entity e) && (contentsAt d e && idleAt d e)
+
+-- ---- security
+
+-- a number, or eight where it is more
+unfoldable pub capped : ℕ → ℕ
+capped n = pick (ltb placeCount n) placeCount n
+
+-- place i of entity e keeps rules 4.1 and 4.3
+unfoldable pub placeSecure : Tables → ℕ → ℕ → Bool
+placeSecure d e i = atMost (d .entity (places d e i) level) (d .entity e level) && imp (eqb (kinds d e) deviceKind) (labelled (sums d e i))
+
+-- entity e keeps rules 4.1, 4.3 and 4.5
+unfoldable pub entitySecure : Tables → ℕ → Bool
+entitySecure d e = containedTest d e && (labelledTest d e && ceilingTest d e)
+
+-- user u keeps rules 4.2 and 4.4
+unfoldable pub userSecure : Tables → ℕ → Bool
+userSecure d u = seenTest d u && rolesTest d u

@@ -1,0 +1,150 @@
+// Definition 2, of any tables: in one pass over the entities and one over the users.
+use levels::Entity;
+use levels::Level;
+use levels::User;
+ghost use mathlib.Core.Path.{_≡_};
+ghost use Prim.Native.Nat.{_+_, _<_, _≤_, suc};
+ghost use lib.Dec.{eqb};
+ghost use lib.ListN.{length};
+ghost use Rattle.model.specs.Basics.Tests.{every};
+ghost use Rattle.model.specs.Level.{atMost};
+ghost use Rattle.model.specs.State.Secure.{labelled};
+ghost use Rattle.model.specs.Tables.Layout.{tablesOf, wordCount};
+ghost use Rattle.model.specs.Tables.Words.{deviceKind, entityCount, kinds, level, placeCount, places, userCount};
+ghost use Rattle.state.specs.Passes.{capped, entitySecure, placeSecure, userSecure};
+ghost use Rattle.tables.specs.Singles.{EntityIn, UserIn};
+
+// Whether the value is shown only where the label is.
+pub fn is_labelled(s: u32) -> bool
+    ensures { λ r. ⌜ r ≡ labelled s ⌝ }
+{
+    !levels::has_bit(0, s) | levels::has_bit(1, s)
+}
+
+// Whether place i of entity e, of level l and a device or not, keeps rules 4.1 and 4.3.
+fn place_secure(t: &[u32], e: Entity, l: Level, s: bool, i: u32) -> bool
+    requires { ⌜ EntityIn (now t) (e .0) × (l .0 ≡ tablesOf (now t) .entity (e .0) level) × (s ≡ eqb (kinds (tablesOf (now t)) (e .0)) deviceKind) × (i < placeCount) ⌝ }
+    ensures { λ r. ⌜ r ≡ placeSecure (tablesOf (now (t .entry))) (e .0) i ⌝ }
+{
+    levels::at_most(tables::level_or_zero(t, tables::place(t, e, i)), l)
+        & (!s | is_labelled(tables::shown(t, e, i)))
+}
+
+// Whether the first n places of entity e keep rules 4.1 and 4.3.
+fn places_secure(t: &[u32], e: Entity, l: Level, s: bool, n: u32) -> bool
+    requires { ⌜ EntityIn (now t) (e .0) × (l .0 ≡ tablesOf (now t) .entity (e .0) level) × (s ≡ eqb (kinds (tablesOf (now t)) (e .0)) deviceKind) × (n ≤ placeCount) ⌝ }
+    ensures { λ r. ⌜ r ≡ every n (placeSecure (tablesOf (now (t .entry))) (e .0)) ⌝ }
+{
+    let mut i: u32 = 0;
+    while i < n {
+        if !place_secure(t, e, l, s, i) {
+            return false;
+        }
+        i += 1;
+    }
+    true
+}
+
+// The number n, or eight where it is more.
+fn at_most_eight(n: u32) -> u32
+    ensures { λ r. ⌜ r ≡ capped n ⌝ }
+{
+    if 8 < n {
+        return 8;
+    }
+    n
+}
+
+// Whether entity e keeps rules 4.1, 4.3 and 4.5.
+fn entity_secure(t: &[u32], e: Entity) -> bool
+    requires { ⌜ EntityIn (now t) (e .0) ⌝ }
+    ensures { λ r. ⌜ r ≡ entitySecure (tablesOf (now (t .entry))) (e .0) ⌝ }
+{
+    let n = at_most_eight(tables::count(t, e));
+    let l = tables::level(t, e);
+    let s = tables::kind(t, e) == 3;
+    if !places_secure(t, e, l, s, n) {
+        return false;
+    }
+    if !s {
+        return true;
+    }
+    levels::at_most(l, tables::maximum(t, e))
+}
+
+// Whether every entity keeps rules 4.1, 4.3 and 4.5.
+pub fn entities_secure(t: &[u32]) -> bool
+    requires { ⌜ length (now t) ≡ wordCount ⌝ }
+    ensures { λ r. ⌜ r ≡ every entityCount (λ e. entitySecure (tablesOf (now (t .entry))) (suc e)) ⌝ }
+{
+    let mut i: u32 = 0;
+    while i < 64 {
+        if !entity_secure(t, Entity(i + 1)) {
+            return false;
+        }
+        i += 1;
+    }
+    true
+}
+
+// Whether what stands in place i of device v is at most level c.
+fn place_below(t: &[u32], v: Entity, c: Level, i: u32) -> bool
+    requires { ⌜ EntityIn (now t) (v .0) × (i < placeCount) ⌝ }
+    ensures { λ r. ⌜ r ≡ atMost (tablesOf (now (t .entry)) .entity (places (tablesOf (now (t .entry))) (v .0) i) level) (c .0) ⌝ }
+{
+    levels::at_most(tables::level_or_zero(t, tables::place(t, v, i)), c)
+}
+
+// Whether what stands in the first n places of device v is at most level c.
+fn places_below(t: &[u32], v: Entity, c: Level, n: u32) -> bool
+    requires { ⌜ EntityIn (now t) (v .0) × (n ≤ placeCount) ⌝ }
+    ensures { λ r. ⌜ r ≡ every n (λ i. atMost (tablesOf (now (t .entry)) .entity (places (tablesOf (now (t .entry))) (v .0) i) level) (c .0)) ⌝ }
+{
+    let mut i: u32 = 0;
+    while i < n {
+        if !place_below(t, v, c, i) {
+            return false;
+        }
+        i += 1;
+    }
+    true
+}
+
+// Whether user u keeps rules 4.2 and 4.4.
+fn user_secure(t: &[u32], u: User) -> bool
+    requires { ⌜ UserIn (now t) (u .0) ⌝ }
+    ensures { λ r. ⌜ r ≡ userSecure (tablesOf (now (t .entry))) (u .0) ⌝ }
+{
+    if !levels::within(tables::current(t, u), tables::authorised(t, u)) {
+        return false;
+    }
+    let v = tables::device(t, u);
+    let n = v.0;
+    if n < 1 {
+        return true;
+    }
+    if 64 < n {
+        return true;
+    }
+    places_below(
+        t,
+        v,
+        tables::clearance(t, u),
+        at_most_eight(tables::count(t, v)),
+    )
+}
+
+// Whether every user keeps rules 4.2 and 4.4.
+pub fn users_secure(t: &[u32]) -> bool
+    requires { ⌜ length (now t) ≡ wordCount ⌝ }
+    ensures { λ r. ⌜ r ≡ every userCount (λ u. userSecure (tablesOf (now (t .entry))) (suc u)) ⌝ }
+{
+    let mut i: u32 = 0;
+    while i < 16 {
+        if !user_secure(t, User(i + 1)) {
+            return false;
+        }
+        i += 1;
+    }
+    true
+}

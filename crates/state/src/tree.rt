@@ -1,0 +1,95 @@
+// Containers in containers: no entity stands in two, and none lies in itself. One pass notes for each entity what it stands in;
+// climbing that list decides depth.
+use levels::Entity;
+ghost use mathlib.Core.Path.{_≡_};
+ghost use mathlib.Core.Bool.{_&&_, true};
+ghost use Prim.Native.Nat.{_*_, _+_, _-_, _<_, _≤_, suc};
+ghost use lib.ListN.{getD, length};
+ghost use Rattle.model.specs.Basics.Tests.{every};
+ghost use Rattle.model.specs.State.Check.{loopTest, oneTest};
+ghost use Rattle.model.specs.State.Climb.{up};
+ghost use Rattle.model.specs.Tables.Layout.{tablesOf, wordCount};
+ghost use Rattle.model.specs.Tables.Words.{counts, devices, entityCount, kinds, places};
+ghost use Rattle.state.specs.Holders.{Filled, Filling, Low};
+ghost use Rattle.state.specs.Passes.{ownTest};
+ghost use Rattle.tables.specs.Singles.{EntityIn};
+
+// The places of entity c, if it is a container, are noted in h; false where something in them is noted already.
+fn note_row(t: &[u32], h: &mut [u32; 65], c: Entity) -> bool
+    requires { ⌜ EntityIn (now t) (c .0) × (every entityCount (λ e. ownTest (tablesOf (now t)) (suc e)) ≡ true) × Filled (tablesOf (now t)) ((c .0 - 1) * 8) (now h) ⌝ }
+    ensures { λ r. ⌜ Filling (tablesOf (now (t .entry))) (c .0 * 8) r (now (h .exit)) ⌝ }
+{
+    if tables::kind(t, c) != 2 {
+        return true;
+    }
+    let n = tables::count(t, c);
+    let mut i: u32 = 0;
+    while i < n {
+        let x = tables::place(t, c, i).0;
+        if h[x as usize] != 0 {
+            return false;
+        }
+        h[x as usize] = c.0;
+        i += 1;
+    }
+    true
+}
+
+// The places of every container are noted in h; false where something stands in two.
+fn note_all(t: &[u32], h: &mut [u32; 65]) -> bool
+    requires { ⌜ (length (now t) ≡ wordCount) × (every entityCount (λ e. ownTest (tablesOf (now t)) (suc e)) ≡ true) × Filled (tablesOf (now t)) 0 (now h) ⌝ }
+    ensures { λ r. ⌜ Filling (tablesOf (now (t .entry))) 512 r (now (h .exit)) ⌝ }
+{
+    let mut i: u32 = 0;
+    while i < 64 {
+        if !note_row(t, h, Entity(i + 1)) {
+            return false;
+        }
+        i += 1;
+    }
+    true
+}
+
+// Whether the way up from e ends.
+fn ends(h: &[u32; 65], e: u32) -> bool
+    requires { ⌜ (e ≤ entityCount) × Low (now h) ⌝ }
+    ensures { λ r. ⌜ r ≡ up (λ x. getD (now (h .entry)) x 0) (suc entityCount) e ⌝ }
+{
+    let mut y = e;
+    let mut i: u32 = 0;
+    while i < 65 {
+        y = h[y as usize];
+        if y == 0 {
+            return true;
+        }
+        i += 1;
+    }
+    false
+}
+
+// Whether the way up from every entity ends.
+fn all_end(h: &[u32; 65]) -> bool
+    requires { ⌜ Low (now h) ⌝ }
+    ensures { λ r. ⌜ r ≡ every entityCount (λ e. up (λ x. getD (now (h .entry)) x 0) (suc entityCount) (suc e)) ⌝ }
+{
+    let mut i: u32 = 0;
+    while i < 64 {
+        if !ends(h, i + 1) {
+            return false;
+        }
+        i += 1;
+    }
+    true
+}
+
+// Whether, where every entity is in order by itself, none stands in two containers and none lies in itself.
+pub fn tree_fine(t: &[u32]) -> bool
+    requires { ⌜ (length (now t) ≡ wordCount) × (every entityCount (λ e. ownTest (tablesOf (now t)) (suc e)) ≡ true) ⌝ }
+    ensures { λ r. ⌜ r ≡ (oneTest (kinds (tablesOf (now (t .entry)))) (counts (tablesOf (now (t .entry)))) (places (tablesOf (now (t .entry)))) (devices (tablesOf (now (t .entry)))) && loopTest (kinds (tablesOf (now (t .entry)))) (counts (tablesOf (now (t .entry)))) (places (tablesOf (now (t .entry)))) (devices (tablesOf (now (t .entry))))) ⌝ }
+{
+    let mut h = [0u32; 65];
+    if !note_all(t, &mut h) {
+        return false;
+    }
+    all_end(&h)
+}
