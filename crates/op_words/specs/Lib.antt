@@ -1,0 +1,7 @@
+-- What the operations on words promise of a trial, and the laws of their rungs and effects.
+pub mod Trial
+pub mod TrialLaws
+pub mod EntityLaws
+pub mod DeviceLaws
+pub mod UserLaws
+pub mod ArgumentLaws
