@@ -1,0 +1,96 @@
+/*
+ * Compares and times the ordinary desk and the proved one.
+ */
+#include <errno.h>
+#include <inttypes.h>
+#include <stdbool.h>
+#include <stdio.h>
+#include <stdlib.h>
+#include <string.h>
+
+#include "faulty.h"
+#include "subcommands.h"
+
+static const struct {
+    const char *name;
+    uint32_t fault;
+} switches[] = {
+    { "levels", FAULT_LEVELS }, { "mark", FAULT_MARK }, { "roles", FAULT_ROLES },
+    { "notice", FAULT_NOTICE }, { "room", FAULT_ROOM },
+};
+
+static int usage(void)
+{
+    fputs("usage: compare SEED STEPS [levels|mark|roles|notice|room ...] [table=NUMBER]\n"
+          "       time SEED REPS\n"
+          "       s1\n"
+          "compare: status 1 on any difference or on a cell that was not reached.\n"
+          "  The names put an easy error into the ordinary desk, which must be noticed:\n"
+          "  levels  levels compared as plain numbers\n"
+          "  mark    mark tested on the named entity instead of the path\n"
+          "  roles   authorised instead of current roles\n"
+          "  notice  a held notice overwritten\n"
+          "  room    room in a move counted before leaving\n"
+          "  table=NUMBER replays that table alone.\n"
+          "time: medians over REPS repetitions, in ns per call.\n"
+          "s1: the answers listed for case state S1.\n",
+          stderr);
+    return 2;
+}
+
+static bool read_number(const char *text, uint64_t *number)
+{
+    char *end;
+
+    if (*text < '0' || *text > '9')
+        return false;
+    errno = 0;
+    *number = strtoull(text, &end, 10);
+    return errno == 0 && *end == '\0';
+}
+
+static bool read_option(const char *text, struct comparison *what)
+{
+    if (strncmp(text, "table=", 6) == 0)
+        return read_number(text + 6, &what->only) && what->only != 0;
+    for (size_t i = 0; i < sizeof switches / sizeof *switches; i++)
+        if (strcmp(text, switches[i].name) == 0) {
+            what->faults |= switches[i].fault;
+            return true;
+        }
+    return false;
+}
+
+static int run_compare(int count, char **words)
+{
+    struct comparison what = { 0 };
+
+    if (count < 2 || !read_number(words[0], &what.seed) || !read_number(words[1], &what.steps))
+        return usage();
+    for (int i = 2; i < count; i++)
+        if (!read_option(words[i], &what))
+            return usage();
+    return compare(&what);
+}
+
+static int run_time(int count, char **words)
+{
+    uint64_t seed;
+    uint64_t repetitions;
+
+    if (count != 2 || !read_number(words[0], &seed) || !read_number(words[1], &repetitions)
+        || repetitions < 1 || repetitions > 1000000)
+        return usage();
+    return time_desks(seed, (uint32_t)repetitions);
+}
+
+int main(int argc, char **argv)
+{
+    if (argc >= 2 && strcmp(argv[1], "compare") == 0)
+        return run_compare(argc - 2, argv + 2);
+    if (argc >= 2 && strcmp(argv[1], "time") == 0)
+        return run_time(argc - 2, argv + 2);
+    if (argc == 2 && strcmp(argv[1], "s1") == 0)
+        return check_s1();
+    return usage();
+}

@@ -1,0 +1,29 @@
+-- What the public calls promise, for all words. Rule 8.6: every call answers a pair; these two have no number to give.
+use mathlib.Core.List.{List}
+use mathlib.Core.Path.{_≡_}
+use Prim.Native.Nat.{_*_, _+_, _^_, ℕ}
+use Rattle.mms.specs.declared.Answer.{Answer}
+use Rattle.model.specs.Request.Step.{afterOf, answerOf}
+use Rattle.model.specs.State.Check.{check}
+
+-- Rule 8.5: the state check of any words.
+abbrev pub checking : List ℕ → Answer
+checking t = record { no = check t; number = 0 }
+
+-- Rules 7 and 8: the step's answer to any words.
+abbrev pub stepping : List ℕ → List ℕ → Answer
+stepping t q = record { no = answerOf t q; number = 0 }
+
+-- Rules 7 and 8: the answer a, and the words r that stand in the tables afterwards. The request is only read.
+pub record Stepping (t q : List ℕ) (a : Answer) (r : List ℕ) : Type 0 where
+  pub answer : a ≡ stepping t q
+  pub words : r ≡ afterOf t q
+
+-- An answer in one word of 64 bits, as C gets it.
+abbrev pub exported : Answer → ℕ
+exported a = a .no * 4294967296 + a .number
+
+-- The step for C.
+pub record Exporting (t q : List ℕ) (a : ℕ) (r : List ℕ) : Type 0 where
+  pub answer : a ≡ exported (stepping t q)
+  pub words : r ≡ afterOf t q

@@ -1,0 +1,3 @@
+-- What the public calls promise, and that nothing else satisfies it.
+pub mod Contract
+pub mod Unique

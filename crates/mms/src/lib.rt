@@ -1,0 +1,50 @@
+// The desk's public calls, and their C exports. Each takes any words, and none asks anything of them. An answer is a pair: document 01's
+// number, and a count or a place that goes with some of them, which is 0 for these two calls.
+ghost use mathlib.Core.Path.{_≡_};
+ghost use Rattle.mms.specs.Contract.{Exporting, Stepping, checking, exported};
+
+pub struct Answer {
+    pub no: u32,
+    pub number: u32,
+}
+
+// The state check: 0 for well-formed, secure tables, else 1, 2 or 3.
+pub fn check(tables: &[u32]) -> Answer
+    ensures { λ r. ⌜ r ≡ checking (now (tables .entry)) ⌝ }
+{
+    let n = state::checked(tables);
+    Answer { no: n, number: 0 }
+}
+
+// One request: its answer, 0 to 16, and its effect on the tables, or its notice, or nothing at all.
+pub fn step(tables: &mut [u32], request: &[u32]) -> Answer
+    ensures { λ r. ⌜ Stepping (now (tables .entry)) (now (request .entry)) r (now (tables .exit)) ⌝ }
+{
+    let n = step::step(tables, request);
+    Answer { no: n, number: 0 }
+}
+
+// The answer in one word: the number in the upper half, what goes with it in the lower.
+fn packed(no: u32, number: u32) -> u64
+    ensures { λ r. ⌜ r ≡ exported (record { no = no; number = number }) ⌝ }
+{
+    no as u64 * 4294967296 + number as u64
+}
+
+// `check` for C.
+#[no_mangle]
+pub extern "C" fn mms_check(tables: &[u32]) -> u64
+    ensures { λ r. ⌜ r ≡ exported (checking (now (tables .entry))) ⌝ }
+{
+    let a = check(tables);
+    packed(a.no, a.number)
+}
+
+// `step` for C.
+#[no_mangle]
+pub extern "C" fn mms_step(tables: &mut [u32], request: &[u32]) -> u64
+    ensures { λ r. ⌜ Exporting (now (tables .entry)) (now (request .entry)) r (now (tables .exit)) ⌝ }
+{
+    let a = step(tables, request);
+    packed(a.no, a.number)
+}

@@ -1,0 +1,96 @@
+use native.Mathlib.Omega.{arith}
+use Rattle.reference.specs.WayLaws.{wellFormed-ranged}
+use Rattle.op_places.specs.DeleteLaws.{delete-forbidden, delete-kind, deleted}
+use borrow.Author.Needs.{needs}
+use Rattle.op_places.proofs.delete.Statement.{statement}
+use Rattle.op_places.proofs.delete.Tie as tie
+use Rattle.op_places.proofs.delete.Reads as reads
+use Rattle.op_places.proofs.delete.Lts as lts
+use Rattle.ladder.proofs.kinds.is_entity.Reads as is-entity-reads
+use Rattle.ladder.proofs.refusal.refuse.Reads as refuse-reads
+use Rattle.op_places.proofs.filling.erase.Reads as erase-reads
+use Rattle.op_places.proofs.filling.leave.Reads as leave-reads
+use Rattle.op_places.proofs.places.holder.Reads as holder-reads
+use Rattle.op_places.proofs.places.on_screen.Reads as on-screen-reads
+use Rattle.tables.proofs.count.Reads as count-reads
+use Rattle.tables.proofs.type_of.Reads as type-of-reads
+
+-- src/lib.rt:35:9
+is-entity-requires : tie.Need-is-entity-requires
+is-entity-requires c κs = search needs
+
+-- src/lib.rt:36:9
+refuse-requires : tie.Need-refuse-requires
+refuse-requires c κs = delete-kind _ _ _ _ (c .before .before .before .before .before .before .pre .0) (c .before .before .before .before .before .before .pre .1) _ (c .before .before .is-entity .ensures) (c .before .if1 .taken)
+
+-- src/lib.rt:36:9
+same-length : tie.Need-same-length
+same-length c = search needs
+
+-- src/lib.rt:36:9
+returns : tie.Need-returns
+returns c = search needs
+
+-- src/lib.rt:38:10
+count-requires : tie.Need-count-requires
+count-requires c κs = search needs
+
+-- src/lib.rt:38:39
+on-screen-requires : tie.Need-on-screen-requires
+on-screen-requires c κs = (search needs, wellFormed-ranged _ (c .before .before .before .before .before .before .before .before .pre .0 .climbed .ready .good .0))
+
+-- src/lib.rt:38:66
+type-of-requires : tie.Need-type-of-requires
+type-of-requires c κs = search needs
+
+-- src/lib.rt:39:9
+refuse-requires-2 : tie.Need-refuse-requires-2
+refuse-requires-2 c κs = delete-forbidden _ _ _ _ (c .before .before .before .before .before .before .before .before .before .before .before .before .before .pre .0) (c .before .before .before .before .before .before .before .before .before .before .before .before .before .pre .1) _ (c .before .before .before .before .before .before .before .before .before .is-entity .ensures) (c .before .before .before .before .before .before .before .before .if1 .left) _ _ _ (c .before .before .before .before .before .before .count .ensures) (c .before .before .before .before .on-screen .ensures) (c .before .before .type-of .ensures) (c .before .if2 .taken)
+
+-- src/lib.rt:39:9
+same-length-2 : tie.Need-same-length-2
+same-length-2 c = search needs
+
+-- src/lib.rt:39:9
+returns-2 : tie.Need-returns-2
+returns-2 c = search needs
+
+-- src/lib.rt:41:23
+holder-requires : tie.Need-holder-requires
+holder-requires c κs = (search needs, wellFormed-ranged _ (c .before .before .before .before .before .before .before .before .before .before .before .before .before .before .pre .0 .climbed .ready .good .0))
+
+-- src/lib.rt:41:5
+leave-requires : tie.Need-leave-requires
+leave-requires c κs = search needs
+
+-- src/lib.rt:42:5
+erase-requires : tie.Need-erase-requires
+erase-requires c κs = search needs
+
+-- src/lib.rt:31:1
+same-length-3 : tie.Need-same-length-3
+same-length-3 c = search needs
+
+-- src/lib.rt:31:1
+returns-3 : tie.Need-returns-3
+returns-3 c = deleted _ _ _ _ (c .before .before .before .before .before .before .before .before .before .before .before .before .before .before .before .before .before .before .before .before .before .before .pre .0) (c .before .before .before .before .before .before .before .before .before .before .before .before .before .before .before .before .before .before .before .before .before .before .pre .1) _ (c .before .before .before .before .before .before .before .before .before .before .before .before .before .before .before .before .before .before .is-entity .ensures) (c .before .before .before .before .before .before .before .before .before .before .before .before .before .before .before .before .before .if1 .left) _ _ _ (c .before .before .before .before .before .before .before .before .before .before .before .before .before .before .before .count .ensures) (c .before .before .before .before .before .before .before .before .before .before .before .before .before .on-screen .ensures) (c .before .before .before .before .before .before .before .before .before .before .before .type-of .ensures) (c .before .before .before .before .before .before .before .before .before .before .if2 .left) _ _ (c .before .before .before .before .before .before .leave .ensures) (c .before .before .erase .ensures)
+
+pub delete-spec : {M : Type 1} → statement M
+delete-spec =
+    tie.close
+    (tie.spec
+    is-entity-requires
+    refuse-requires
+    same-length
+    returns
+    count-requires
+    on-screen-requires
+    type-of-requires
+    refuse-requires-2
+    same-length-2
+    returns-2
+    holder-requires
+    leave-requires
+    erase-requires
+    same-length-3
+    returns-3)

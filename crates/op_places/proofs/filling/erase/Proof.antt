@@ -1,0 +1,63 @@
+use borrow.Author.Needs.{needs}
+use native.Mathlib.Omega.{arith}
+use mathlib.Core.Path.{_≡_, _∙_, ap}
+use Prim.Native.Nat.{_≤_, _-_}
+use lib.ListN.{length}
+use Rattle.model.specs.Tables.Edits.{onEntity}
+use Rattle.model.specs.Tables.Layout.{tablesOf}
+use Rattle.model.specs.Tables.LayoutLaws.{bounded}
+use Rattle.op_places.specs.RowStoreLaws.{blank-done, blank-none, blank-step}
+use Rattle.op_places.specs.SoFar.{blankTo}
+use Rattle.op_places.proofs.filling.erase.Statement.{statement}
+use Rattle.op_places.proofs.filling.erase.Tie as tie
+use Rattle.op_places.proofs.filling.erase.Reads as reads
+use Rattle.op_places.proofs.filling.erase.Lts as lts
+use Rattle.tables.proofs.set_entity_at.Reads as set-entity-at-reads
+
+abbrev Inv-loop : tie.InvT-loop
+Inv-loop t₀ e f₀ t f = (length t ≡ length t₀) × (f ≤ 32) × (tablesOf t ≡ onEntity (e .0) (blankTo f) (tablesOf t₀))
+
+abbrev μ-loop : tie.MeasureT-loop
+μ-loop t₀ e f₀ t f = 32 - f
+
+-- src/filling.rt:104:5
+loop-holds : tie.Need-loop-holds Inv-loop μ-loop
+loop-holds c = (search needs, omega arith, blank-none _ _)
+
+-- src/filling.rt:105:9
+set-entity-at-requires : tie.Need-set-entity-at-requires Inv-loop μ-loop
+set-entity-at-requires c κs = search needs
+
+-- src/filling.rt:106:9
+add-f : tie.Need-add-f Inv-loop μ-loop
+add-f c = omega arith
+
+-- src/filling.rt:104:5
+loop-less : tie.Need-loop-less Inv-loop μ-loop
+loop-less c = omega arith
+
+-- src/filling.rt:104:5
+loop-again : tie.Need-loop-again Inv-loop μ-loop
+loop-again c = (search needs, omega arith, blank-step _ _ (bounded _) _ _ _ (c .before .before .before .before .loop-test .taken) (c .before .before .before .before .before .loop .inv .2) (c .before .before .set-entity-at .ensures))
+
+-- src/filling.rt:99:1
+same-length : tie.Need-same-length Inv-loop μ-loop
+same-length c = search needs
+
+-- src/filling.rt:99:1
+returns : tie.Need-returns Inv-loop μ-loop
+returns c = c .before .loop .inv .2 ∙ blank-done _ _ (bounded _) (c .before .loop .f) (omega arith)
+
+pub erase-spec : {M : Type 1} → statement M
+erase-spec =
+    tie.close
+    (tie.spec
+    Inv-loop
+    μ-loop
+    loop-holds
+    set-entity-at-requires
+    add-f
+    loop-less
+    loop-again
+    same-length
+    returns)

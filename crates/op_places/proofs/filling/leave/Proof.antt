@@ -1,0 +1,58 @@
+use mathlib.Core.Logic.{_≢_}
+use native.Mathlib.Omega.{arith}
+use Rattle.model.specs.Tables.Layout.{tablesOf}
+use Rattle.op_places.specs.HolderLaws.{holder-in, leave-none, leave-stores, place-in}
+use borrow.Author.Needs.{needs}
+use Rattle.op_places.proofs.filling.leave.Statement.{statement}
+use Rattle.op_places.proofs.filling.leave.Tie as tie
+use Rattle.op_places.proofs.filling.leave.Reads as reads
+use Rattle.op_places.proofs.filling.leave.Lts as lts
+use Rattle.op_places.proofs.filling.close_places.Reads as close-places-reads
+use Rattle.op_places.proofs.places.place_of.Reads as place-of-reads
+use Rattle.tables.proofs.count.Reads as count-reads
+use Rattle.tables.proofs.set_count.Reads as set-count-reads
+
+-- src/filling.rt:37:9
+returns : tie.Need-returns
+returns c = leave-none _ (c .before .before .before .pre .1) _ _ (c .before .before .before .pre .2) (c .if1 .taken)
+
+-- src/filling.rt:39:9
+count-requires : tie.Need-count-requires
+count-requires c κs = let r = holder-in _ (c .before .before .before .before .pre .1) _ _ (c .before .before .before .before .pre .2) (c .before .if1 .left) in search needs
+
+-- src/filling.rt:40:24
+place-of-requires : tie.Need-place-of-requires
+place-of-requires c κs = let r = holder-in _ (c .before .before .before .before .before .before .before .pre .1) _ _ (c .before .before .before .before .before .before .before .pre .2) (c .before .before .before .before .if1 .left) in (search needs, omega (arith, c .before .before .count .ensures, c .before .before .before .before .before .before .before .pre .1 .entities (c .before .before .before .before .before .before .before .args .h .0) .filled .packed .room))
+
+-- src/filling.rt:40:5
+close-places-requires : tie.Need-close-places-requires
+close-places-requires c κs = let r = holder-in _ (c .before .before .before .before .before .before .before .before .pre .1) _ _ (c .before .before .before .before .before .before .before .before .pre .2) (c .before .before .before .before .before .if1 .left) in (search needs, omega (arith, place-in _ (c .before .before .before .before .before .before .before .before .pre .1) _ _ (c .before .before .before .before .before .before .before .before .pre .2) (c .before .before .before .before .before .if1 .left) _ _ (c .before .before .before .count .ensures) (c .place-of .ensures), c .before .before .before .count .ensures, c .before .before .before .before .before .before .before .before .pre .1 .entities (c .before .before .before .before .before .before .before .before .args .h .0) .filled .packed .room))
+
+-- src/filling.rt:41:29
+sub-set-count : tie.Need-sub-set-count
+sub-set-count c = omega (arith, place-in _ (c .before .before .before .before .before .before .before .before .before .before .before .before .pre .1) _ _ (c .before .before .before .before .before .before .before .before .before .before .before .before .pre .2) (c .before .before .before .before .before .before .before .before .before .if1 .left) _ _ (c .before .before .before .before .before .before .before .count .ensures) (c .before .before .before .before .place-of .ensures))
+
+-- src/filling.rt:41:5
+set-count-requires : tie.Need-set-count-requires
+set-count-requires c κs = let r = holder-in _ (c .before .before .before .before .before .before .before .before .before .before .before .before .pre .1) _ _ (c .before .before .before .before .before .before .before .before .before .before .before .before .pre .2) (c .before .before .before .before .before .before .before .before .before .if1 .left) in search needs
+
+-- src/filling.rt:32:1
+same-length : tie.Need-same-length
+same-length c = search needs
+
+-- src/filling.rt:32:1
+returns-2 : tie.Need-returns-2
+returns-2 c = leave-stores (tablesOf (c .before .before .before .before .before .before .before .before .before .before .before .before .before .before .before .args .t .now)) (c .before .before .before .before .before .before .before .before .before .before .before .before .before .before .before .pre .1) _ _ (c .before .before .before .before .before .before .before .before .before .before .before .before .before .before .before .pre .2) (c .before .before .before .before .before .before .before .before .before .before .before .before .if1 .left) _ _ (c .before .before .before .before .before .before .before .before .before .before .count .ensures) (c .before .before .before .before .before .before .before .place-of .ensures) _ _ (c .before .before .before .before .before .before .close-places .ensures) (c .before .before .set-count .ensures)
+
+pub leave-spec : {M : Type 1} → statement M
+leave-spec =
+    tie.close
+    (tie.spec
+    returns
+    count-requires
+    place-of-requires
+    close-places-requires
+    sub-set-count
+    set-count-requires
+    same-length
+    returns-2)

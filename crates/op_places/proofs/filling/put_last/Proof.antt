@@ -1,0 +1,45 @@
+use Rattle.model.specs.Tables.Layout.{tablesOf}
+use Rattle.op_places.specs.FillLaws.{put-stores}
+use borrow.Author.Needs.{needs}
+use Rattle.op_places.proofs.filling.put_last.Statement.{statement}
+use Rattle.op_places.proofs.filling.put_last.Tie as tie
+use Rattle.op_places.proofs.filling.put_last.Reads as reads
+use Rattle.op_places.proofs.filling.put_last.Lts as lts
+use Rattle.tables.proofs.count.Reads as count-reads
+use Rattle.tables.proofs.set_count.Reads as set-count-reads
+use Rattle.tables.proofs.set_place.Reads as set-place-reads
+
+-- src/filling.rt:49:9
+count-requires : tie.Need-count-requires
+count-requires c κs = search needs
+
+-- src/filling.rt:50:5
+set-place-requires : tie.Need-set-place-requires
+set-place-requires c κs = search needs
+
+-- src/filling.rt:51:29
+add-set-count : tie.Need-add-set-count
+add-set-count c = search needs
+
+-- src/filling.rt:51:5
+set-count-requires : tie.Need-set-count-requires
+set-count-requires c κs = search needs
+
+-- src/filling.rt:45:1
+same-length : tie.Need-same-length
+same-length c = search needs
+
+-- src/filling.rt:45:1
+returns : tie.Need-returns
+returns c = put-stores (tablesOf (c .before .before .before .before .before .before .before .before .before .before .before .args .t .now)) _ _ _ (c .before .before .before .before .before .before .before .before .count .ensures) (c .before .before .before .before .before .before .before .before .before .before .before .pre .2) _ _ (c .before .before .before .before .before .before .set-place .ensures) (c .before .before .set-count .ensures)
+
+pub put-last-spec : {M : Type 1} → statement M
+put-last-spec =
+    tie.close
+    (tie.spec
+    count-requires
+    set-place-requires
+    add-set-count
+    set-count-requires
+    same-length
+    returns)

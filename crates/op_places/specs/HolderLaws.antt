@@ -1,0 +1,163 @@
+-- In well-formed tables: the container that an entity is in, what it is to leave it, and what lies in what.
+use mathlib.Core.Bool.{Bool, _&&_, false, not, true}
+use mathlib.Core.Logic.{_≢_, _⊎_, inl, inr}
+use mathlib.Core.Path.{_∙_, _≡_, ap, fun-ext, refl, subst, sym}
+use Prim.Native.Nat.{_-_, _<_, _≤_, pred, suc, ℕ}
+use native.Mathlib.Omega.{arith}
+use lib.Dec.{T, eqb, leb, ltb}
+use borrow.Author.Tests.{eq-eqb, lt-leb}
+use Rattle.laws.specs.Bools.{holds}
+use Rattle.model.specs.Basics.Choice.{Below, Same, below, it, other, over, pick, same, under}
+use Rattle.model.specs.Basics.TestLaws.{pick-same}
+use Rattle.model.specs.Effect.Places.{leave, leaving}
+use Rattle.model.specs.State.Agree.{wellFormed-bounded}
+use Rattle.model.specs.State.AgreeLinks.{boxed, in-agrees, member-agrees, parent-holds, parent-top}
+use Rattle.model.specs.State.Check.{parent}
+use Rattle.model.specs.State.Climb.{climb}
+use Rattle.model.specs.State.ClimbLaws.{climb-sound}
+use Rattle.model.specs.State.Depth.{Within}
+use Rattle.model.specs.State.DepthLaws.{holds-one}
+use Rattle.model.specs.State.WellFormed.{InTables, WellFormed}
+use Rattle.model.specs.Tables.Edits.{Edit, _and_, onEntity, row, word, written}
+use Rattle.model.specs.Tables.RowLaws.{without-none}
+use Rattle.model.specs.Tables.Rows.{Member, close, left, seek, without}
+use Rattle.model.specs.Tables.StoreLaws.{twice}
+use Rattle.model.specs.Tables.Words.{EntityWord, Tables, containerKind, count, counts, device, devices, entityCount, kind, kinds, level, mark}
+use Rattle.model.specs.Tables.Words.{maximum, place, placeCount, places, releaser, shown, triple, type, value, userCount}
+use Rattle.model.specs.Theorem.FramedPlaces.{leave-left}
+use Rattle.model.specs.Theorem.MayChange.{contentWord, holder}
+
+-- what holds a, by the columns of d
+abbrev pub parentIn : Tables → ℕ → ℕ
+parentIn d = parent (kinds d) (counts d) (places d)
+
+no-and : (a b : Bool) → (T a → ⊥) → T (not (a && b))
+no-and true b n = absurd (n tt)
+no-and false b n = tt
+
+module _ (d : Tables) (w : WellFormed d) where
+  entity-out : (e : ℕ) → (e ≡ 0) ⊎ (entityCount < e) → (kinds d e ≡ 0) × (counts d e ≡ 0)
+  entity-out e q = let o = wellFormed-bounded d w in (o .entityOut e q kind, o .entityOut e q count)
+
+  user-out : (u : ℕ) → (u ≡ 0) ⊎ (userCount < u) → devices d u ≡ 0
+  user-out u q = wellFormed-bounded d w .userOut u q device
+
+  room : (e : ℕ) → counts d e ≤ placeCount
+  room e = w .entities e .filled .packed .room
+
+  -- nothing holds a
+  top : (a : ℕ) → parentIn d a ≡ 0 → (x : ℕ) → InTables d x a → ⊥
+  top = parent-top (kinds d) (counts d) (places d) (devices d) entity-out user-out room
+
+  -- its container holds a
+  held : (a : ℕ) → parentIn d a ≢ 0 → InTables d (parentIn d a) a
+  held = parent-holds (kinds d) (counts d) (places d) (devices d) entity-out user-out room
+
+  in-range : (x a : ℕ) → InTables d x a → (1 ≤ x) × (x ≤ entityCount)
+  in-range = boxed (kinds d) (counts d) (places d) (devices d) entity-out user-out room
+
+  module _ (e h : ℕ) (p : h ≡ parentIn d e) where
+    held-here : h ≢ 0 → InTables d h e
+    held-here n = subst (λ (x : ℕ). InTables d x e) (sym p) (held e (λ z. n (p ∙ z)))
+
+    -- another container does not hold it
+    not-there : (x : ℕ) → x ≢ h → InTables d x e → ⊥
+    not-there x n i = n (w .links .oneContainer e x h i (held-here (λ z. top e (sym p ∙ z) x i)))
+
+    -- the container has a number, and e has a place in it
+    pub holder-in : h ≢ 0 → (1 ≤ h) × (h ≤ entityCount)
+    holder-in n = in-range h e (held-here n)
+
+    pub place-in : h ≢ 0 → (n k : ℕ) → n ≡ counts d h → k ≡ seek e (places d h) n → k < n
+    place-in z n k q r =
+        let m = held-here z .1 in
+        let t : T (ltb (seek e (places d h) (counts d h)) (counts d h)) = member-agrees (places d h) (counts d h) e .from m in
+        rw (r, q) (lt (seek e (places d h) (counts d h)) (counts d h) t)
+      where
+        lt : (a b : ℕ) → T (ltb a b) → a < b
+        lt a b = go (ltb a b) (below a b)
+          where
+            go : (c : Bool) → Below a b c → T c → a < b
+            go true (under l) t = l
+            go false s t = absurd t
+
+    -- ---- to leave
+
+    unheld : (x : ℕ) (f : EntityWord) → (InTables d x e → ⊥) → T (not (holder d e x && contentWord f))
+    unheld x f n = no-and (holder d e x) (contentWord f) (λ t. n (in-agrees (kinds d) (counts d) (places d) x e .to t))
+
+    -- what is in no container leaves none
+    pub leave-none : h ≡ 0 → d ≡ leave e d
+    leave-none z = λ i. record { user = d .user; entity = (fun-ext λ x. fun-ext λ f. sym (leave-left d w e x f (unheld x f (top e (sym p ∙ z) x)))) i }
+
+    -- the count of its container is one less
+    left-one : h ≢ 0 → left e (places d h) (counts d h) ≡ counts d h - 1
+    left-one z = go (ltb (seek e (places d h) (counts d h)) (counts d h)) (below (seek e (places d h) (counts d h)) (counts d h))
+      where
+        go : (b : Bool) → Below (seek e (places d h) (counts d h)) (counts d h) b → pick b (pred (counts d h)) (counts d h) ≡ counts d h - 1
+        go true s = let q : pred (counts d h) ≡ counts d h - 1 = omega arith in q
+        go false (over l) = absurd (omega (arith, place-in z (counts d h) (seek e (places d h) (counts d h)) refl refl))
+
+    module _ (z : h ≢ 0) (n k : ℕ) (q : n ≡ counts d h) (r : k ≡ seek e (places d h) n) where
+      stores : Edit EntityWord
+      stores = word count (n - 1) and row place (close k (places d h))
+
+      -- its container afterwards
+      leave-here : (f : EntityWord) → written stores (d .entity h) f ≡ leave e d .entity h f
+      unfolding stores
+      leave-here kind = refl
+      leave-here type = refl
+      leave-here level = refl
+      leave-here mark = refl
+      leave-here value = refl
+      leave-here releaser = refl
+      leave-here maximum = refl
+      leave-here count = rw (eq-eqb (kinds d h) containerKind (held-here z .0)) (ap (λ (m : ℕ). m - 1) q ∙ sym (left-one z))
+      leave-here (place i) = rw (eq-eqb (kinds d h) containerKind (held-here z .0)) (ap (λ (m : ℕ). close m (places d h) i) (r ∙ ap (seek e (places d h)) q))
+      leave-here (shown i) = refl
+      leave-here (triple i) = refl
+
+      -- and every record
+      leave-word : (x : ℕ) (f : EntityWord) → onEntity h stores d .entity x f ≡ leave e d .entity x f
+      leave-word x f = go (eqb x h) (same x h)
+        where
+          go : (b : Bool) → Same x h b → pick (stores .touched f) (pick b (stores .value f) (d .entity x f)) (d .entity x f) ≡ leave e d .entity x f
+          go true (it s) = rw s (leave-here f)
+          go false (other s) = pick-same (stores .touched f) (d .entity x f) ∙ sym (leave-left d w e x f (unheld x f (not-there x s)))
+
+      -- the stores of leaving are the model's
+      pub leave-stores : (s y : Tables) → s ≡ onEntity h (row place (close k (places d h))) d → y ≡ onEntity h (word count (n - 1)) s → y ≡ leave e d
+      unfolding stores
+      leave-stores s y a b = b ∙ ap (onEntity h (word count (n - 1))) a ∙ twice h (word count (n - 1)) (row place (close k (places d h))) d
+          ∙ (λ i. record { user = d .user; entity = (fun-ext λ x. fun-ext λ f. leave-word x f) i })
+
+    -- Rule 6.3: a container is full after e has left where it is full and e is not in it.
+    pub full-left : (c n : ℕ) → 1 ≤ c → kinds d c ≡ containerKind → n ≡ counts d c → (not (eqb h c) && leb placeCount n) ≡ leb placeCount (counts (leave e d) c)
+    full-left c n l box q = rw (eq-eqb (kinds d c) containerKind box) (go (eqb h c) (same h c))
+      where
+        go : (b : Bool) → Same h c b → (not b && leb placeCount n) ≡ leb placeCount (left e (places d c) (counts d c))
+        go true (it s) = sym (lt-leb placeCount (left e (places d c) (counts d c)) (subst (λ (x : ℕ). left e (places d x) (counts d x) < placeCount) s
+            (omega (arith, left-one (λ z. omega arith), room h, place-in (λ z. omega arith) (counts d h) (seek e (places d h) (counts d h)) refl refl))))
+        go false (other s) = ap (leb placeCount) (q ∙ sym (without-none e (places d c) (counts d c) (w .entities c .filled .packed)
+            (λ m. not-there c (λ z. s (sym z)) (box, m)) .0))
+
+  -- ---- what lies in what
+
+  -- an entity that holds nothing has itself only
+  pub inside-empty : (e c n : ℕ) → n ≡ counts d e → n ≡ 0 → eqb c e ≡ climb (parentIn d) (suc entityCount) c e
+  unfolding climb
+  inside-empty e c n q z = go (eqb c e) (same c e) (climb-sound entityCount (InTables d) (parentIn d) top held (w .links .oneContainer) in-range (suc entityCount) c e)
+    where
+      go : (b : Bool) → Same c e b
+          → (T (pick b true (pick (eqb (parentIn d c) 0) false (climb (parentIn d) entityCount (parentIn d c) e))) → Within (InTables d) c e)
+          → b ≡ pick b true (pick (eqb (parentIn d c) 0) false (climb (parentIn d) entityCount (parentIn d c) e))
+      go true s f = refl
+      go false (other s) f = out (pick (eqb (parentIn d c) 0) false (climb (parentIn d) entityCount (parentIn d c) e)) f
+        where
+          none : Within (InTables d) c e → ⊥
+          none (inl y) = s y
+          none (inr p) = let x = holds-one p in omega (arith, x .1 .1 .1)
+
+          out : (b : Bool) → (T b → Within (InTables d) c e) → false ≡ b
+          out true g = absurd (none (g tt))
+          out false g = refl

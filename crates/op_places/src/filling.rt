@@ -1,0 +1,108 @@
+// What the three operations store: places that close up or are filled, and records that appear or go.
+use crate::places;
+use levels::Entity;
+use levels::Level;
+ghost use mathlib.Core.Path.{_≡_};
+ghost use Prim.Native.Nat.{_<_, _≤_, ℕ};
+ghost use lib.ListN.{length};
+ghost use Rattle.model.specs.Effect.Places.{create, erase, fresh, leave, put, sortKind, sortType};
+ghost use Rattle.model.specs.State.Check.{parent};
+ghost use Rattle.model.specs.State.WellFormed.{WellFormed};
+ghost use Rattle.model.specs.Tables.Edits.{onEntity, row};
+ghost use Rattle.model.specs.Tables.Layout.{tablesOf, wordCount};
+ghost use Rattle.model.specs.Tables.Rows.{close};
+ghost use Rattle.model.specs.Tables.Words.{counts, kinds, place, placeCount, places, sums, triple, triples};
+ghost use Rattle.tables.specs.Singles.{EntityIn};
+
+// Place k of entity h is taken out, and the later ones close up.
+fn close_places(t: &mut [u32], h: Entity, k: u32)
+    requires { ⌜ EntityIn (now t) (h .0) × (k < placeCount) ⌝ }
+    ensures { λ _. ⌜ tablesOf (now (t .exit)) ≡ onEntity (h .0) (row place (close k (places (tablesOf (now (t .entry))) (h .0)))) (tablesOf (now (t .entry))) ⌝ }
+{
+    let mut i = k;
+    while i < 7 {
+        let x = tables::place(t, h, i + 1);
+        tables::set_place(t, h, i, x);
+        i += 1;
+    }
+    tables::set_place(t, h, 7, Entity(0));
+}
+
+// Entity e leaves h, the container that it is in; where h is entity 0 it is in none.
+pub fn leave(t: &mut [u32], h: Entity, e: Entity)
+    requires { ⌜ (length (now t) ≡ wordCount) × WellFormed (tablesOf (now t)) × (h .0 ≡ parent (kinds (tablesOf (now t))) (counts (tablesOf (now t))) (places (tablesOf (now t))) (e .0)) ⌝ }
+    ensures { λ _. ⌜ tablesOf (now (t .exit)) ≡ leave (e .0) (tablesOf (now (t .entry))) ⌝ }
+{
+    if h.0 == 0 {
+        return;
+    }
+    let n = tables::count(t, h);
+    close_places(t, h, places::place_of(t, h, e, n));
+    tables::set_count(t, h, n - 1);
+}
+
+// Entity e stands last in c, of which nothing is shown.
+pub fn put_last(t: &mut [u32], c: Entity, e: Entity)
+    requires { ⌜ EntityIn (now t) (c .0) × (counts (tablesOf (now t)) (c .0) < placeCount) × ((i : ℕ) → sums (tablesOf (now t)) (c .0) i ≡ 0) ⌝ }
+    ensures { λ _. ⌜ tablesOf (now (t .exit)) ≡ put (c .0) (e .0) 0 (tablesOf (now (t .entry))) ⌝ }
+{
+    let n = tables::count(t, c);
+    tables::set_place(t, c, n, e);
+    tables::set_count(t, c, n + 1);
+}
+
+// The triples of entity c are those of entity e too.
+fn copy_triples(t: &mut [u32], e: Entity, c: Entity)
+    requires { ⌜ EntityIn (now t) (e .0) × EntityIn (now t) (c .0) ⌝ }
+    ensures { λ _. ⌜ tablesOf (now (t .exit)) ≡ onEntity (e .0) (row triple (triples (tablesOf (now (t .entry))) (c .0))) (tablesOf (now (t .entry))) ⌝ }
+{
+    let mut i: u32 = 0;
+    while i < 8 {
+        let x = tables::triple(t, c, i);
+        tables::set_triple(t, e, i, x);
+        i += 1;
+    }
+}
+
+// The kind of a sort: an object, or a container.
+fn sort_kind(s: u32) -> u32
+    ensures { λ r. ⌜ r ≡ sortKind s ⌝ }
+{
+    if s == 1 {
+        return 1;
+    }
+    2
+}
+
+// The type of a sort: a draft, or plain.
+fn sort_type(s: u32) -> u32
+    ensures { λ r. ⌜ r ≡ sortType s ⌝ }
+{
+    if s == 3 {
+        return 1;
+    }
+    0
+}
+
+// Entity e is there now, of sort s and level l, with the triples of c.
+pub fn bear(t: &mut [u32], e: Entity, c: Entity, s: u32, l: Level)
+    requires { ⌜ EntityIn (now t) (e .0) × EntityIn (now t) (c .0) ⌝ }
+    ensures { λ _. ⌜ tablesOf (now (t .exit)) ≡ fresh (e .0) (c .0) (sortKind s) (sortType s) (l .0) (tablesOf (now (t .entry))) ⌝ }
+{
+    tables::set_kind(t, e, sort_kind(s));
+    tables::set_type(t, e, sort_type(s));
+    tables::set_level(t, e, l);
+    copy_triples(t, e, c);
+}
+
+// Every word of entity e is zero.
+pub fn erase(t: &mut [u32], e: Entity)
+    requires { ⌜ EntityIn (now t) (e .0) ⌝ }
+    ensures { λ _. ⌜ tablesOf (now (t .exit)) ≡ erase (e .0) (tablesOf (now (t .entry))) ⌝ }
+{
+    let mut f: usize = 0;
+    while f < 32 {
+        tables::set_entity_at(t, e, f, 0);
+        f += 1;
+    }
+}

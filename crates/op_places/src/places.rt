@@ -1,0 +1,120 @@
+// What stands where: the place of an entity, the container that it is in, the screens that show it, and what lies in what.
+use levels::Entity;
+ghost use mathlib.Core.Path.{_≡_};
+ghost use mathlib.Core.Bool.{_&&_};
+ghost use Prim.Native.Nat.{_≤_, suc};
+ghost use lib.Dec.{eqb, ltb};
+ghost use lib.ListN.{length};
+ghost use Rattle.model.specs.Effect.Places.{vacant};
+ghost use Rattle.model.specs.Request.Conditions.{onScreen};
+ghost use Rattle.model.specs.State.Check.{parent};
+ghost use Rattle.model.specs.State.Climb.{climb};
+ghost use Rattle.model.specs.State.WellFormed.{WellFormed};
+ghost use Rattle.model.specs.Tables.Layout.{tablesOf, wordCount};
+ghost use Rattle.model.specs.Tables.Rows.{seek};
+ghost use Rattle.model.specs.Tables.Words.{counts, entityCount, kinds, placeCount, places};
+ghost use Rattle.reference.specs.Ways.{Ranged};
+ghost use Rattle.tables.specs.Singles.{EntityIn};
+
+// The place of entity e among the first n places of v, or n.
+pub fn place_of(t: &[u32], v: Entity, e: Entity, n: u32) -> u32
+    requires { ⌜ EntityIn (now t) (v .0) × (n ≤ placeCount) ⌝ }
+    ensures { λ r. ⌜ r ≡ seek (e .0) (places (tablesOf (now (t .entry))) (v .0)) n ⌝ }
+{
+    let mut i: u32 = 0;
+    while i < n {
+        if tables::place(t, v, i).0 == e.0 {
+            return i;
+        }
+        i += 1;
+    }
+    n
+}
+
+// Whether entity v is of kind k and e stands in one of its places.
+fn stands_in(t: &[u32], k: u32, v: Entity, e: Entity) -> bool
+    requires { ⌜ EntityIn (now t) (v .0) × Ranged (tablesOf (now t)) ⌝ }
+    ensures { λ r. ⌜ r ≡ (eqb (kinds (tablesOf (now (t .entry))) (v .0)) k && ltb (seek (e .0) (places (tablesOf (now (t .entry))) (v .0)) (counts (tablesOf (now (t .entry))) (v .0))) (counts (tablesOf (now (t .entry))) (v .0))) ⌝ }
+{
+    if tables::kind(t, v) != k {
+        return false;
+    }
+    let n = tables::count(t, v);
+    place_of(t, v, e, n) < n
+}
+
+// The lowest container that entity e stands in, or entity 0.
+pub fn holder(t: &[u32], e: Entity) -> Entity
+    requires { ⌜ (length (now t) ≡ wordCount) × Ranged (tablesOf (now t)) ⌝ }
+    ensures { λ r. ⌜ r .0 ≡ parent (kinds (tablesOf (now (t .entry)))) (counts (tablesOf (now (t .entry)))) (places (tablesOf (now (t .entry)))) (e .0) ⌝ }
+{
+    let mut i: u32 = 0;
+    while i < 64 {
+        if stands_in(t, 2, Entity(i + 1), e) {
+            return Entity(i + 1);
+        }
+        i += 1;
+    }
+    Entity(0)
+}
+
+// Whether some device shows entity e.
+pub fn on_screen(t: &[u32], e: Entity) -> bool
+    requires { ⌜ (length (now t) ≡ wordCount) × Ranged (tablesOf (now t)) ⌝ }
+    ensures { λ r. ⌜ r ≡ onScreen (tablesOf (now (t .entry))) (e .0) ⌝ }
+{
+    let mut i: u32 = 0;
+    while i < 64 {
+        if stands_in(t, 3, Entity(i + 1), e) {
+            return true;
+        }
+        i += 1;
+    }
+    false
+}
+
+// The lowest number of an absent entity, or 65.
+pub fn vacant(t: &[u32]) -> u32
+    requires { ⌜ length (now t) ≡ wordCount ⌝ }
+    ensures { λ r. ⌜ r ≡ vacant (tablesOf (now (t .entry))) ⌝ }
+{
+    let mut i: u32 = 0;
+    while i < 64 {
+        if tables::kind(t, Entity(i + 1)) == 0 {
+            return i + 1;
+        }
+        i += 1;
+    }
+    65
+}
+
+// Whether c is e or lies in it, by going up from c.
+fn inside(t: &[u32], c: Entity, e: Entity) -> bool
+    requires { ⌜ (length (now t) ≡ wordCount) × Ranged (tablesOf (now t)) ⌝ }
+    ensures { λ r. ⌜ r ≡ climb (parent (kinds (tablesOf (now (t .entry)))) (counts (tablesOf (now (t .entry)))) (places (tablesOf (now (t .entry))))) (suc entityCount) (c .0) (e .0) ⌝ }
+{
+    let mut y = c;
+    let mut i: u32 = 0;
+    while i < 65 {
+        if y.0 == e.0 {
+            return true;
+        }
+        y = holder(t, y);
+        if y.0 == 0 {
+            return false;
+        }
+        i += 1;
+    }
+    false
+}
+
+// Whether c is e or lies in it: what holds nothing has nothing in it.
+pub fn is_inside(t: &[u32], c: Entity, e: Entity) -> bool
+    requires { ⌜ EntityIn (now t) (e .0) × WellFormed (tablesOf (now t)) ⌝ }
+    ensures { λ r. ⌜ r ≡ climb (parent (kinds (tablesOf (now (t .entry)))) (counts (tablesOf (now (t .entry)))) (places (tablesOf (now (t .entry))))) (suc entityCount) (c .0) (e .0) ⌝ }
+{
+    if tables::count(t, e) == 0 {
+        return c.0 == e.0;
+    }
+    inside(t, c, e)
+}

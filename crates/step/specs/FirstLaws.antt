@@ -1,0 +1,182 @@
+-- The first rungs: 1 by lengths, 2 and 3 by the state check, 4 the requester, 5 the form, 6 whether the requester is on a device; and the
+-- step's own ends.
+use mathlib.Core.Bool.{Bool, _&&_, _||_, false, not, true}
+use mathlib.Core.List.{List}
+use mathlib.Core.Logic.{_≢_}
+use mathlib.Core.Option.{Option, none, some}
+use mathlib.Core.Path.{_∙_, _≡_, ap, refl, subst, sym}
+use Prim.Native.Nat.{_<_, _≤_, suc, ℕ}
+use native.Mathlib.Omega.{arith}
+use lib.Dec.{T, eqb, eqb→eq, leb, lit<, lit≤, ltb}
+use lib.ListN.{getD, length}
+use Rattle.ladder.specs.ClimbLaws.{good-passed, passed-hit, passed-lower, passed-more}
+use Rattle.ladder.specs.Contract.{Climbed, Passed, Ready, Refusing, Stepped}
+use Rattle.ladder.specs.OwnLaws.{noticed-as}
+use Rattle.laws.specs.Bools.{holds}
+use Rattle.laws.specs.Loops.{every-at}
+use Rattle.model.specs.Basics.Agree.{Agrees}
+use Rattle.model.specs.Basics.Choice.{pick}
+use Rattle.model.specs.Basics.Fails.{Fails}
+use Rattle.model.specs.Basics.TestLaws.{fails-false, is-false, is-true}
+use Rattle.model.specs.Basics.Tests.{every}
+use Rattle.model.specs.Request.After.{noticedOp}
+use Rattle.model.specs.Request.AfterLaws.{after-unchanged}
+use Rattle.model.specs.Request.Allowed.{Known}
+use Rattle.model.specs.Request.Ladder.{answer, applies, fits, ladder, never, notLoggedOn, notUnderstood, ofOp, rungAt, unknownUser}
+use Rattle.model.specs.Request.LadderLaws.{judge-answer, ofOp-some}
+use Rattle.model.specs.Request.OperationLaws.{number-range, opOf-number}
+use Rattle.model.specs.Request.Operations.{Op, numberOf, opOf, openLoggedOff, operations, withNumber}
+use Rattle.model.specs.Request.RungLaws.{unknownUser-fails}
+use Rattle.model.specs.Request.Step.{afterOf, answerOf, sized}
+use Rattle.model.specs.Request.Words.{Request, requestOf, requestWords}
+use Rattle.model.specs.State.AgreeSecure.{judge-good}
+use Rattle.model.specs.State.Check.{judge, secureTest, wellFormedTest}
+use Rattle.model.specs.Tables.Layout.{tablesOf, wordCount}
+use Rattle.model.specs.Tables.LayoutLaws.{bounded}
+use Rattle.model.specs.Tables.Words.{Tables, device, present, userCount}
+use Rattle.model.specs.Tables.WordsOfLaws.{tablesOf-injective}
+use Rattle.model.specs.Theorem.Steps.{afterOf-length, afterOf-tables, answerOf-sized, low-refusal-words, sized-agrees, unsized}
+use Rattle.step.specs.Contract.{Settled}
+use Rattle.step.specs.DispatchLaws.{understood}
+
+-- a rung applies where its statement does not hold, and not where it does
+applied : (b : Bool) {P : Type 0} → Fails b P → (P → ⊥) → b ≡ true
+applied true f n = refl
+applied false f n = absurd (n (f .to tt))
+
+not-applied : (b : Bool) {P : Type 0} → Fails b P → P → b ≡ false
+not-applied b f p = fails-false b (f .from p)
+
+-- ---- rung 4
+
+module _ (t q : List ℕ) (r : Ready t q) (n : ℕ) (e : n ≡ getD q 0 0) where
+  user-word : requestOf q .user ≡ n
+  unfolding requestOf
+  user-word = sym e
+
+  -- the requester is none of the users that are there
+  pub unknown : (Known (tablesOf t) n → ⊥) → Stepped t q 4 t
+  unfolding applies rungAt never ladder
+  unknown h =
+      let a = passed-hit (tablesOf t) (requestOf q) 3 (good-passed (tablesOf t) (requestOf q) (r .good))
+      (applied (unknownUser (tablesOf t) (requestOf q)) (unknownUser-fails (tablesOf t) (requestOf q)) (λ k. h (subst (Known (tablesOf t)) user-word k))) in
+      record { answer = a; tables = sym (after-unchanged (tablesOf t) (requestOf q) 4 (sym a) (lit≤ tt) (lit< tt)) }
+
+  -- the requester is one of them
+  pub known : Known (tablesOf t) n → Climbed 4 t q n
+  unfolding applies rungAt never ladder
+  known k = record {
+    ready = r;
+    user = user-word;
+    low = k .low;
+    high = k .high;
+    passed = passed-more (tablesOf t) (requestOf q) 3 (good-passed (tablesOf t) (requestOf q) (r .good))
+        (not-applied (unknownUser (tablesOf t) (requestOf q)) (unknownUser-fails (tablesOf t) (requestOf q)) (subst (Known (tablesOf t)) (sym user-word) k));
+  }
+
+-- ---- rungs 5 and 6
+
+module _ (t q : List ℕ) (u : ℕ) (k : Climbed 4 t q u) where
+  module _ (b : Bool) (h : b ≡ ofOp (requestOf q) (λ o. fits o (requestOf q))) where
+    form-is : applies 5 (tablesOf t) (requestOf q) ≡ not b
+    unfolding applies rungAt never ladder notUnderstood
+    form-is = ap not (sym h)
+
+    -- the request has not the form that its operation asks
+    pub misshapen : b ≡ false → (op : ℕ) → op ≡ noticedOp (requestOf q) → Refusing t q u op 5
+    misshapen z op e = record {
+      climbed = k;
+      operation = e;
+      noticed = lit≤ tt;
+      answer = passed-hit (tablesOf t) (requestOf q) 4 (k .passed) (form-is ∙ ap not z);
+    }
+
+    module _ (z : b ≡ true) (op v : ℕ) (e : requestOf q .operation ≡ op) (hv : v ≡ tablesOf t .user u device) where
+      fifth : Passed 5 (tablesOf t) (requestOf q)
+      fifth = passed-more (tablesOf t) (requestOf q) 4 (k .passed) (form-is ∙ ap not z)
+
+      operation : (o : Op) × (opOf (requestOf q .operation) ≡ some o)
+      operation = understood (tablesOf t) (requestOf q) fifth
+
+      number-is : numberOf (operation .0) ≡ op
+      number-is = opOf-number (requestOf q .operation) (operation .0) (operation .1) ∙ e
+
+      on-is : applies 6 (tablesOf t) (requestOf q) ≡ (not (eqb op 12 || eqb op 20) && eqb v 0)
+      unfolding applies rungAt never ladder notLoggedOn
+      on-is = ofOp-some (requestOf q) (operation .0) (operation .1) (λ o. not (openLoggedOff o) && eqb (tablesOf t .user (requestOf q .user) device) 0)
+          ∙ rw (number-is, k .user, ← hv)
+
+      -- the requester is off, and the operation wants a device
+      pub off : (not (eqb op 12 || eqb op 20) && eqb v 0) ≡ true → Refusing t q u op 6
+      off w = record {
+        climbed = k;
+        operation = sym number-is ∙ noticed-as (requestOf q) (operation .0) (operation .1);
+        noticed = lit≤ tt;
+        answer = passed-hit (tablesOf t) (requestOf q) 5 fifth (on-is ∙ w);
+      }
+
+      -- else the ladder is passed up to rung 6
+      pub on : (not (eqb op 12 || eqb op 20) && eqb v 0) ≡ false → Climbed 6 t q u
+      on w = record { ready = k .ready; user = k .user; low = k .low; high = k .high; passed = passed-more (tablesOf t) (requestOf q) 5 fifth (on-is ∙ w) }
+
+-- ---- the operation that a notice keeps
+
+-- of a number up to 20 it is that number
+noticed-low : (n : ℕ) → n < 21 → n ≡ elim (opOf n) [ none ↦ 0 | some o ↦ numberOf o ]
+unfolding every opOf withNumber operations
+noticed-low n h = eqb→eq n (elim (opOf n) [ none ↦ 0 | some o ↦ numberOf o ]) (every-at 21 (λ i. eqb i (elim (opOf i) [ none ↦ 0 | some o ↦ numberOf o ])) tt n h)
+
+pub noticed-up : (q : Request) (op : ℕ) → q .operation ≡ op → op ≤ 20 → op ≡ noticedOp q
+unfolding noticedOp
+noticed-up q op e h = noticed-low op (omega arith) ∙ ap (λ (n : ℕ). elim (opOf n) [ none ↦ 0 | some o ↦ numberOf o ]) (sym e)
+
+-- of any other it is 0
+pub noticed-none : (q : Request) (op : ℕ) → q .operation ≡ op → 20 < op → 0 ≡ noticedOp q
+unfolding noticedOp
+noticed-none q op e h = go (opOf (q .operation)) refl
+  where
+    go : (m : Option Op) → opOf (q .operation) ≡ m → _≡_ {A = ℕ} 0 (elim m [ none ↦ 0 | some o ↦ numberOf o ])
+    go none z = refl
+    go (some o) z = absurd (omega (arith, opOf-number (q .operation) o z, number-range o))
+
+-- ---- the step's ends
+
+-- Rule 7.1: a slice of another length
+pub other-length : (t q : List ℕ) → ((length t ≡ wordCount) × (length q ≡ requestWords) → ⊥) → Settled t q 1 t
+other-length t q n =
+    let z = unsized t q (is-false (sized t q) (go (sized t q) (λ h. n (sized-agrees t q .to h)))) in
+    record { answer = sym (z .0); words = sym (z .1) }
+  where
+    go : (b : Bool) → (T b → ⊥) → b ≡ false
+    go true f = absurd (f tt)
+    go false f = refl
+
+module _ (t q : List ℕ) (a : length t ≡ wordCount) (b : length q ≡ requestWords) where
+  whole : T (sized t q)
+  whole = sized-agrees t q .from (a, b)
+
+  -- Rules 7.2 and 7.3: the state check refuses, and nothing has changed
+  judge-low : judge (tablesOf t) ≤ 3
+  unfolding judge
+  judge-low = go (wellFormedTest (tablesOf t)) (secureTest (tablesOf t))
+    where
+      go : (x y : Bool) → pick x (pick y 0 3) 2 ≤ 3
+      go true true = omega arith
+      go true false = omega arith
+      go false y = omega arith
+
+  pub judged-settled : (n : ℕ) → n ≡ judge (tablesOf t) → n ≢ 0 → Settled t q n t
+  judged-settled n e z =
+      let w = answerOf-sized t q whole ∙ judge-answer (tablesOf t) (requestOf q) (λ h. z (e ∙ h)) in
+      record { answer = e ∙ sym w; words = sym (low-refusal-words t q (omega arith) (omega (arith, judge-low))) }
+
+  -- the state check passes, and the ladder goes on
+  pub judged-ready : (n : ℕ) → n ≡ judge (tablesOf t) → n ≡ 0 → Ready t q
+  judged-ready n e z = record { whole = a; request = b; good = judge-good (tablesOf t) (bounded t) (sym e ∙ z) }
+
+  -- what the ladder leaves is what the step promises
+  pub stepped-settled : (r : ℕ) (n : List ℕ) → length n ≡ length t → Stepped t q r n → Settled t q r n
+  stepped-settled r n l s = record {
+    answer = s .answer ∙ sym (answerOf-sized t q whole);
+    words = tablesOf-injective n (afterOf t q) (l ∙ a) (afterOf-length t q ∙ a) (s .tables ∙ sym (afterOf-tables t q whole));
+  }
