@@ -1,0 +1,20 @@
+use mathlib.Core.Path.{ap}
+use Prim.Native.Nat.{ℕ}
+use Rattle.mms.specs.declared.Answer.{Answer}
+use borrow.Author.Needs.{needs}
+use Rattle.mms.proofs.check.Statement.{statement}
+use Rattle.mms.proofs.check.Tie as tie
+use Rattle.mms.proofs.check.Reads as reads
+use Rattle.mms.proofs.check.Lts as lts
+use Rattle.state.proofs.checked.Reads as checked-reads
+
+-- src/lib.rt:15:9
+checked-requires : tie.Need-checked-requires
+checked-requires c κs = search needs
+
+-- src/lib.rt:12:1
+returns : tie.Need-returns
+returns c = ap (λ (n : ℕ). record { no = n; number = 0 }) (c .checked .ensures)
+
+pub check-spec : {M : Type 1} → statement M
+check-spec = tie.close (tie.spec checked-requires returns)

@@ -1,0 +1,24 @@
+use mathlib.Core.Path.{_∙_, ap}
+use Rattle.mms.specs.Contract.{exported}
+use borrow.Author.Needs.{needs}
+use Rattle.mms.proofs.mms_check.Statement.{statement}
+use Rattle.mms.proofs.mms_check.Tie as tie
+use Rattle.mms.proofs.mms_check.Reads as reads
+use Rattle.mms.proofs.mms_check.Lts as lts
+use Rattle.mms.proofs.check.Reads as check-reads
+use Rattle.mms.proofs.packed.Reads as packed-reads
+
+-- src/lib.rt:39:9
+check-requires : tie.Need-check-requires
+check-requires c κs = search needs
+
+-- src/lib.rt:40:5
+packed-requires : tie.Need-packed-requires
+packed-requires c κs = search needs
+
+-- src/lib.rt:35:1
+returns : tie.Need-returns
+returns c = c .packed .ensures ∙ ap exported (c .before .check .ensures)
+
+pub mms-check-spec : {M : Type 1} → statement M
+mms-check-spec = tie.close (tie.spec check-requires packed-requires returns)
