@@ -12,8 +12,8 @@ pub struct Answer {
 pub fn check(tables: &[u32]) -> Answer
     ensures { λ r. ⌜ r ≡ checking (now (tables .entry)) ⌝ }
 {
-    let n = state::checked(tables);
-    Answer { no: n, number: 0 }
+    let c = state::checked(tables);
+    Answer { no: c, number: 0 }
 }
 
 // One request: its answer, 0 to 16, and its effect on the tables, or its notice, or nothing at all.

@@ -2,9 +2,9 @@
 use mathlib.Core.Bool.{Bool, _||_, false, not, true}
 use mathlib.Core.List.{List}
 use mathlib.Core.Path.{_∙_, _≡_, ap, refl, subst, sym}
-use Prim.Native.Nat.{_<_, _≤_, suc, ℕ}
+use Prim.Native.Nat.{_<_, _≤_, ℕ}
 use native.Mathlib.Omega.{arith}
-use lib.Dec.{eqb, leb, ltb}
+use lib.Dec.{leb, ltb}
 use lib.ListN.{getD}
 use borrow.Author.Tests.{eqb-true, le-leb, leb-false, lt-leb, ltb-false}
 use Rattle.ladder.specs.Contract.{First, Passed, Refusing, Stepped, Taking}
@@ -19,7 +19,6 @@ use Rattle.model.specs.Request.Conditions.{createAbove, createNoRoom, isContain
 use Rattle.model.specs.Request.Ladder.{refused}
 use Rattle.model.specs.Request.Operations.{rowOf, toCreate}
 use Rattle.model.specs.Request.Words.{requestOf}
-use Rattle.model.specs.State.WellFormed.{WellFormed}
 use Rattle.model.specs.Tables.Layout.{tablesOf}
 use Rattle.model.specs.Tables.Words.{Tables, containerKind, counts, entityCount, kinds, level, placeCount, sums}
 

@@ -1,7 +1,7 @@
 -- Operation 2: the rungs of delete in the order of the code, and its end.
 use mathlib.Core.Bool.{Bool, _||_, false, not, true}
 use mathlib.Core.List.{List}
-use mathlib.Core.Path.{_∙_, _≡_, ap, refl, sym}
+use mathlib.Core.Path.{_∙_, _≡_, ap, refl}
 use Prim.Native.Nat.{ℕ}
 use native.Mathlib.Omega.{arith}
 use lib.Dec.{eqb}
@@ -22,7 +22,8 @@ module _ (t q : List ℕ) (u e : ℕ) (k : Taking toDelete t q u) (g : First t q
   pub delete-kind : not b ≡ true → Refusing t q u 2 10
   delete-kind z = kind-wrong toDelete t q u k e g isEntity refl b h (not-yes b z)
 
-  module _ (zb : not b ≡ false) (x y : ℕ) (r : Bool) (hx : x ≡ counts (tablesOf t) e) (hr : r ≡ onScreen (tablesOf t) e) (hy : y ≡ tablesOf t .entity e type) where
+  module _ (zb : not b ≡ false) (x y : ℕ) (r : Bool) (hx : x ≡ counts (tablesOf t) e) (hr : r ≡ onScreen (tablesOf t) e)
+      (hy : y ≡ tablesOf t .entity e type) where
     fourteen : Passed 14 (tablesOf t) (requestOf q)
     unfolding every free
     fourteen = skip toDelete t q u k 4 10 (omega arith) (omega arith) (kind-right toDelete t q u k e g isEntity refl b h (not-no b zb)) tt

@@ -1,5 +1,5 @@
 -- The stores that put an entity last in a container, and those that make a new one, are the model's edits.
-use mathlib.Core.Path.{_∙_, _≡_, ap, refl, sym}
+use mathlib.Core.Path.{_∙_, _≡_, ap, refl}
 use Prim.Native.Nat.{_+_, suc, ℕ}
 use native.Mathlib.Numerals.{add-one}
 use lib.Dec.{eqb}

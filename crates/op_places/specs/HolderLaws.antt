@@ -4,15 +4,13 @@ use mathlib.Core.Logic.{_≢_, _⊎_, inl, inr}
 use mathlib.Core.Path.{_∙_, _≡_, ap, fun-ext, refl, subst, sym}
 use Prim.Native.Nat.{_-_, _<_, _≤_, pred, suc, ℕ}
 use native.Mathlib.Omega.{arith}
-use lib.Dec.{T, eqb, leb, ltb}
+use lib.Dec.{T, eqb, leb, ltb, ltb→lt}
 use borrow.Author.Tests.{eq-eqb, lt-leb}
-use Rattle.laws.specs.Bools.{holds}
-use Rattle.model.specs.Basics.Choice.{Below, Same, below, it, other, over, pick, same, under}
+use Rattle.model.specs.Basics.Choice.{Below, Same, below, it, other, over, pick, same}
 use Rattle.model.specs.Basics.TestLaws.{pick-same}
-use Rattle.model.specs.Effect.Places.{leave, leaving}
+use Rattle.model.specs.Effect.Places.{leave}
 use Rattle.model.specs.State.Agree.{wellFormed-bounded}
 use Rattle.model.specs.State.AgreeLinks.{boxed, in-agrees, member-agrees, parent-holds, parent-top}
-use Rattle.model.specs.State.Check.{parent}
 use Rattle.model.specs.State.Climb.{climb}
 use Rattle.model.specs.State.ClimbLaws.{climb-sound}
 use Rattle.model.specs.State.Depth.{Within}
@@ -20,16 +18,13 @@ use Rattle.model.specs.State.DepthLaws.{holds-one}
 use Rattle.model.specs.State.WellFormed.{InTables, WellFormed}
 use Rattle.model.specs.Tables.Edits.{Edit, _and_, onEntity, row, word, written}
 use Rattle.model.specs.Tables.RowLaws.{without-none}
-use Rattle.model.specs.Tables.Rows.{Member, close, left, seek, without}
+use Rattle.model.specs.Tables.Rows.{close, left, seek}
 use Rattle.model.specs.Tables.StoreLaws.{twice}
 use Rattle.model.specs.Tables.Words.{EntityWord, Tables, containerKind, count, counts, device, devices, entityCount, kind, kinds, level, mark}
 use Rattle.model.specs.Tables.Words.{maximum, place, placeCount, places, releaser, shown, triple, type, value, userCount}
 use Rattle.model.specs.Theorem.FramedPlaces.{leave-left}
 use Rattle.model.specs.Theorem.MayChange.{contentWord, holder}
-
--- what holds a, by the columns of d
-abbrev pub parentIn : Tables → ℕ → ℕ
-parentIn d = parent (kinds d) (counts d) (places d)
+use Rattle.op_places.specs.Standing.{parentIn}
 
 no-and : (a b : Bool) → (T a → ⊥) → T (not (a && b))
 no-and true b n = absurd (n tt)
@@ -69,17 +64,8 @@ module _ (d : Tables) (w : WellFormed d) where
     holder-in n = in-range h e (held-here n)
 
     pub place-in : h ≢ 0 → (n k : ℕ) → n ≡ counts d h → k ≡ seek e (places d h) n → k < n
-    place-in z n k q r =
-        let m = held-here z .1 in
-        let t : T (ltb (seek e (places d h) (counts d h)) (counts d h)) = member-agrees (places d h) (counts d h) e .from m in
-        rw (r, q) (lt (seek e (places d h) (counts d h)) (counts d h) t)
-      where
-        lt : (a b : ℕ) → T (ltb a b) → a < b
-        lt a b = go (ltb a b) (below a b)
-          where
-            go : (c : Bool) → Below a b c → T c → a < b
-            go true (under l) t = l
-            go false s t = absurd t
+    place-in z n k q r = rw (r, q) (ltb→lt (seek e (places d h) (counts d h)) (counts d h)
+        (member-agrees (places d h) (counts d h) e .from (held-here z .1)))
 
     -- ---- to leave
 
@@ -132,7 +118,8 @@ module _ (d : Tables) (w : WellFormed d) where
           ∙ (λ i. record { user = d .user; entity = (fun-ext λ x. fun-ext λ f. leave-word x f) i })
 
     -- Rule 6.3: a container is full after e has left where it is full and e is not in it.
-    pub full-left : (c n : ℕ) → 1 ≤ c → kinds d c ≡ containerKind → n ≡ counts d c → (not (eqb h c) && leb placeCount n) ≡ leb placeCount (counts (leave e d) c)
+    pub full-left : (c n : ℕ) → 1 ≤ c → kinds d c ≡ containerKind → n ≡ counts d c
+        → (not (eqb h c) && leb placeCount n) ≡ leb placeCount (counts (leave e d) c)
     full-left c n l box q = rw (eq-eqb (kinds d c) containerKind box) (go (eqb h c) (same h c))
       where
         go : (b : Bool) → Same h c b → (not b && leb placeCount n) ≡ leb placeCount (left e (places d c) (counts d c))
@@ -146,7 +133,8 @@ module _ (d : Tables) (w : WellFormed d) where
   -- an entity that holds nothing has itself only
   pub inside-empty : (e c n : ℕ) → n ≡ counts d e → n ≡ 0 → eqb c e ≡ climb (parentIn d) (suc entityCount) c e
   unfolding climb
-  inside-empty e c n q z = go (eqb c e) (same c e) (climb-sound entityCount (InTables d) (parentIn d) top held (w .links .oneContainer) in-range (suc entityCount) c e)
+  inside-empty e c n q z = go (eqb c e) (same c e)
+      (climb-sound entityCount (InTables d) (parentIn d) top held (w .links .oneContainer) in-range (suc entityCount) c e)
     where
       go : (b : Bool) → Same c e b
           → (T (pick b true (pick (eqb (parentIn d c) 0) false (climb (parentIn d) entityCount (parentIn d c) e))) → Within (InTables d) c e)

@@ -1,7 +1,9 @@
--- What the searches and stores of create, delete and move have done so far, and the laws by which these operations meet the model.
-pub mod SoFar
+-- What the searches and stores of create, delete and move answer for, and the laws by which these operations meet the model.
+pub mod Standing
+pub mod Stored
 pub mod LookLaws
 pub mod RowStoreLaws
+pub mod BlankLaws
 pub mod HolderLaws
 pub mod FillLaws
 pub mod CreateLaws

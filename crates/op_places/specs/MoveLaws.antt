@@ -20,7 +20,8 @@ use Rattle.model.specs.State.Climb.{climb}
 use Rattle.model.specs.State.WellFormed.{WellFormed}
 use Rattle.model.specs.Tables.Layout.{tablesOf}
 use Rattle.model.specs.Tables.Words.{Tables, containerKind, counts, entityCount, kinds, level, placeCount, sums}
-use Rattle.op_places.specs.HolderLaws.{full-left, parentIn}
+use Rattle.op_places.specs.HolderLaws.{full-left}
+use Rattle.op_places.specs.Standing.{parentIn}
 
 module _ (t q : List ℕ) (u e c : ℕ) (k : Taking toMove t q u) (g : First t q e) (f : Second t q c)
     (a b : Bool) (ha : a ≡ isEntity (tablesOf t) e) (hb : b ≡ isContainer (tablesOf t) c) where

@@ -3,15 +3,15 @@ use crate::places;
 use levels::Entity;
 use levels::Level;
 ghost use mathlib.Core.Path.{_≡_};
-ghost use Prim.Native.Nat.{_<_, _≤_, ℕ};
+ghost use Prim.Native.Nat.{_<_, ℕ};
 ghost use lib.ListN.{length};
-ghost use Rattle.model.specs.Effect.Places.{create, erase, fresh, leave, put, sortKind, sortType};
-ghost use Rattle.model.specs.State.Check.{parent};
+ghost use Rattle.model.specs.Effect.Places.{erase, fresh, leave, put, sortKind, sortType};
 ghost use Rattle.model.specs.State.WellFormed.{WellFormed};
 ghost use Rattle.model.specs.Tables.Edits.{onEntity, row};
 ghost use Rattle.model.specs.Tables.Layout.{tablesOf, wordCount};
 ghost use Rattle.model.specs.Tables.Rows.{close};
-ghost use Rattle.model.specs.Tables.Words.{counts, kinds, place, placeCount, places, sums, triple, triples};
+ghost use Rattle.model.specs.Tables.Words.{counts, place, placeCount, places, sums, triple, triples};
+ghost use Rattle.op_places.specs.Standing.{parentIn};
 ghost use Rattle.tables.specs.Singles.{EntityIn};
 
 // Place k of entity h is taken out, and the later ones close up.
@@ -30,7 +30,7 @@ fn close_places(t: &mut [u32], h: Entity, k: u32)
 
 // Entity e leaves h, the container that it is in; where h is entity 0 it is in none.
 pub fn leave(t: &mut [u32], h: Entity, e: Entity)
-    requires { ⌜ (length (now t) ≡ wordCount) × WellFormed (tablesOf (now t)) × (h .0 ≡ parent (kinds (tablesOf (now t))) (counts (tablesOf (now t))) (places (tablesOf (now t))) (e .0)) ⌝ }
+    requires { ⌜ (length (now t) ≡ wordCount) × WellFormed (tablesOf (now t)) × (h .0 ≡ parentIn (tablesOf (now t)) (e .0)) ⌝ }
     ensures { λ _. ⌜ tablesOf (now (t .exit)) ≡ leave (e .0) (tablesOf (now (t .entry))) ⌝ }
 {
     if h.0 == 0 {

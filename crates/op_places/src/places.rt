@@ -1,18 +1,16 @@
 // What stands where: the place of an entity, the container that it is in, the screens that show it, and what lies in what.
 use levels::Entity;
 ghost use mathlib.Core.Path.{_≡_};
-ghost use mathlib.Core.Bool.{_&&_};
 ghost use Prim.Native.Nat.{_≤_, suc};
-ghost use lib.Dec.{eqb, ltb};
 ghost use lib.ListN.{length};
 ghost use Rattle.model.specs.Effect.Places.{vacant};
 ghost use Rattle.model.specs.Request.Conditions.{onScreen};
-ghost use Rattle.model.specs.State.Check.{parent};
 ghost use Rattle.model.specs.State.Climb.{climb};
 ghost use Rattle.model.specs.State.WellFormed.{WellFormed};
 ghost use Rattle.model.specs.Tables.Layout.{tablesOf, wordCount};
 ghost use Rattle.model.specs.Tables.Rows.{seek};
-ghost use Rattle.model.specs.Tables.Words.{counts, entityCount, kinds, placeCount, places};
+ghost use Rattle.model.specs.Tables.Words.{entityCount, placeCount, places};
+ghost use Rattle.op_places.specs.Standing.{parentIn, standing};
 ghost use Rattle.reference.specs.Ways.{Ranged};
 ghost use Rattle.tables.specs.Singles.{EntityIn};
 
@@ -34,7 +32,7 @@ pub fn place_of(t: &[u32], v: Entity, e: Entity, n: u32) -> u32
 // Whether entity v is of kind k and e stands in one of its places.
 fn stands_in(t: &[u32], k: u32, v: Entity, e: Entity) -> bool
     requires { ⌜ EntityIn (now t) (v .0) × Ranged (tablesOf (now t)) ⌝ }
-    ensures { λ r. ⌜ r ≡ (eqb (kinds (tablesOf (now (t .entry))) (v .0)) k && ltb (seek (e .0) (places (tablesOf (now (t .entry))) (v .0)) (counts (tablesOf (now (t .entry))) (v .0))) (counts (tablesOf (now (t .entry))) (v .0))) ⌝ }
+    ensures { λ r. ⌜ r ≡ standing (tablesOf (now (t .entry))) k (e .0) (v .0) ⌝ }
 {
     if tables::kind(t, v) != k {
         return false;
@@ -46,7 +44,7 @@ fn stands_in(t: &[u32], k: u32, v: Entity, e: Entity) -> bool
 // The lowest container that entity e stands in, or entity 0.
 pub fn holder(t: &[u32], e: Entity) -> Entity
     requires { ⌜ (length (now t) ≡ wordCount) × Ranged (tablesOf (now t)) ⌝ }
-    ensures { λ r. ⌜ r .0 ≡ parent (kinds (tablesOf (now (t .entry)))) (counts (tablesOf (now (t .entry)))) (places (tablesOf (now (t .entry)))) (e .0) ⌝ }
+    ensures { λ r. ⌜ r .0 ≡ parentIn (tablesOf (now (t .entry))) (e .0) ⌝ }
 {
     let mut i: u32 = 0;
     while i < 64 {
@@ -91,7 +89,7 @@ pub fn vacant(t: &[u32]) -> u32
 // Whether c is e or lies in it, by going up from c.
 fn inside(t: &[u32], c: Entity, e: Entity) -> bool
     requires { ⌜ (length (now t) ≡ wordCount) × Ranged (tablesOf (now t)) ⌝ }
-    ensures { λ r. ⌜ r ≡ climb (parent (kinds (tablesOf (now (t .entry)))) (counts (tablesOf (now (t .entry)))) (places (tablesOf (now (t .entry))))) (suc entityCount) (c .0) (e .0) ⌝ }
+    ensures { λ r. ⌜ r ≡ climb (parentIn (tablesOf (now (t .entry)))) (suc entityCount) (c .0) (e .0) ⌝ }
 {
     let mut y = c;
     let mut i: u32 = 0;
@@ -111,7 +109,7 @@ fn inside(t: &[u32], c: Entity, e: Entity) -> bool
 // Whether c is e or lies in it: what holds nothing has nothing in it.
 pub fn is_inside(t: &[u32], c: Entity, e: Entity) -> bool
     requires { ⌜ EntityIn (now t) (e .0) × WellFormed (tablesOf (now t)) ⌝ }
-    ensures { λ r. ⌜ r ≡ climb (parent (kinds (tablesOf (now (t .entry)))) (counts (tablesOf (now (t .entry)))) (places (tablesOf (now (t .entry))))) (suc entityCount) (c .0) (e .0) ⌝ }
+    ensures { λ r. ⌜ r ≡ climb (parentIn (tablesOf (now (t .entry)))) (suc entityCount) (c .0) (e .0) ⌝ }
 {
     if tables::count(t, e) == 0 {
         return c.0 == e.0;

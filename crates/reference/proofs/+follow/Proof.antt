@@ -57,7 +57,7 @@ follow-place-requires t c κs = (c .before .before .before .before .before .befo
 
 -- src/lib.rt:50:22
 follow-is-bar-requires : (t : ℕ) → follow-lts.Need-is-bar-requires (follow-calls t) (follow-at t) follow.Post
-follow-is-bar-requires t c κs = c .before .before .before .before .before .before .before .before .pre .1 .0
+follow-is-bar-requires t c κs = let r = c .before .before .before .before .before .before .before .before .pre .1 .1 in let i : getD (c .before .before .before .before .before .before .before .before .args .names .now) 0 0 - 1 < counts (tablesOf (c .before .before .before .before .before .before .before .before .args .t .now)) (c .before .before .before .before .before .before .before .before .args .e .0) = omega (arith, c .before .if3 .left, c .before .before .count .ensures, c .before .before .before .if2 .left) in let l = r .low _ _ i in let h = r .high _ _ i in (c .before .before .before .before .before .before .before .before .pre .1 .0 .0, omega (arith, c .place .ensures, l, c .before .before .before .before .before .before .before .before .pre .1 .0 .1), omega (arith, c .place .ensures, h, c .before .before .before .before .before .before .before .before .pre .1 .0 .2))
 
 -- src/lib.rt:51:24
 follow-sub-follow : (t : ℕ) → follow-lts.Need-sub-follow (follow-calls t) (follow-at t) follow.Post

@@ -1,13 +1,13 @@
 use borrow.Author.Needs.{needs}
 use native.Mathlib.Omega.{arith}
-use mathlib.Core.Path.{_≡_, _∙_, sym, ap}
-use Prim.Native.Nat.{_≤_, _<_, _-_, _+_}
+use mathlib.Core.Path.{_≡_}
+use Prim.Native.Nat.{_≤_, _-_}
 use lib.ListN.{length}
-use Rattle.model.specs.Tables.Edits.{onEntity, word}
 use Rattle.model.specs.Tables.Layout.{tablesOf}
 use Rattle.model.specs.Tables.LayoutLaws.{bounded}
 use Rattle.model.specs.Tables.Words.{place}
-use Rattle.op_places.specs.RowStoreLaws.{closedTo, closing-end, closing-none, closing-step}
+use Rattle.op_places.specs.Stored.{closedTo}
+use Rattle.op_places.specs.RowStoreLaws.{closing-end, closing-none, closing-step}
 use Rattle.op_places.proofs.filling.close_places.Statement.{statement}
 use Rattle.op_places.proofs.filling.close_places.Tie as tie
 use Rattle.op_places.proofs.filling.close_places.Reads as reads

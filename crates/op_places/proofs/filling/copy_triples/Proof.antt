@@ -5,7 +5,8 @@ use Prim.Native.Nat.{_≤_, _-_}
 use lib.ListN.{length}
 use Rattle.model.specs.Tables.Layout.{tablesOf}
 use Rattle.model.specs.Tables.LayoutLaws.{bounded}
-use Rattle.op_places.specs.RowStoreLaws.{copiedTo, copying-done, copying-none, copying-step}
+use Rattle.op_places.specs.Stored.{copiedTo}
+use Rattle.op_places.specs.RowStoreLaws.{copying-done, copying-none, copying-step}
 use Rattle.op_places.proofs.filling.copy_triples.Statement.{statement}
 use Rattle.op_places.proofs.filling.copy_triples.Tie as tie
 use Rattle.op_places.proofs.filling.copy_triples.Reads as reads

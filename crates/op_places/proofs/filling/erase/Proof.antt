@@ -1,13 +1,13 @@
 use borrow.Author.Needs.{needs}
 use native.Mathlib.Omega.{arith}
-use mathlib.Core.Path.{_≡_, _∙_, ap}
+use mathlib.Core.Path.{_≡_, _∙_}
 use Prim.Native.Nat.{_≤_, _-_}
 use lib.ListN.{length}
 use Rattle.model.specs.Tables.Edits.{onEntity}
 use Rattle.model.specs.Tables.Layout.{tablesOf}
 use Rattle.model.specs.Tables.LayoutLaws.{bounded}
-use Rattle.op_places.specs.RowStoreLaws.{blank-done, blank-none, blank-step}
-use Rattle.op_places.specs.SoFar.{blankTo}
+use Rattle.op_places.specs.BlankLaws.{blank-done, blank-none, blank-step}
+use Rattle.op_places.specs.Stored.{blankTo}
 use Rattle.op_places.proofs.filling.erase.Statement.{statement}
 use Rattle.op_places.proofs.filling.erase.Tie as tie
 use Rattle.op_places.proofs.filling.erase.Reads as reads

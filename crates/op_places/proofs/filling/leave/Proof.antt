@@ -1,4 +1,3 @@
-use mathlib.Core.Logic.{_≢_}
 use native.Mathlib.Omega.{arith}
 use Rattle.model.specs.Tables.Layout.{tablesOf}
 use Rattle.op_places.specs.HolderLaws.{holder-in, leave-none, leave-stores, place-in}

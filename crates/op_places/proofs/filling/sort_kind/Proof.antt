@@ -1,5 +1,3 @@
-use mathlib.Core.Path.{sym}
-use lib.Dec.{eqb}
 use borrow.Author.Tests.{eq-eqb, ne-eqb}
 use Rattle.op_places.proofs.filling.sort_kind.Statement.{statement}
 use Rattle.op_places.proofs.filling.sort_kind.Tie as tie

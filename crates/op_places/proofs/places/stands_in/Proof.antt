@@ -1,4 +1,3 @@
-use mathlib.Core.Path.{_∙_, sym}
 use native.Mathlib.Omega.{arith}
 use borrow.Author.Tests.{eq-eqb, ne-eqb}
 use borrow.Author.Needs.{needs}
@@ -10,23 +9,23 @@ use Rattle.op_places.proofs.places.place_of.Reads as place-of-reads
 use Rattle.tables.proofs.count.Reads as count-reads
 use Rattle.tables.proofs.kind.Reads as kind-reads
 
--- src/places.rt:39:8
+-- src/places.rt:37:8
 kind-requires : tie.Need-kind-requires
 kind-requires c κs = search needs
 
--- src/places.rt:40:9
+-- src/places.rt:38:9
 returns : tie.Need-returns
 returns c = rw (← c .before .kind .ensures, ne-eqb _ _ (c .if1 .taken))
 
--- src/places.rt:42:9
+-- src/places.rt:40:9
 count-requires : tie.Need-count-requires
 count-requires c κs = search needs
 
--- src/places.rt:43:5
+-- src/places.rt:41:5
 place-of-requires : tie.Need-place-of-requires
 place-of-requires c κs = (search needs, omega (arith, c .count .ensures, c .before .before .before .before .pre .1 .room (c .before .before .before .before .args .v .0)))
 
--- src/places.rt:35:1
+-- src/places.rt:33:1
 returns-2 : tie.Need-returns-2
 returns-2 c = rw (← c .before .before .before .kind .ensures, eq-eqb _ _ (c .before .before .if1 .left), ← c .before .count .ensures, ← c .place-of .ensures)
 
