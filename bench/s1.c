@@ -82,7 +82,7 @@ static void build_s1(uint32_t *t)
 
 /* ---- asking ---- */
 
-struct session {
+struct trial {
     const char *desk;
     step_function *step;
     uint32_t t[TABLE_WORDS];
@@ -90,7 +90,7 @@ struct session {
     uint32_t wrong;
 };
 
-static void expect(struct session *s, const char *what, uint64_t got, uint64_t wanted)
+static void expect(struct trial *s, const char *what, uint64_t got, uint64_t wanted)
 {
     s->asked++;
     if (got == wanted)
@@ -106,7 +106,7 @@ struct request {
     uint32_t a, b;
 };
 
-static uint32_t ask(struct session *s, const struct request *r)
+static uint32_t ask(struct trial *s, const struct request *r)
 {
     uint32_t q[REQUEST_WORDS] = { r->user, r->operation };
 
@@ -145,7 +145,7 @@ static const struct request show_5 = { 2, SHOW, { 1, 5 }, { 0 }, 3, 0 };
 static const struct request show_4_1 = { 2, SHOW, { 2, 4, 1 }, { 0 }, 3, 0 };
 static const struct request show_5_value = { 2, SHOW, { 1, 5 }, { 0 }, 1, 0 };
 
-static void check_listed(struct session *s)
+static void check_listed(struct trial *s)
 {
     for (size_t i = 0; i < sizeof listed / sizeof *listed; i++) {
         build_s1(s->t);
@@ -154,7 +154,7 @@ static void check_listed(struct session *s)
 }
 
 /* What the accepted ones leave, as far as S1 says it. */
-static void check_effects(struct session *s)
+static void check_effects(struct trial *s)
 {
     static const struct request copy_5_to_7 = { 2, COPY, { 1, 5 }, { 1, 7 }, 0, 0 };
     static const struct request create_in_7 = { 2, CREATE, { 1, 7 }, { 0 }, 1, 0 };
@@ -170,7 +170,7 @@ static void check_effects(struct session *s)
     expect(s, "state check of S1", ordinary_check(s->t, TABLE_WORDS), 0);
 }
 
-static void check_release(struct session *s)
+static void check_release(struct trial *s)
 {
     static const struct request current_5 = { 1, SET_CURRENT, { 0 }, { 0 }, 1, 5 };
     static const struct request release_6 = { 1, RELEASE, { 1, 6 }, { 0 }, 0, 0 };
@@ -182,7 +182,7 @@ static void check_release(struct session *s)
     expect(s, "releaser of 6 after that", s->t[entity_base(6) + ENTITY_RELEASER], 1);
 }
 
-static void check_notice(struct session *s)
+static void check_notice(struct trial *s)
 {
     static const struct request acknowledge_9_1 = { 2, ACKNOWLEDGE, { 0 }, { 0 }, 9, 1 };
     static const struct request acknowledge_9_3 = { 2, ACKNOWLEDGE, { 0 }, { 0 }, 9, 3 };
@@ -208,7 +208,7 @@ struct list {
     uint32_t entries[LIST_ROOM][1 + NAMES];
 };
 
-static bool is_listed(struct session *s, uint32_t user, const uint32_t *reference)
+static bool is_listed(struct trial *s, uint32_t user, const uint32_t *reference)
 {
     struct request r = { user, SHOW, { 0 }, { 0 }, 3, 0 };
     uint32_t answer;
@@ -220,7 +220,7 @@ static bool is_listed(struct session *s, uint32_t user, const uint32_t *referenc
 
 /* All references from the given one on, a shorter before its extensions. The
    tables are built anew each time, since the asking changes them. */
-static void list_from(struct session *s, uint32_t user, bool unmarked, uint32_t *reference,
+static void list_from(struct trial *s, uint32_t user, bool unmarked, uint32_t *reference,
                       struct list *list)
 {
     uint32_t length = reference[0];
@@ -244,7 +244,7 @@ static void list_from(struct session *s, uint32_t user, bool unmarked, uint32_t 
     reference[1 + length] = 0;
 }
 
-static struct list list_for(struct session *s, uint32_t user, bool unmarked)
+static struct list list_for(struct trial *s, uint32_t user, bool unmarked)
 {
     struct list list = { 0 };
 
@@ -256,7 +256,7 @@ static struct list list_for(struct session *s, uint32_t user, bool unmarked)
     return list;
 }
 
-static void expect_list(struct session *s, const char *what, const struct list *list,
+static void expect_list(struct trial *s, const char *what, const struct list *list,
                         const uint32_t (*wanted)[1 + NAMES], uint32_t count)
 {
     expect(s, what, list->count, count);
@@ -264,7 +264,7 @@ static void expect_list(struct session *s, const char *what, const struct list *
         expect(s, what, (uint64_t)memcmp(list->entries[i], wanted[i], sizeof *wanted) != 0, 0);
 }
 
-static void check_lists(struct session *s)
+static void check_lists(struct trial *s)
 {
     static const uint32_t entries[][1 + NAMES] = { { 2, 4, 1 }, { 1, 5 } };
     struct list list;
@@ -278,7 +278,7 @@ static void check_lists(struct session *s)
 }
 
 /* The script's two requests, with what the program would write. */
-static void check_script(struct session *s)
+static void check_script(struct trial *s)
 {
     const uint32_t *user = s->t + user_base(2);
 
@@ -293,9 +293,9 @@ static void check_script(struct session *s)
 
 static uint32_t check_desk(const char *desk, step_function *step)
 {
-    static struct session s;
+    static struct trial s;
 
-    s = (struct session){ .desk = desk, .step = step };
+    s = (struct trial){ .desk = desk, .step = step };
     check_listed(&s);
     check_effects(&s);
     check_release(&s);

@@ -7,6 +7,7 @@ use Rattle.ladder.specs.declared.operands.Operand.the-variants.{Fine, No
 use Rattle.ladder.specs.declared.operands.Pair.{Pair}
 use Rattle.ladder.specs.declared.operands.Pair.the-variants.{Both, Neither}
 use Rattle.model.specs.Request.Allowed.{arity}
+use Rattle.model.specs.Request.Asked.{asked}
 use Rattle.model.specs.Request.Ladder.{leadsNowhere, lowest, noAccess, notCleared}
 use Rattle.model.specs.Request.Operations.{opOf}
 use Rattle.model.specs.Request.Words.{Request}
@@ -28,3 +29,10 @@ operandOf (suc n) e = No (suc n)
 abbrev pub pairOf : ℕ → ℕ → ℕ → Pair
 pairOf zero e c = Both (record { 0 = e }) (record { 0 = c })
 pairOf (suc n) e c = Neither (suc n)
+
+-- What a request of one operand, or of two, has for its operands.
+abbrev pub oneRead : Tables → Request → Operand
+oneRead d q = operandOf (pathAnswer d q) (asked d q .first)
+
+abbrev pub twoRead : Tables → Request → Pair
+twoRead d q = pairOf (pathAnswer d q) (asked d q .first) (asked d q .second)

@@ -4,8 +4,7 @@ use levels::User;
 use reference::Found;
 ghost use mathlib.Core.Path.{_≡_};
 ghost use Rattle.ladder.specs.Contract.{Climbed};
-ghost use Rattle.ladder.specs.Path.{arityOf, operandOf, pairOf, pathAnswer};
-ghost use Rattle.model.specs.Request.Asked.{asked};
+ghost use Rattle.ladder.specs.Path.{arityOf, oneRead, twoRead};
 ghost use Rattle.model.specs.Request.Words.{requestOf};
 ghost use Rattle.model.specs.Tables.Layout.{tablesOf};
 
@@ -24,7 +23,7 @@ pub enum Pair {
 // The operand that a request of one operand names, or the refusal 7, 8 or 9: the reference is read once.
 pub fn one_operand(t: &[u32], q: &[u32], u: User, op: u32) -> Operand
     requires { ⌜ Climbed 6 (now t) (now q) (u .0) × (requestOf (now q) .operation ≡ op) × (arityOf (requestOf (now q)) ≡ 1) ⌝ }
-    ensures { λ r. ⌜ r ≡ operandOf (pathAnswer (tablesOf (now (t .entry))) (requestOf (now (q .entry)))) (asked (tablesOf (now (t .entry))) (requestOf (now (q .entry))) .first) ⌝ }
+    ensures { λ r. ⌜ r ≡ oneRead (tablesOf (now (t .entry))) (requestOf (now (q .entry))) ⌝ }
 {
     let end = 3 + q[2] as usize;
     let Found::At(e, clear) = reference::resolve(t, tables::clearance(t, u), &q[3..end]) else {
@@ -42,7 +41,7 @@ pub fn one_operand(t: &[u32], q: &[u32], u: User, op: u32) -> Operand
 // The operands that a request of two operands names, or the refusal 7, 8 or 9: each reference is read once.
 pub fn two_operands(t: &[u32], q: &[u32], u: User, op: u32) -> Pair
     requires { ⌜ Climbed 6 (now t) (now q) (u .0) × (requestOf (now q) .operation ≡ op) × (arityOf (requestOf (now q)) ≡ 2) ⌝ }
-    ensures { λ r. ⌜ r ≡ pairOf (pathAnswer (tablesOf (now (t .entry))) (requestOf (now (q .entry)))) (asked (tablesOf (now (t .entry))) (requestOf (now (q .entry))) .first) (asked (tablesOf (now (t .entry))) (requestOf (now (q .entry))) .second) ⌝ }
+    ensures { λ r. ⌜ r ≡ twoRead (tablesOf (now (t .entry))) (requestOf (now (q .entry))) ⌝ }
 {
     let l = tables::clearance(t, u);
     let end = 3 + q[2] as usize;

@@ -5,18 +5,19 @@ use mathlib.Core.Logic.{_≢_}
 use mathlib.Core.Path.{_∙_, _≡_, ap, refl, subst, sym}
 use Prim.Native.Nat.{_-_, _<_, _≤_, pred, suc, zero, ℕ}
 use native.Mathlib.Omega.{arith}
-use lib.Dec.{T, eqb, leb}
+use lib.Dec.{eqb, eqb·suc-zero}
 use lib.ListN.{drop, getD, length, take}
 use lib.Seq.{take-all}
 use Rattle.laws.specs.Bools.{fails, holds}
 use Rattle.levels.specs.declared.Entity.{Entity}
+use Rattle.model.specs.Basics.Choice.{pick}
 use Rattle.model.specs.Level.{atMost}
 use Rattle.model.specs.Request.Ladder.{bars}
 use Rattle.model.specs.Request.Reference.{Present, basis, follow, passed, placeTest, presentTest, resolve, standing}
 use Rattle.model.specs.Request.ReferenceLaws.{place-agrees, present-agrees}
 use Rattle.model.specs.State.WellFormed.{WellFormed}
 use Rattle.model.specs.Tables.Words.{Tables, counts, entityCount, kind, kinds, level, mark, places}
-use Rattle.reference.specs.Ways.{Ranged, bar, leading}
+use Rattle.reference.specs.Ways.{Ranged, bar, found, leading, onward, refusalOf}
 use Rattle.reference.specs.declared.Found.{Found}
 use Rattle.reference.specs.declared.Found.the-variants.{At, Nowhere}
 
@@ -55,12 +56,8 @@ unfolding resolve
 resolve-no d e ps h = subst (λ (b : Bool). _≡_ {A = ℕ} (elim b [ true ↦ follow d e ps | false ↦ 0 ]) 0) (sym h) refl
 
 module _ (d : Tables) (l : ℕ) where
-  -- whether the way is open, from e on by these names
-  abbrev pub onward : ℕ → Bool → List ℕ → Found
-  onward e o ns = leading (follow d e ns) (o && not (bars d l (passed d e ns)))
-
   -- no names are left
-  pub follow-end : (e : Entity) (o : Bool) (ns : List ℕ) → 1 ≤ e .0 → length ns ≡ 0 → At e o ≡ onward (e .0) o ns
+  pub follow-end : (e : Entity) (o : Bool) (ns : List ℕ) → 1 ≤ e .0 → length ns ≡ 0 → At e o ≡ onward d l (e .0) o ns
   unfolding follow passed bars
   follow-end e o [] h z = go o (leading-at e o h)
     where
@@ -70,7 +67,7 @@ module _ (d : Tables) (l : ℕ) where
   follow-end e o (p ∷ ps) h z = absurd (omega arith)
 
   -- the next name is no used place
-  pub follow-stop : (e : ℕ) (o : Bool) (ns : List ℕ) → length ns ≢ 0 → ((1 ≤ getD ns 0 0) × (getD ns 0 0 ≤ counts d e) → ⊥) → Nowhere ≡ onward e o ns
+  pub follow-stop : (e : ℕ) (o : Bool) (ns : List ℕ) → length ns ≢ 0 → ((1 ≤ getD ns 0 0) × (getD ns 0 0 ≤ counts d e) → ⊥) → Nowhere ≡ onward d l e o ns
   follow-stop e o [] n h = absurd (n refl)
   follow-stop e o (p ∷ ps) n h = rw (follow-no d e p ps (fails (placeTest d e p) (λ t. h (place-agrees d e p .to t))))
 
@@ -86,7 +83,7 @@ module _ (d : Tables) (l : ℕ) where
 
   -- the next name is a used place, and the rest is read from there
   pub follow-on : (e c : ℕ) (o : Bool) (ns : List ℕ) → length ns ≢ 0 → 1 ≤ getD ns 0 0 → getD ns 0 0 ≤ counts d e → c ≡ places d e (getD ns 0 0 - 1)
-      → onward c (o && not (bar d l e)) (take (length ns - 1) (drop 1 ns)) ≡ onward e o ns
+      → onward d l c (o && not (bar d l e)) (take (length ns - 1) (drop 1 ns)) ≡ onward d l e o ns
   unfolding passed
   follow-on e c o [] n a b q = absurd (n refl)
   follow-on e c o (p ∷ ps) n a b q =
@@ -97,16 +94,13 @@ module _ (d : Tables) (l : ℕ) where
       (ap (leading (follow d (standing d e p) ps)) (bars-more e (passed d (standing d e p) ps) o))
 
   -- ---- a whole reference
-  abbrev pub found : List ℕ → Found
-  found ns = leading (resolve d ns) (not (bars d l (basis d ns)))
-
   -- the first name is no entity that is there
-  pub resolve-stop : (ns : List ℕ) → 1 ≤ length ns → (Present d (getD ns 0 0) → ⊥) → Nowhere ≡ found ns
+  pub resolve-stop : (ns : List ℕ) → 1 ≤ length ns → (Present d (getD ns 0 0) → ⊥) → Nowhere ≡ found d l ns
   resolve-stop [] n h = absurd (omega arith)
   resolve-stop (e ∷ ps) n h = rw (resolve-no d e ps (fails (presentTest d e) (λ t. h (present-agrees d e .to t))))
 
   -- the first name is an entity that is there, and the rest is read from it
-  pub resolve-on : (e : ℕ) (ns : List ℕ) → e ≡ getD ns 0 0 → 1 ≤ length ns → Present d e → onward e true (take (length ns - 1) (drop 1 ns)) ≡ found ns
+  pub resolve-on : (e : ℕ) (ns : List ℕ) → e ≡ getD ns 0 0 → 1 ≤ length ns → Present d e → onward d l e true (take (length ns - 1) (drop 1 ns)) ≡ found d l ns
   unfolding basis
   resolve-on e [] q n h = absurd (omega arith)
   resolve-on e (p ∷ ps) q n h =
@@ -114,8 +108,16 @@ module _ (d : Tables) (l : ℕ) where
       rw (resolve-yes d p ps (holds (presentTest d p) (present-agrees d p .from (rw q at h))), q, f)
 
   -- where there is one name only, that is all
-  pub resolve-one : (e : Entity) (ns : List ℕ) → e .0 ≡ getD ns 0 0 → length ns ≡ 1 → Present d (e .0) → At e true ≡ found ns
+  pub resolve-one : (e : Entity) (ns : List ℕ) → e .0 ≡ getD ns 0 0 → length ns ≡ 1 → Present d (e .0) → At e true ≡ found d l ns
   unfolding follow passed bars
   resolve-one e ns q n h =
       let z : length (take (length ns - 1) (drop 1 ns)) ≡ 0 = rw n in
       follow-end e true (take (length ns - 1) (drop 1 ns)) (h .low) z ∙ resolve-on (e .0) ns q (omega arith) h
+
+  -- Rule 7.7: the resolver's answer means refusal 7 exactly where the reference leads nowhere.
+  pub found-refusal : (ns : List ℕ) → refusalOf (found d l ns) ≡ pick (eqb (resolve d ns) 0) 7 0
+  found-refusal ns = go (resolve d ns) (not (bars d l (basis d ns)))
+    where
+      go : (x : ℕ) (o : Bool) → refusalOf (leading x o) ≡ pick (eqb x 0) 7 0
+      go zero o = refl
+      go (suc x) o = rw (eqb·suc-zero x)

@@ -1,9 +1,12 @@
 -- What the resolver answers, and on what tables; what makes a container a bar, and what a triple admits.
 use mathlib.Core.Bool.{Bool, _&&_, _||_, not}
+use mathlib.Core.List.{List}
 use Prim.Native.Nat.{_%_, _-_, _/_, _<_, _≤_, suc, zero, ℕ}
 use lib.Dec.{eqb, leb}
 use Rattle.levels.specs.declared.Entity.{Entity}
 use Rattle.model.specs.Level.{atMost, bit}
+use Rattle.model.specs.Request.Ladder.{bars}
+use Rattle.model.specs.Request.Reference.{basis, follow, passed, resolve}
 use Rattle.model.specs.Tables.Words.{Tables, counts, entityCount, level, mark, placeCount, places, whoLimit, whoOf, whoRole, whoWeight}
 use Rattle.reference.specs.declared.Found.{Found}
 use Rattle.reference.specs.declared.Found.the-variants.{At, Nowhere}
@@ -31,3 +34,11 @@ bar d l e = not (eqb (d .entity e mark) 0) && not (atMost (d .entity e level) l)
 -- Rule 7.8: the triple x has this key, an operation and a position, and names the user u, or a role among these.
 unfoldable pub admits : ℕ → ℕ → ℕ → ℕ → Bool
 admits u roles key x = eqb (x % whoWeight) key && (eqb (whoOf x) u || (leb (whoRole 0) (whoOf x) && (leb (whoOf x) whoLimit && bit (whoOf x - whoRole 0) roles)))
+
+-- The resolver's answer from e on by these names, for the clearance l, where o says whether the way so far is open.
+abbrev pub onward : Tables → ℕ → ℕ → Bool → List ℕ → Found
+onward d l e o ns = leading (follow d e ns) (o && not (bars d l (passed d e ns)))
+
+-- The resolver's answer for a whole reference.
+abbrev pub found : Tables → ℕ → List ℕ → Found
+found d l ns = leading (resolve d ns) (not (bars d l (basis d ns)))

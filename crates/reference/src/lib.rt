@@ -3,15 +3,14 @@ use levels::Entity;
 use levels::Level;
 use levels::User;
 ghost use mathlib.Core.Path.{_≡_};
-ghost use mathlib.Core.Bool.{_&&_, not};
+ghost use mathlib.Core.Bool.{not};
 ghost use Prim.Native.Nat.{_*_, _+_, _<_, _≤_};
 ghost use lib.ListN.{length};
 ghost use Rattle.model.specs.Basics.Tests.{every};
-ghost use Rattle.model.specs.Request.Ladder.{bars, permits};
-ghost use Rattle.model.specs.Request.Reference.{basis, follow, passed, resolve};
+ghost use Rattle.model.specs.Request.Ladder.{permits};
 ghost use Rattle.model.specs.Tables.Layout.{tablesOf, wordCount};
 ghost use Rattle.model.specs.Tables.Words.{current, operationCount, placeCount, positionCount, triples};
-ghost use Rattle.reference.specs.Ways.{Ranged, admits, bar, leading};
+ghost use Rattle.reference.specs.Ways.{Ranged, admits, bar, found, onward};
 ghost use Rattle.tables.specs.Singles.{EntityIn, UserIn};
 
 // Where a reference leads, and whether every marked container on the way may be passed; or that it leads nowhere.
@@ -34,7 +33,7 @@ fn is_bar(t: &[u32], l: Level, e: Entity) -> bool
 // From entity e by the names that are left; `clear` says whether the way so far is.
 fn follow(t: &[u32], l: Level, e: Entity, clear: bool, names: &[u32]) -> Found
     requires { ⌜ EntityIn (now t) (e .0) × Ranged (tablesOf (now t)) ⌝ }
-    ensures { λ r. ⌜ r ≡ leading (follow (tablesOf (now (t .entry))) (e .0) (now (names .entry))) (clear && not (bars (tablesOf (now (t .entry))) (l .0) (passed (tablesOf (now (t .entry))) (e .0) (now (names .entry))))) ⌝ }
+    ensures { λ r. ⌜ r ≡ onward (tablesOf (now (t .entry))) (l .0) (e .0) clear (now (names .entry)) ⌝ }
 {
     if names.len() == 0 {
         return Found::At(e, clear);
@@ -54,7 +53,7 @@ fn follow(t: &[u32], l: Level, e: Entity, clear: bool, names: &[u32]) -> Found
 // Where names lead, for a requester of clearance l.
 pub fn resolve(t: &[u32], l: Level, names: &[u32]) -> Found
     requires { ⌜ (length (now t) ≡ wordCount) × Ranged (tablesOf (now t)) × (1 ≤ length (now names)) ⌝ }
-    ensures { λ r. ⌜ r ≡ leading (resolve (tablesOf (now (t .entry))) (now (names .entry))) (not (bars (tablesOf (now (t .entry))) (l .0) (basis (tablesOf (now (t .entry))) (now (names .entry))))) ⌝ }
+    ensures { λ r. ⌜ r ≡ found (tablesOf (now (t .entry))) (l .0) (now (names .entry)) ⌝ }
 {
     let n = names[0];
     if n < 1 {

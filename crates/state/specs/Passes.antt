@@ -6,12 +6,12 @@ use lib.Dec.{eqb, leb, ltb}
 use Rattle.model.specs.Basics.Choice.{pick}
 use Rattle.model.specs.Basics.Tests.{every, imp}
 use Rattle.model.specs.Level.{atMost, levelCount, roleSets}
-use Rattle.model.specs.State.Check.{ceilingTest, containedTest, labelledTest, rolesTest, seenTest}
+use Rattle.model.specs.State.Check.{ceilingTest, containedTest, labelledTest, loopTest, oneTest, rolesTest, seenTest}
 use Rattle.model.specs.State.Secure.{labelled}
 use Rattle.model.specs.State.Tests.{entityTest, tripleTest}
 use Rattle.model.specs.Tables.Layout.{entityWidth, userWidth}
 use Rattle.model.specs.Tables.WordAt.{entityWordAt, userWordAt}
-use Rattle.model.specs.Tables.Words.{Tables, containerKind, counts, deviceKind, devices, kinds, level, objectKind, placeCount, places}
+use Rattle.model.specs.Tables.Words.{Tables, containerKind, counts, deviceKind, devices, entityCount, kinds, level, objectKind, placeCount, places}
 use Rattle.model.specs.Tables.Words.{sumLimit, sums, userCount}
 
 -- ---- users
@@ -64,6 +64,14 @@ idleAt d e = imp (eqb (kinds d e) deviceKind) (imp (every userCount (λ u. not (
 -- all that is asked of entity e but for what it stands in
 unfoldable pub ownTest : Tables → ℕ → Bool
 ownTest d e = entityTest (d .entity e) && (contentsAt d e && idleAt d e)
+
+-- no entity stands in two containers, and none lies in itself
+abbrev pub treeTest : Tables → Bool
+treeTest d = oneTest (kinds d) (counts d) (places d) (devices d) && loopTest (kinds d) (counts d) (places d) (devices d)
+
+-- every entity is in order but for what it stands in
+abbrev pub allOwn : Tables → Bool
+allOwn d = every entityCount (λ e. ownTest d (suc e))
 
 -- ---- security
 

@@ -2,21 +2,20 @@
 // climbing that list decides depth.
 use levels::Entity;
 ghost use mathlib.Core.Path.{_≡_};
-ghost use mathlib.Core.Bool.{_&&_, true};
+ghost use mathlib.Core.Bool.{true};
 ghost use Prim.Native.Nat.{_*_, _+_, _-_, _<_, _≤_, suc};
 ghost use lib.ListN.{getD, length};
 ghost use Rattle.model.specs.Basics.Tests.{every};
-ghost use Rattle.model.specs.State.Check.{loopTest, oneTest};
 ghost use Rattle.model.specs.State.Climb.{up};
 ghost use Rattle.model.specs.Tables.Layout.{tablesOf, wordCount};
-ghost use Rattle.model.specs.Tables.Words.{counts, devices, entityCount, kinds, places};
+ghost use Rattle.model.specs.Tables.Words.{entityCount};
 ghost use Rattle.state.specs.Holders.{Filled, Filling, Low};
-ghost use Rattle.state.specs.Passes.{ownTest};
+ghost use Rattle.state.specs.Passes.{allOwn, treeTest};
 ghost use Rattle.tables.specs.Singles.{EntityIn};
 
 // The places of entity c, if it is a container, are noted in h; false where something in them is noted already.
 fn note_row(t: &[u32], h: &mut [u32; 65], c: Entity) -> bool
-    requires { ⌜ EntityIn (now t) (c .0) × (every entityCount (λ e. ownTest (tablesOf (now t)) (suc e)) ≡ true) × Filled (tablesOf (now t)) ((c .0 - 1) * 8) (now h) ⌝ }
+    requires { ⌜ EntityIn (now t) (c .0) × (allOwn (tablesOf (now t)) ≡ true) × Filled (tablesOf (now t)) ((c .0 - 1) * 8) (now h) ⌝ }
     ensures { λ r. ⌜ Filling (tablesOf (now (t .entry))) (c .0 * 8) r (now (h .exit)) ⌝ }
 {
     if tables::kind(t, c) != 2 {
@@ -37,7 +36,7 @@ fn note_row(t: &[u32], h: &mut [u32; 65], c: Entity) -> bool
 
 // The places of every container are noted in h; false where something stands in two.
 fn note_all(t: &[u32], h: &mut [u32; 65]) -> bool
-    requires { ⌜ (length (now t) ≡ wordCount) × (every entityCount (λ e. ownTest (tablesOf (now t)) (suc e)) ≡ true) × Filled (tablesOf (now t)) 0 (now h) ⌝ }
+    requires { ⌜ (length (now t) ≡ wordCount) × (allOwn (tablesOf (now t)) ≡ true) × Filled (tablesOf (now t)) 0 (now h) ⌝ }
     ensures { λ r. ⌜ Filling (tablesOf (now (t .entry))) 512 r (now (h .exit)) ⌝ }
 {
     let mut i: u32 = 0;
@@ -84,8 +83,8 @@ fn all_end(h: &[u32; 65]) -> bool
 
 // Whether, where every entity is in order by itself, none stands in two containers and none lies in itself.
 pub fn tree_fine(t: &[u32]) -> bool
-    requires { ⌜ (length (now t) ≡ wordCount) × (every entityCount (λ e. ownTest (tablesOf (now t)) (suc e)) ≡ true) ⌝ }
-    ensures { λ r. ⌜ r ≡ (oneTest (kinds (tablesOf (now (t .entry)))) (counts (tablesOf (now (t .entry)))) (places (tablesOf (now (t .entry)))) (devices (tablesOf (now (t .entry)))) && loopTest (kinds (tablesOf (now (t .entry)))) (counts (tablesOf (now (t .entry)))) (places (tablesOf (now (t .entry)))) (devices (tablesOf (now (t .entry))))) ⌝ }
+    requires { ⌜ (length (now t) ≡ wordCount) × (allOwn (tablesOf (now t)) ≡ true) ⌝ }
+    ensures { λ r. ⌜ r ≡ treeTest (tablesOf (now (t .entry))) ⌝ }
 {
     let mut h = [0u32; 65];
     if !note_all(t, &mut h) {
