@@ -15,7 +15,7 @@ pub fn is_entity(t: &[u32], e: Entity) -> bool
     ensures { λ r. ⌜ r ≡ isEntity (tablesOf (now (t .entry))) (e .0) ⌝ }
 {
     let k = tables::kind(t, e);
-    (1 <= k) & (k <= 2)
+    (tables::OBJECT <= k) & (k <= tables::CONTAINER)
 }
 
 // Whether entity e is a container.
@@ -23,7 +23,7 @@ pub fn is_container(t: &[u32], e: Entity) -> bool
     requires { ⌜ EntityIn (now t) (e .0) ⌝ }
     ensures { λ r. ⌜ r ≡ isContainer (tablesOf (now (t .entry))) (e .0) ⌝ }
 {
-    tables::kind(t, e) == 2
+    tables::kind(t, e) == tables::CONTAINER
 }
 
 // Whether entity e is a device.
@@ -31,7 +31,7 @@ pub fn is_device(t: &[u32], e: Entity) -> bool
     requires { ⌜ EntityIn (now t) (e .0) ⌝ }
     ensures { λ r. ⌜ r ≡ isDevice (tablesOf (now (t .entry))) (e .0) ⌝ }
 {
-    tables::kind(t, e) == 3
+    tables::kind(t, e) == tables::DEVICE
 }
 
 // Whether entity e is a draft.
@@ -39,7 +39,7 @@ pub fn is_draft(t: &[u32], e: Entity) -> bool
     requires { ⌜ EntityIn (now t) (e .0) ⌝ }
     ensures { λ r. ⌜ r ≡ isDraft (tablesOf (now (t .entry))) (e .0) ⌝ }
 {
-    (tables::kind(t, e) == 2) & (tables::type_of(t, e) == 1)
+    (tables::kind(t, e) == tables::CONTAINER) & (tables::type_of(t, e) == tables::DRAFT)
 }
 
 // Whether entity e is anything that is there.
@@ -47,7 +47,7 @@ pub fn is_any(t: &[u32], e: Entity) -> bool
     requires { ⌜ EntityIn (now t) (e .0) ⌝ }
     ensures { λ r. ⌜ r ≡ isAny (tablesOf (now (t .entry))) (e .0) ⌝ }
 {
-    1 <= tables::kind(t, e)
+    tables::OBJECT <= tables::kind(t, e)
 }
 
 // Whether user u acts with the role of bit r.

@@ -13,6 +13,13 @@ pub struct Entity(pub u32);
 // A level: a rank and a set of compartments in one number.
 pub struct Level(pub u32);
 
+// The roles that have a meaning of their own, by their bits.
+pub const OFFICER: u32 = 0;
+
+pub const DOWNGRADER: u32 = 1;
+
+pub const RELEASER: u32 = 2;
+
 // Whether bit i is in n.
 pub fn has_bit(i: u32, n: u32) -> bool
     requires { ⌜ i < 32 ⌝ }

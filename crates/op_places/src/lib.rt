@@ -37,7 +37,9 @@ pub fn delete(t: &mut [u32], q: &[u32], u: User, e: Entity) -> u32
     if !ladder::kinds::is_entity(t, e) {
         return ladder::refusal::refuse(t, q, u, 2, 10);
     }
-    if !(tables::count(t, e) == 0) | (places::on_screen(t, e) | (tables::type_of(t, e) == 2)) {
+    if !(tables::count(t, e) == 0)
+        | (places::on_screen(t, e) | (tables::type_of(t, e) == tables::RELEASED))
+    {
         return ladder::refusal::refuse(t, q, u, 2, 15);
     }
     filling::leave(t, places::holder(t, e), e);

@@ -48,7 +48,7 @@ pub fn holder(t: &[u32], e: Entity) -> Entity
 {
     let mut i: u32 = 0;
     while i < 64 {
-        if stands_in(t, 2, Entity(i + 1), e) {
+        if stands_in(t, tables::CONTAINER, Entity(i + 1), e) {
             return Entity(i + 1);
         }
         i += 1;
@@ -63,7 +63,7 @@ pub fn on_screen(t: &[u32], e: Entity) -> bool
 {
     let mut i: u32 = 0;
     while i < 64 {
-        if stands_in(t, 3, Entity(i + 1), e) {
+        if stands_in(t, tables::DEVICE, Entity(i + 1), e) {
             return true;
         }
         i += 1;

@@ -13,7 +13,7 @@ pub fn maximum(t: &mut [u32], q: &[u32], u: User, e: Entity) -> u32
     if !ladder::kinds::is_device(t, e) {
         return ladder::refusal::refuse(t, q, u, 17, 10);
     }
-    if !ladder::kinds::has_role(t, u, 0) {
+    if !ladder::kinds::has_role(t, u, levels::OFFICER) {
         return ladder::refusal::refuse(t, q, u, 17, 12);
     }
     let a = Level(q[12]);
@@ -35,7 +35,9 @@ pub fn device_level(t: &mut [u32], q: &[u32], u: User, e: Entity) -> u32
     }
     let a = Level(q[12]);
     let other = !(e.0 == tables::device(t, u).0);
-    if levels::lower(a, tables::level(t, e)) & (other & !ladder::kinds::has_role(t, u, 1)) {
+    if levels::lower(a, tables::level(t, e))
+        & (other & !ladder::kinds::has_role(t, u, levels::DOWNGRADER))
+    {
         return ladder::refusal::refuse(t, q, u, 18, 12);
     }
     if !crate::trial::try_level(t, e, a) {

@@ -15,7 +15,7 @@ pub fn current_roles(t: &mut [u32], q: &[u32], u: User) -> u32
     if (tables::present(t, a) == 0) | ((tables::device(t, a).0 == 0) & !(b == 0)) {
         return ladder::refusal::refuse(t, q, u, 14, 11);
     }
-    if !(q[12] == u.0) & !ladder::kinds::has_role(t, u, 0) {
+    if !(q[12] == u.0) & !ladder::kinds::has_role(t, u, levels::OFFICER) {
         return ladder::refusal::refuse(t, q, u, 14, 12);
     }
     if !levels::within(b, tables::authorised(t, a)) {
@@ -34,7 +34,7 @@ pub fn clearance(t: &mut [u32], q: &[u32], u: User) -> u32
     if tables::present(t, a) == 0 {
         return ladder::refusal::refuse(t, q, u, 15, 11);
     }
-    if !ladder::kinds::has_role(t, u, 0) {
+    if !ladder::kinds::has_role(t, u, levels::OFFICER) {
         return ladder::refusal::refuse(t, q, u, 15, 12);
     }
     if !crate::trial::try_clearance(t, a, Level(q[13])) {
@@ -52,7 +52,7 @@ pub fn authorised_roles(t: &mut [u32], q: &[u32], u: User) -> u32
     if tables::present(t, a) == 0 {
         return ladder::refusal::refuse(t, q, u, 16, 11);
     }
-    if !ladder::kinds::has_role(t, u, 0) {
+    if !ladder::kinds::has_role(t, u, levels::OFFICER) {
         return ladder::refusal::refuse(t, q, u, 16, 12);
     }
     if !levels::within(tables::current(t, a), q[13]) {

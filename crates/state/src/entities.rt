@@ -70,7 +70,8 @@ fn place_fine(t: &[u32], e: Entity, s: bool, n: u32, i: u32) -> bool
         return (x == 0) & (v == 0);
     }
     let k = tables::kind_or_zero(t, c);
-    (1 <= k) & ((k <= 2) & ((!s | ((1 <= v) & (v <= 7))) & (s | (v == 0))))
+    (tables::OBJECT <= k)
+        & ((k <= tables::CONTAINER) & ((!s | ((1 <= v) & (v <= 7))) & (s | (v == 0))))
 }
 
 // Whether every place of entity e is in order by itself.
@@ -213,7 +214,7 @@ fn present_fine(t: &[u32], e: Entity, k: u32) -> bool
     if !count_fine(k, n) {
         return false;
     }
-    if !places_fine(t, e, k == 3, n) {
+    if !places_fine(t, e, k == tables::DEVICE, n) {
         return false;
     }
     if !places_new(t, e, n) {
@@ -222,7 +223,7 @@ fn present_fine(t: &[u32], e: Entity, k: u32) -> bool
     if !triples_fine(t, e) {
         return false;
     }
-    if (k != 3) | (n == 0) {
+    if (k != tables::DEVICE) | (n == 0) {
         return true;
     }
     !crate::users::nobody_on(t, e, 16)

@@ -62,7 +62,7 @@ fn entity_secure(t: &[u32], e: Entity) -> bool
 {
     let n = at_most_eight(tables::count(t, e));
     let l = tables::level(t, e);
-    let s = tables::kind(t, e) == 3;
+    let s = tables::kind(t, e) == tables::DEVICE;
     if !places_secure(t, e, l, s, n) {
         return false;
     }

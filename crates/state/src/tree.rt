@@ -18,7 +18,7 @@ fn note_row(t: &[u32], h: &mut [u32; 65], c: Entity) -> bool
     requires { ⌜ EntityIn (now t) (c .0) × (allOwn (tablesOf (now t)) ≡ true) × Filled (tablesOf (now t)) ((c .0 - 1) * 8) (now h) ⌝ }
     ensures { λ r. ⌜ Filling (tablesOf (now (t .entry))) (c .0 * 8) r (now (h .exit)) ⌝ }
 {
-    if tables::kind(t, c) != 2 {
+    if tables::kind(t, c) != tables::CONTAINER {
         return true;
     }
     let n = tables::count(t, c);

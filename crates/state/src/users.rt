@@ -143,7 +143,7 @@ fn device_fine(t: &[u32], u: User) -> bool
     if n == 0 {
         return true;
     }
-    if tables::kind_or_zero(t, d) != 3 {
+    if tables::kind_or_zero(t, d) != tables::DEVICE {
         return false;
     }
     nobody_on(t, d, u.0 - 1)

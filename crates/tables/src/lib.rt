@@ -14,6 +14,18 @@ ghost use Rattle.model.specs.Tables.Words.{authorised, clearance, count, curren
 ghost use Rattle.model.specs.Tables.Words.{place, placeCount, present, releaser, shown, triple, type, value};
 ghost use Rattle.tables.specs.Singles.{EntityIn, UserIn, entitySingle, userSingle};
 
+// The kinds of entities; 0 is an absent one.
+pub const OBJECT: u32 = 1;
+
+pub const CONTAINER: u32 = 2;
+
+pub const DEVICE: u32 = 3;
+
+// The types of containers; 0 is a plain one.
+pub const DRAFT: u32 = 1;
+
+pub const RELEASED: u32 = 2;
+
 // ---- users
 
 // Word f of user u, counted from 0: any of the sixteen.
