@@ -15,7 +15,7 @@ use Rattle.model.specs.Tables.WordAtLaws.{entity-word-back, entity-word-same, o
 use Rattle.model.specs.Tables.Words.{EntityWord, Tables, count, index, kind, level, mark, maximum, place, placeCount, releaser, shown}
 use Rattle.model.specs.Tables.Words.{tag, triple, type, value}
 use Rattle.op_places.specs.Stored.{blankTo}
-use Rattle.op_places.specs.RowStoreLaws.{idle}
+use Rattle.rows.specs.EditLaws.{idle}
 
 module _ (e : ℕ) (d : Tables) where
   -- nothing is stored yet

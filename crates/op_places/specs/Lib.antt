@@ -2,7 +2,7 @@
 pub mod Standing
 pub mod Stored
 pub mod LookLaws
-pub mod RowStoreLaws
+pub mod CopyLaws
 pub mod BlankLaws
 pub mod HolderLaws
 pub mod FillLaws

@@ -1,5 +1,4 @@
-// What the three operations store: places that close up or are filled, and records that appear or go.
-use crate::places;
+// What the three operations store: places that are left or filled, and records that appear or go.
 use levels::Entity;
 use levels::Level;
 ghost use mathlib.Core.Path.{_≡_};
@@ -9,24 +8,9 @@ ghost use Rattle.model.specs.Effect.Places.{erase, fresh, leave, put, sortKind,
 ghost use Rattle.model.specs.State.WellFormed.{WellFormed};
 ghost use Rattle.model.specs.Tables.Edits.{onEntity, row};
 ghost use Rattle.model.specs.Tables.Layout.{tablesOf, wordCount};
-ghost use Rattle.model.specs.Tables.Rows.{close};
-ghost use Rattle.model.specs.Tables.Words.{counts, place, placeCount, places, sums, triple, triples};
+ghost use Rattle.model.specs.Tables.Words.{counts, placeCount, sums, triple, triples};
 ghost use Rattle.op_places.specs.Standing.{parentIn};
 ghost use Rattle.tables.specs.Singles.{EntityIn};
-
-// Place k of entity h is taken out, and the later ones close up.
-fn close_places(t: &mut [u32], h: Entity, k: u32)
-    requires { ⌜ EntityIn (now t) (h .0) × (k < placeCount) ⌝ }
-    ensures { λ _. ⌜ tablesOf (now (t .exit)) ≡ onEntity (h .0) (row place (close k (places (tablesOf (now (t .entry))) (h .0)))) (tablesOf (now (t .entry))) ⌝ }
-{
-    let mut i = k;
-    while i < 7 {
-        let x = tables::place(t, h, i + 1);
-        tables::set_place(t, h, i, x);
-        i += 1;
-    }
-    tables::set_place(t, h, 7, Entity(0));
-}
 
 // Entity e leaves h, the container that it is in; where h is entity 0 it is in none.
 pub fn leave(t: &mut [u32], h: Entity, e: Entity)
@@ -37,7 +21,7 @@ pub fn leave(t: &mut [u32], h: Entity, e: Entity)
         return;
     }
     let n = tables::count(t, h);
-    close_places(t, h, places::place_of(t, h, e, n));
+    rows::close_places(t, h, rows::place_of(t, h, e, n));
     tables::set_count(t, h, n - 1);
 }
 

@@ -1,33 +1,17 @@
-// What stands where: the place of an entity, the container that it is in, the screens that show it, and what lies in what.
+// What stands where: the container that it is in, the screens that show it, and what lies in what.
 use levels::Entity;
 ghost use mathlib.Core.Path.{_≡_};
-ghost use Prim.Native.Nat.{_≤_, suc};
+ghost use Prim.Native.Nat.{suc};
 ghost use lib.ListN.{length};
 ghost use Rattle.model.specs.Effect.Places.{vacant};
 ghost use Rattle.model.specs.Request.Conditions.{onScreen};
 ghost use Rattle.model.specs.State.Climb.{climb};
 ghost use Rattle.model.specs.State.WellFormed.{WellFormed};
 ghost use Rattle.model.specs.Tables.Layout.{tablesOf, wordCount};
-ghost use Rattle.model.specs.Tables.Rows.{seek};
-ghost use Rattle.model.specs.Tables.Words.{entityCount, placeCount, places};
+ghost use Rattle.model.specs.Tables.Words.{entityCount};
 ghost use Rattle.op_places.specs.Standing.{parentIn, standing};
 ghost use Rattle.reference.specs.Ways.{Ranged};
 ghost use Rattle.tables.specs.Singles.{EntityIn};
-
-// The place of entity e among the first n places of v, or n.
-pub fn place_of(t: &[u32], v: Entity, e: Entity, n: u32) -> u32
-    requires { ⌜ EntityIn (now t) (v .0) × (n ≤ placeCount) ⌝ }
-    ensures { λ r. ⌜ r ≡ seek (e .0) (places (tablesOf (now (t .entry))) (v .0)) n ⌝ }
-{
-    let mut i: u32 = 0;
-    while i < n {
-        if tables::place(t, v, i).0 == e.0 {
-            return i;
-        }
-        i += 1;
-    }
-    n
-}
 
 // Whether entity v is of kind k and e stands in one of its places.
 fn stands_in(t: &[u32], k: u32, v: Entity, e: Entity) -> bool
@@ -38,7 +22,7 @@ fn stands_in(t: &[u32], k: u32, v: Entity, e: Entity) -> bool
         return false;
     }
     let n = tables::count(t, v);
-    place_of(t, v, e, n) < n
+    rows::place_of(t, v, e, n) < n
 }
 
 // The lowest container that entity e stands in, or entity 0.

@@ -2,29 +2,13 @@
 use levels::Entity;
 use levels::User;
 ghost use mathlib.Core.Path.{_≡_};
-ghost use Prim.Native.Nat.{_<_, _≤_};
+ghost use Prim.Native.Nat.{_<_};
 ghost use Rattle.ladder.specs.Contract.{First, Stepped, Taking};
 ghost use Rattle.model.specs.Effect.Screens.{clear, show, spot};
 ghost use Rattle.model.specs.Request.Operations.{toClear, toLogin, toLogout, toShow};
 ghost use Rattle.model.specs.Tables.Layout.{tablesOf};
-ghost use Rattle.model.specs.Tables.Rows.{seek};
-ghost use Rattle.model.specs.Tables.Words.{counts, placeCount, places};
+ghost use Rattle.model.specs.Tables.Words.{counts, placeCount};
 ghost use Rattle.tables.specs.Singles.{EntityIn};
-
-// The place of entity e among the first n places of v, or n.
-pub fn place_of(t: &[u32], v: Entity, e: Entity, n: u32) -> u32
-    requires { ⌜ EntityIn (now t) (v .0) × (n ≤ placeCount) ⌝ }
-    ensures { λ r. ⌜ r ≡ seek (e .0) (places (tablesOf (now (t .entry))) (v .0)) n ⌝ }
-{
-    let mut i: u32 = 0;
-    while i < n {
-        if tables::place(t, v, i).0 == e.0 {
-            return i;
-        }
-        i += 1;
-    }
-    n
-}
 
 // Device v, which uses n places, shows e with the sum a: in its place k, or last where it has none.
 fn put_on(t: &mut [u32], v: Entity, e: Entity, a: u32, k: u32, n: u32)
@@ -67,7 +51,7 @@ pub fn show(t: &mut [u32], q: &[u32], u: User, e: Entity) -> u32
         return ladder::refusal::refuse(t, q, u, 10, 13);
     }
     let n = tables::count(t, v);
-    let k = place_of(t, v, e, n);
+    let k = rows::place_of(t, v, e, n);
     if (n <= k) & (8 <= n) {
         return ladder::refusal::refuse(t, q, u, 10, 14);
     }

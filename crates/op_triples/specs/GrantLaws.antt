@@ -16,22 +16,23 @@ use Rattle.model.specs.Request.Conditions.{grantNoRoom, isAny}
 use Rattle.model.specs.Request.Ladder.{refused}
 use Rattle.model.specs.Request.Operations.{toGrant}
 use Rattle.model.specs.Request.Words.{requestOf}
-use Rattle.model.specs.Tables.Edits.{onEntity, word}
+use Rattle.model.specs.Tables.Edits.{onEntity, row, word}
 use Rattle.model.specs.Tables.Layout.{tablesOf}
 use Rattle.model.specs.Tables.Rows.{replace, seek}
 use Rattle.model.specs.Tables.Words.{Tables, placeCount, triple, triples}
 use Rattle.op_triples.specs.Named.{tripleIn}
-use Rattle.op_triples.specs.SlideLaws.{row-one, row-same}
+use Rattle.rows.specs.EditLaws.{row-idle, row-one}
+use Rattle.rows.specs.NameLaws.{triple-row}
 
 -- the effect on a row that has the triple, and on one that has not
 there-same : (d : Tables) (e x : ℕ) → seek x (triples d e) placeCount < placeCount → d ≡ grant e x d
-there-same d e x h = row-same d e (granted x (triples d e))
-    (λ j. ap (λ (b : Bool). pick b (triples d e) (replace (seek 0 (triples d e) placeCount) x (triples d e)) j) (lt-ltb _ _ h))
+there-same d e x h = sym (row-idle triple triple-row e d (granted x (triples d e))
+    (ap (λ (b : Bool). pick b (triples d e) (replace (seek 0 (triples d e) placeCount) x (triples d e))) (lt-ltb _ _ h)))
 
 new-last : (d : Tables) (e x : ℕ) → placeCount ≤ seek x (triples d e) placeCount
     → onEntity e (word (triple (seek 0 (triples d e) placeCount)) x) d ≡ grant e x d
-new-last d e x h = row-one d e (seek 0 (triples d e) placeCount) x (granted x (triples d e))
-    (λ j. sym (ap (λ (b : Bool). pick b (triples d e) (replace (seek 0 (triples d e) placeCount) x (triples d e)) j) (le-ltb _ _ h)))
+new-last d e x h = row-one triple triple-row e d (seek 0 (triples d e) placeCount) x
+    ∙ ap (λ (b : Bool). onEntity e (row triple (pick b (triples d e) (replace (seek 0 (triples d e) placeCount) x (triples d e)))) d) (sym (le-ltb _ _ h))
 
 module _ (t q : List ℕ) (u e : ℕ) (k : Taking toGrant t q u × First t q e) (b : Bool) (hb : b ≡ isAny (tablesOf t) e) where
   pub grant-wrong : b ≡ false → Refusing t q u 8 10

@@ -1,7 +1,7 @@
 -- Rules 6.9 and 7: a request to revoke, test by test, as its function climbs the ladder.
 use mathlib.Core.Bool.{Bool, false, true}
 use mathlib.Core.List.{List}
-use mathlib.Core.Path.{_∙_, _≡_, ap, refl, sym}
+use mathlib.Core.Path.{_∙_, _≡_, refl, sym}
 use Prim.Native.Nat.{_≤_, ℕ}
 use native.Mathlib.Omega.{arith}
 use Rattle.ladder.specs.Contract.{First, Refusing, Stepped, Taking}
@@ -19,14 +19,15 @@ use Rattle.model.specs.Tables.RowLaws.{close-idle}
 use Rattle.model.specs.Tables.Rows.{close, seek, without}
 use Rattle.model.specs.Tables.Words.{Tables, placeCount, triple, triples}
 use Rattle.op_triples.specs.Named.{tripleIn}
-use Rattle.op_triples.specs.SlideLaws.{row-same}
+use Rattle.rows.specs.EditLaws.{row-idle}
+use Rattle.rows.specs.NameLaws.{triple-row}
 
 -- a row that has not the triple is the same without it
 none-same : (d : Tables) (e x : ℕ) → WellFormed d → placeCount ≤ seek x (triples d e) placeCount → d ≡ revoke e x d
 none-same d e x w h =
     let a = w .entities e .access in
-    row-same d e (without x (triples d e) placeCount)
-    (λ j. ap (λ (r : ℕ → ℕ). r j) (close-idle (triples d e) (a .0) (seek x (triples d e) placeCount) (a .1 .packed) (omega (arith, a .1 .packed .room))))
+    sym (row-idle triple triple-row e d (without x (triples d e) placeCount)
+    (close-idle (triples d e) (a .0) (seek x (triples d e) placeCount) (a .1 .packed) (omega (arith, a .1 .packed .room))))
 
 module _ (t q : List ℕ) (u e : ℕ) (k : Taking toRevoke t q u × First t q e) (b : Bool) (hb : b ≡ isAny (tablesOf t) e) where
   pub revoke-wrong : b ≡ false → Refusing t q u 9 10

@@ -1,15 +1,15 @@
-use borrow.Author.Needs.{needs}
-use native.Mathlib.Omega.{arith}
 use mathlib.Core.Logic.{_≢_}
 use mathlib.Core.Path.{_∙_, sym}
-use Prim.Native.Nat.{ℕ, _≤_, _<_, _-_}
+use Prim.Native.Nat.{_-_, _<_, _≤_, ℕ}
+use native.Mathlib.Omega.{arith}
+use borrow.Author.Needs.{needs}
 use Rattle.laws.specs.Loops.{none-more, seek-here, seek-none}
 use Rattle.model.specs.Tables.Layout.{tablesOf}
 use Rattle.model.specs.Tables.Words.{places}
-use Rattle.op_places.proofs.places.place_of.Statement.{statement}
-use Rattle.op_places.proofs.places.place_of.Tie as tie
-use Rattle.op_places.proofs.places.place_of.Reads as reads
-use Rattle.op_places.proofs.places.place_of.Lts as lts
+use Rattle.rows.proofs.place_of.Statement.{statement}
+use Rattle.rows.proofs.place_of.Tie as tie
+use Rattle.rows.proofs.place_of.Reads as reads
+use Rattle.rows.proofs.place_of.Lts as lts
 use Rattle.tables.proofs.place.Reads as place-reads
 
 abbrev Inv-loop : tie.InvT-loop
@@ -18,31 +18,31 @@ Inv-loop t v e n i₀ i = (i ≤ n) × ((j : ℕ) → j < i → places (tablesOf
 abbrev μ-loop : tie.MeasureT-loop
 μ-loop t v e n i₀ i = n - i
 
--- src/places.rt:23:5
+-- src/lib.rt:17:5
 loop-holds : tie.Need-loop-holds Inv-loop μ-loop
 loop-holds c = (omega arith, λ j h. absurd (omega arith))
 
--- src/places.rt:24:12
+-- src/lib.rt:18:12
 place-requires : tie.Need-place-requires Inv-loop μ-loop
 place-requires c κs = search needs
 
--- src/places.rt:25:13
+-- src/lib.rt:19:13
 returns : tie.Need-returns Inv-loop μ-loop
 returns c = seek-here _ _ _ _ (c .before .before .before .before .loop-test .taken) (sym (c .before .before .before .place .ensures) ∙ c .if1 .taken) (c .before .before .before .before .before .loop .inv .1)
 
--- src/places.rt:27:9
+-- src/lib.rt:21:9
 add-i : tie.Need-add-i Inv-loop μ-loop
 add-i c = omega arith
 
--- src/places.rt:23:5
+-- src/lib.rt:17:5
 loop-less : tie.Need-loop-less Inv-loop μ-loop
 loop-less c = omega arith
 
--- src/places.rt:23:5
+-- src/lib.rt:17:5
 loop-again : tie.Need-loop-again Inv-loop μ-loop
 loop-again c = (omega arith, none-more _ _ _ (c .before .before .before .before .before .loop .inv .1) (λ z. c .if1 .left (c .before .before .before .place .ensures ∙ z)))
 
--- src/places.rt:18:1
+-- src/lib.rt:12:1
 returns-2 : tie.Need-returns-2 Inv-loop μ-loop
 returns-2 c = seek-none _ _ _ (λ j h. c .before .loop .inv .1 j (omega arith))
 
