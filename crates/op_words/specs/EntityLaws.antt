@@ -6,7 +6,7 @@ use Prim.Native.Nat.{_<_, _≤_, ℕ}
 use lib.Dec.{T, eqb, lit<, lit≤}
 use lib.ListN.{getD}
 use Rattle.ladder.specs.Contract.{First, Passed, Refusing, Second, Stepped, Taking}
-use Rattle.ladder.specs.OwnLaws.{accepted, askedOf, free, kind-right, kind-wrong, kinds-none, kinds-right, kinds-wrong, pass, skip, stop}
+use Rattle.ladder.specs.OwnLaws.{accepted, askedOf, free, kind-right, kind-wrong, kinds-none, kinds-right, kinds-wrong, pass, skip, stop, user-is}
 use Rattle.model.specs.Basics.Tests.{every}
 use Rattle.model.specs.Request.Asked.{asked, hasRole, own}
 use Rattle.model.specs.Request.Ladder.{refused}
@@ -18,11 +18,6 @@ use Rattle.model.specs.Request.Conditions.{firstAbove, insecure, isContainer, i
 use Rattle.model.specs.Request.Operations.{toCopy, toEdit, toLevel, toMark, toRelease}
 use Rattle.model.specs.State.Check.{secureTest}
 use Rattle.model.specs.Tables.Words.{level, value}
-
--- the user that asks is the requester
-pub user-is : (t q : List ℕ) (u : ℕ) → requestOf q .user ≡ u → askedOf t q .user ≡ u
-unfolding asked
-user-is t q u e = e
 
 -- ---- operation 4, edit
 
@@ -135,4 +130,4 @@ module _ (t q : List ℕ) (u e : ℕ) (k : Taking toRelease t q u) (g : First t 
         (pass toRelease t q u k 11 (lit≤ tt) (lit< tt) release-11 (releaser-is ∙ ap not w)) tt) (j ∙ effect-is)
       where
         effect-is : release u e (tablesOf t) ≡ release (askedOf t q .user) (askedOf t q .first) (tablesOf t)
-        effect-is = rw (g .is, user-is t q u (k .climbed .user))
+        effect-is = rw (g .is, user-is toRelease t q u k)

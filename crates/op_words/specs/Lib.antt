@@ -4,4 +4,3 @@ pub mod TrialLaws
 pub mod EntityLaws
 pub mod DeviceLaws
 pub mod UserLaws
-pub mod ArgumentLaws

@@ -6,7 +6,7 @@ use Prim.Native.Nat.{_<_, _≤_, ℕ}
 use lib.Dec.{T, eqb, lit<, lit≤}
 use lib.ListN.{getD}
 use Rattle.ladder.specs.Contract.{First, Passed, Refusing, Second, Stepped, Taking}
-use Rattle.ladder.specs.OwnLaws.{accepted, askedOf, free, kind-right, kind-wrong, kinds-none, kinds-right, kinds-wrong, pass, skip, stop}
+use Rattle.ladder.specs.OwnLaws.{accepted, askedOf, free, kind-right, kind-wrong, kinds-none, kinds-right, kinds-wrong, pass, skip, stop, user-is}
 use Rattle.model.specs.Basics.Tests.{every}
 use Rattle.model.specs.Request.Asked.{asked, hasRole, own}
 use Rattle.model.specs.Request.Ladder.{refused}
@@ -20,7 +20,6 @@ use Rattle.model.specs.State.Check.{secureTest}
 use Rattle.model.specs.Tables.Edits.{_and_, onUser, userWord, written}
 use Rattle.model.specs.Tables.StoreLaws.{user-alike, user-twice}
 use Rattle.model.specs.Tables.Words.{Tables, UserWord, authorised, clearance, current, device, held, heldOp, missed, present, spare}
-use Rattle.op_words.specs.EntityLaws.{user-is}
 
 -- ---- operation 14, current roles
 
@@ -171,4 +170,4 @@ module _ (t q : List ℕ) (u : ℕ) (k : Taking toAcknowledge t q u) (a b h m : 
   acknowledge-done w n e = accepted toAcknowledge t q u k n (pass toAcknowledge t q u k 15 (lit≤ tt) (lit< tt) acknowledge-15 (differs-is ∙ w))
       (e ∙ ap (onUser u (userWord held 0)) (user-twice u (userWord heldOp 0) (userWord missed 0) (tablesOf t))
       ∙ user-twice u (userWord held 0) (userWord heldOp 0 and userWord missed 0) (tablesOf t)
-      ∙ ap (λ (x : ℕ). acknowledge x (tablesOf t)) (sym (user-is t q u (k .climbed .user))))
+      ∙ ap (λ (x : ℕ). acknowledge x (tablesOf t)) (sym (user-is toAcknowledge t q u k)))

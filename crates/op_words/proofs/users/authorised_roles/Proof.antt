@@ -1,7 +1,7 @@
 use borrow.Author.Tests.{eq-eqb, ne-eqb, not-false, not-true}
 use mathlib.Core.Path.{_∙_, ap, refl, subst, sym}
 use Rattle.op_words.specs.UserLaws.{authorised-11, authorised-12, authorised-13, authorised-done}
-use Rattle.op_words.specs.ArgumentLaws.{arguments-in}
+use Rattle.ladder.specs.ArgumentLaws.{arguments-in}
 use Rattle.model.specs.Request.Operations.{toAuthorised}
 use borrow.Author.Needs.{needs}
 use Rattle.op_words.proofs.users.authorised_roles.Statement.{statement}

@@ -1,7 +1,7 @@
 use borrow.Author.Tests.{eq-eqb, ne-eqb, not-false, not-true}
 use mathlib.Core.Path.{_∙_, ap, refl, subst, sym}
 use Rattle.op_words.specs.UserLaws.{clearance-11, clearance-12, clearance-13, clearance-done}
-use Rattle.op_words.specs.ArgumentLaws.{arguments-in}
+use Rattle.ladder.specs.ArgumentLaws.{arguments-in}
 use Rattle.model.specs.Request.Operations.{toClearance}
 use borrow.Author.Needs.{needs}
 use Rattle.op_words.proofs.users.clearance.Statement.{statement}
