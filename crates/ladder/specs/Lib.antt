@@ -9,3 +9,4 @@ pub mod PathLaws
 pub mod OperandLaws
 pub mod NameLaws
 pub mod OwnLaws
+pub mod ArgumentLaws

@@ -9,11 +9,10 @@ use native.Mathlib.Omega.{arith}
 use lib.Dec.{eqb}
 use lib.ListN.{length}
 use borrow.Author.Tests.{eq-eqb, ne-eqb}
+use Rattle.laws.specs.Bools.{either, joined, only}
 use Rattle.ladder.specs.Path.{arityOf, operandOf, pairOf, pathAnswer}
 use Rattle.ladder.specs.PathLaws.{path-0, path-7, path-8, path-9}
-use Rattle.ladder.specs.declared.operands.Operand.{Operand}
 use Rattle.ladder.specs.declared.operands.Operand.the-variants.{Fine, No}
-use Rattle.ladder.specs.declared.operands.Pair.{Pair}
 use Rattle.ladder.specs.declared.operands.Pair.the-variants.{Both, Neither}
 use Rattle.levels.specs.declared.Entity.{Entity}
 use Rattle.model.specs.Request.Allowed.{arity}
@@ -22,7 +21,7 @@ use Rattle.model.specs.Request.Conditions.{Kind}
 use Rattle.model.specs.Request.Ladder.{bars, leadsNowhere, noAccess, notCleared, ofOp, permits, someOperand}
 use Rattle.model.specs.Request.OperationLaws.{opOf-number}
 use Rattle.model.specs.Request.Operations.{Op, numberOf, opOf, rowOf}
-use Rattle.model.specs.Request.Reference.{Present, basis, resolve}
+use Rattle.model.specs.Request.Reference.{basis, resolve}
 use Rattle.model.specs.Request.ReferenceLaws.{leads-present, resolve-leads}
 use Rattle.model.specs.Request.Words.{Reference, Request, names}
 use Rattle.model.specs.State.WellFormed.{WellFormed}
@@ -32,14 +31,6 @@ use Rattle.reference.specs.declared.Found.{Found}
 use Rattle.reference.specs.declared.Found.the-variants.{At, Nowhere}
 
 -- ---- a question put to the operands
-
-only : (b : Bool) → elim b [ true ↦ true | false ↦ false ] ≡ b
-only true = refl
-only false = refl
-
-either : (a b : Bool) → elim a [ true ↦ true | false ↦ elim b [ true ↦ true | false ↦ false ] ] ≡ (a || b)
-either true b = refl
-either false b = only b
 
 one-asked : (p : ℕ → Bool) (xs : List Kind) → length xs ≡ 1 → someOperand 1 xs (λ k x. p k) ≡ p 1
 unfolding someOperand
@@ -205,11 +196,7 @@ module _ (d : Tables) (q : Request) (u op l : ℕ) (hu : q .user ≡ u) (ho : q 
             two-shut₂ y = rw (path-8 d q both-lead (access-both r hr ∙ rw (x, y)))
 
             way-both : notCleared d q ≡ not (o && w)
-            way-both = two-9 ∙ rw (way-is d l (q .first) ns hn f hf e o h, way-is d l (q .second) ms hm g hg c w k) (go o w)
-              where
-                go : (o w : Bool) → (not o || not w) ≡ not (o && w)
-                go true w = refl
-                go false w = refl
+            way-both = two-9 ∙ rw (way-is d l (q .first) ns hn f hf e o h, way-is d l (q .second) ms hm g hg c w k) (joined o w)
 
             -- one of the ways is not open
             pub two-barred : r ≡ true → (o && w) ≡ false → Neither 9 ≡ pairOf (pathAnswer d q) (asked d q .first) (asked d q .second)

@@ -7,31 +7,19 @@ use Prim.Native.Nat.{_+_, _-_, _<_, _≤_, suc, zero, ℕ}
 use native.Mathlib.Omega.{arith}
 use lib.Dec.{T, eqb}
 use Rattle.ladder.specs.ClimbLaws.{passed-all, passed-hit, passed-lower, passed-more}
-use Rattle.ladder.specs.Contract.{Climbed, First, Passed, Refusing, Second, Stepped, Taking}
-use Rattle.laws.specs.Bools.{T-l, T-r}
+use Rattle.ladder.specs.Contract.{First, Passed, Refusing, Second, Stepped, Taking}
+use Rattle.laws.specs.Bools.{T-l, T-r, either, joined, only}
 use Rattle.model.specs.Basics.Tests.{every}
 use Rattle.model.specs.Request.After.{noticedOp}
 use Rattle.model.specs.Request.AfterLaws.{after-accepted, effect-by}
 use Rattle.model.specs.Request.Asked.{Asked, asked, operand}
 use Rattle.model.specs.Request.Conditions.{Kind}
-use Rattle.model.specs.Request.Ladder.{answer, applies, ladder, never, ofOp, ownRung, refused, rungAt, someOperand, wrongKind}
+use Rattle.model.specs.Request.Ladder.{answer, applies, ladder, never, ownRung, refused, rungAt, someOperand, wrongKind}
 use Rattle.model.specs.Request.LadderLaws.{ofOp-some}
 use Rattle.model.specs.Request.Operations.{Op, Refusal, numberOf, opOf, refuse, rowOf}
 use Rattle.model.specs.Request.Words.{Request, requestOf}
 use Rattle.model.specs.Tables.Layout.{tablesOf}
 use Rattle.model.specs.Tables.Words.{Tables, firstNoticed}
-
-only : (b : Bool) → elim b [ true ↦ true | false ↦ false ] ≡ b
-only true = refl
-only false = refl
-
-either : (a b : Bool) → elim a [ true ↦ true | false ↦ elim b [ true ↦ true | false ↦ false ] ] ≡ (a || b)
-either true b = refl
-either false b = only b
-
-joined : (a b : Bool) → (not a || not b) ≡ not (a && b)
-joined true b = refl
-joined false b = refl
 
 -- the operation that a notice keeps
 pub noticed-as : (q : Request) (o : Op) → opOf (q .operation) ≡ some o → numberOf o ≡ noticedOp q
@@ -71,6 +59,11 @@ abbrev pub askedOf : List ℕ → List ℕ → Asked
 askedOf t q = asked (tablesOf t) (requestOf q)
 
 module _ (o : Op) (t q : List ℕ) (u : ℕ) (k : Taking o t q u) where
+  -- who asks, as it was read
+  pub user-is : askedOf t q .user ≡ u
+  unfolding asked
+  user-is = k .climbed .user
+
   -- a refusal that was found is one of this operation
   pub refusing : (n : ℕ) → firstNoticed ≤ n → n ≡ answer (tablesOf t) (requestOf q) → Refusing t q u (numberOf o) n
   refusing n h e = record {

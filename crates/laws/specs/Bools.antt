@@ -127,3 +127,44 @@ T-l false b t = t
 pub T-r : (a b : Bool) → T (a && b) → T b
 T-r true b t = t
 T-r false b t = absurd t
+
+-- three tests in a row
+pub and-assoc : (a b c : Bool) → ((a && b) && c) ≡ (a && (b && c))
+and-assoc true b c = refl
+and-assoc false b c = refl
+
+-- a choice between true and false is its test, and two of them in a row are `or`
+pub only : (b : Bool) → elim b [ true ↦ true | false ↦ false ] ≡ b
+only true = refl
+only false = refl
+
+pub either : (a b : Bool) → elim a [ true ↦ true | false ↦ elim b [ true ↦ true | false ↦ false ] ] ≡ (a || b)
+either true b = refl
+either false b = only b
+
+-- one of two tests fails where not both pass
+pub joined : (a b : Bool) → (not a || not b) ≡ not (a && b)
+joined true b = refl
+joined false b = refl
+
+-- a condition on two tests is a condition on each; two conditions can be asked in either order
+pub imp-both : (l a k b : Bool) → imp l (a && imp k b) ≡ (imp l a && imp k (imp l b))
+unfolding imp
+imp-both true a k b = refl
+imp-both false a true b = refl
+imp-both false a false b = refl
+
+-- "where a and z, then b" holds once "not a, or b" does
+pub imp-quiet : (a b z : Bool) → (not a || b) ≡ true → imp a (imp z b) ≡ true
+unfolding imp
+imp-quiet true b true h = h
+imp-quiet true b false h = refl
+imp-quiet false b z h = refl
+
+-- it is "not z" once "not a, or b" does not hold
+pub imp-shown : (a b z : Bool) → (not a || b) ≡ false → imp a (imp z b) ≡ not z
+unfolding imp
+imp-shown true true z h = absurd (refuted true h tt)
+imp-shown true false true h = refl
+imp-shown true false false h = refl
+imp-shown false b z h = absurd (refuted true h tt)

@@ -1,16 +1,16 @@
 -- A loop that asks a test of 0, 1, .. in turn and stops at the first that fails computes `every`; one that stops at the first place
 -- with a word computes `seek`. The laws of each: where the loop begins, goes on, stops early, and ends.
-use mathlib.Core.Bool.{Bool, _&&_, false, not, true}
+use mathlib.Core.Bool.{Bool, _&&_, false, true}
 use mathlib.Core.Logic.{_≢_, inl, inr}
 use mathlib.Core.Path.{_∙_, _≡_, ap, refl, subst, sym}
-use Prim.Native.Nat.{_+_, _-_, _<_, _≤_, suc, zero, ℕ}
+use Prim.Native.Nat.{_+_, _<_, _≤_, suc, zero, ℕ}
 use native.Mathlib.Numerals.{add-one}
 use native.Mathlib.Omega.{arith}
 use lib.Dec.{T, eqb}
-use Rattle.laws.specs.Bools.{both, equal-bools, fails, holds, passes}
+use Rattle.laws.specs.Bools.{both, equal-bools, fails, holds}
 use Rattle.model.specs.Basics.Agree.{agrees-T, agrees-every}
 use Rattle.model.specs.Basics.Choice.{Same, it, other, pick, same}
-use Rattle.model.specs.Basics.Tests.{every}
+use Rattle.model.specs.Basics.Tests.{every, imp}
 use Rattle.model.specs.Tables.RowLaws.{sought}
 use Rattle.model.specs.Tables.Rows.{Sought, seek}
 
@@ -64,6 +64,20 @@ every-same n p q e = equal-bools (every n p) (every n q) (λ t. every-of n q (λ
 pub every-gather : (i : ℕ) (p : ℕ → Bool) (a b : Bool) → a ≡ p i → b ≡ every i p → (a && b) ≡ every (i + 1) p
 unfolding every
 every-gather i p a b x y = rw (x, y) (ap (λ (n : ℕ). every n p) (sym (add-one i)))
+
+-- and has gathered it to its end
+pub every-gathered : (i n : ℕ) (p : ℕ → Bool) (b : Bool) → b ≡ every i p → i ≤ n → n ≤ i → b ≡ every n p
+every-gathered i n p b h l m = let e : n ≡ i = omega arith in rw e h
+
+-- what is true of all numbers is true of those below n
+every-true : (n : ℕ) → every n (λ i. true) ≡ true
+every-true n = holds (every n (λ i. true)) (every-of n (λ i. true) (λ i h. tt))
+
+-- a condition on every number that does not depend on the number can be asked once
+pub imp-every : (k : Bool) (n : ℕ) (p : ℕ → Bool) → every n (λ i. imp k (p i)) ≡ imp k (every n p)
+unfolding imp
+imp-every true n p = refl
+imp-every false n p = every-true n
 
 -- ---- seeking a word in a row
 

@@ -1,40 +1,31 @@
 -- The stores that put an entity last in a container, and those that make a new one, are the model's edits.
-use mathlib.Core.Path.{_∙_, _≡_, ap, refl}
-use Prim.Native.Nat.{_+_, suc, ℕ}
+use mathlib.Core.Path.{_∙_, _≡_, ap, refl, sym}
+use Prim.Native.Nat.{_+_, ℕ}
 use native.Mathlib.Numerals.{add-one}
-use lib.Dec.{eqb}
-use Rattle.model.specs.Basics.Choice.{pick}
-use Rattle.model.specs.Effect.Places.{bearing, fresh, put, putting}
-use Rattle.model.specs.Tables.EditLaws.{case}
+use Rattle.model.specs.Effect.Places.{bearing, fresh, put}
 use Rattle.model.specs.Tables.Edits.{_and_, onEntity, row, word, written}
+use Rattle.model.specs.Tables.RowLaws.{replace-same}
+use Rattle.model.specs.Tables.Rows.{replace}
 use Rattle.model.specs.Tables.StoreLaws.{alike, twice}
 use Rattle.model.specs.Tables.Words.{EntityWord, Tables, count, counts, kind, level, mark, maximum, place, places, releaser, shown, sums}
 use Rattle.model.specs.Tables.Words.{triple, triples, type, value}
+use Rattle.rows.specs.EditLaws.{row-idle, row-one, thrice}
+use Rattle.rows.specs.NameLaws.{place-row, shown-row}
 
 -- e is put last in c, which shows nothing
 pub put-stores : (d : Tables) (c e n : ℕ) → n ≡ counts d c → ((i : ℕ) → sums d c i ≡ 0) → (s y : Tables) → s ≡ onEntity c (word (place n) e) d
     → y ≡ onEntity c (word count (n + 1)) s → y ≡ put c e 0 d
-put-stores d c e n q none s y a b = b ∙ ap (onEntity c (word count (n + 1))) a ∙ twice c (word count (n + 1)) (word (place n) e) d
-    ∙ alike c (word count (n + 1) and word (place n) e) (putting c e 0 d) d same-word
-  where
-    same-word : (f : EntityWord) → written (word count (n + 1) and word (place n) e) (d .entity c) f ≡ written (putting c e 0 d) (d .entity c) f
-    same-word kind = refl
-    same-word type = refl
-    same-word level = refl
-    same-word mark = refl
-    same-word value = refl
-    same-word releaser = refl
-    same-word maximum = refl
-    same-word count = add-one n ∙ ap suc q
-    same-word (place i) = ap (λ (m : ℕ). pick (eqb i m) e (places d c i)) q
-    same-word (shown i) = case (λ (m : ℕ). sums d c i ≡ m) i (counts d c) 0 (sums d c i) (λ z. none i) (λ z. refl)
-    same-word (triple i) = refl
+put-stores d c e n q none s y a b = b
+    ∙ ap (onEntity c (word count (n + 1))) (a
+    ∙ ap (onEntity c (word (place n) e)) (sym (row-idle shown shown-row c d (replace n 0 (sums d c)) (replace-same (sums d c) n 0 (none n))))
+    ∙ row-one place place-row c (onEntity c (row shown (replace n 0 (sums d c))) d) n e)
+    ∙ thrice c (word count (n + 1)) (row place (replace n e (places d c))) (row shown (replace n 0 (sums d c))) d
+    ∙ rw (add-one n, q)
 
 module _ (d : Tables) (e c : ℕ) where
   new-stores : (k t l : ℕ)
       → onEntity e (row triple (triples d c)) (onEntity e (word level l) (onEntity e (word type t) (onEntity e (word kind k) d))) ≡ fresh e c k t l d
-  new-stores k t l = ap (λ (s : Tables). onEntity e (row triple (triples d c)) (onEntity e (word level l) s)) (twice e (word type t) (word kind k) d)
-      ∙ ap (onEntity e (row triple (triples d c))) (twice e (word level l) (word type t and word kind k) d)
+  new-stores k t l = ap (onEntity e (row triple (triples d c))) (thrice e (word level l) (word type t) (word kind k) d)
       ∙ twice e (row triple (triples d c)) (word level l and word type t and word kind k) d
       ∙ alike e (row triple (triples d c) and word level l and word type t and word kind k) (bearing c k t l d) d same-word
     where

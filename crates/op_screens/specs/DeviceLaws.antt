@@ -8,10 +8,9 @@ use native.Mathlib.Omega.{arith}
 use lib.Dec.{eqb}
 use borrow.Author.Tests.{eqb-false}
 use Rattle.ladder.specs.Contract.{Stepped, Taking}
-use Rattle.ladder.specs.OwnLaws.{accepted, askedOf, free, kinds-none, skip}
+use Rattle.ladder.specs.OwnLaws.{accepted, free, kinds-none, skip, user-is}
 use Rattle.model.specs.Basics.Tests.{every}
 use Rattle.model.specs.Effect.Screens.{clear}
-use Rattle.model.specs.Request.Asked.{asked}
 use Rattle.model.specs.Request.Ladder.{applies, ladder, never, notLoggedOn, rungAt}
 use Rattle.model.specs.Request.LadderLaws.{ofOp-some}
 use Rattle.model.specs.Request.Operations.{Op, openLoggedOff, toClear, toLogout}
@@ -23,11 +22,6 @@ use Rattle.op_screens.specs.WipeLaws.{off-stores}
 use Rattle.tables.specs.Singles.{EntityIn}
 
 module _ (o : Op) (t q : List ℕ) (u : ℕ) (k : Taking o t q u) where
-  -- who asks, as it was read
-  pub user-is : askedOf t q .user ≡ u
-  unfolding asked
-  user-is = k .climbed .user
-
   -- Rule 7.6: the requester of an operation that wants a device is on one
   pub on-device : openLoggedOff o ≡ false → devices (tablesOf t) u ≢ 0
   unfolding applies rungAt never ladder notLoggedOn

@@ -6,7 +6,7 @@ use Prim.Native.Nat.{suc, ℕ}
 use native.Mathlib.Omega.{arith}
 use lib.Dec.{eqb}
 use Rattle.ladder.specs.Contract.{First, Passed, Refusing, Stepped, Taking}
-use Rattle.ladder.specs.OwnLaws.{accepted, askedOf, free, kind-right, kind-wrong, pass, skip, stop}
+use Rattle.ladder.specs.OwnLaws.{accepted, askedOf, free, kind-right, kind-wrong, pass, skip, stop, user-is}
 use Rattle.model.specs.Basics.Tests.{every}
 use Rattle.model.specs.Effect.Screens.{login}
 use Rattle.model.specs.Request.Conditions.{isDevice, loginTaken}
@@ -15,7 +15,6 @@ use Rattle.model.specs.Request.Operations.{toLogin}
 use Rattle.model.specs.Request.Words.{requestOf}
 use Rattle.model.specs.Tables.Layout.{tablesOf}
 use Rattle.model.specs.Tables.Words.{devices, userCount}
-use Rattle.op_screens.specs.DeviceLaws.{user-is}
 
 module _ (t q : List ℕ) (u e : ℕ) (k : Taking toLogin t q u × First t q e) (b : Bool) (hb : b ≡ isDevice (tablesOf t) e) where
   pub login-wrong : b ≡ false → Refusing t q u 12 10

@@ -8,7 +8,7 @@ use lib.Dec.{leb, ltb}
 use lib.ListN.{getD}
 use borrow.Author.Tests.{le-leb}
 use Rattle.ladder.specs.Contract.{First, Passed, Refusing, Stepped, Taking}
-use Rattle.ladder.specs.OwnLaws.{accepted, askedOf, free, kind-right, kind-wrong, pass, skip, stop}
+use Rattle.ladder.specs.OwnLaws.{accepted, askedOf, free, kind-right, kind-wrong, pass, skip, stop, user-is}
 use Rattle.laws.specs.Bools.{both, clash}
 use Rattle.laws.specs.Loops.{seek-within}
 use Rattle.model.specs.Basics.Choice.{Below, below, over, under}
@@ -24,7 +24,6 @@ use Rattle.model.specs.State.Secure.{labelled}
 use Rattle.model.specs.Tables.Layout.{tablesOf}
 use Rattle.model.specs.Tables.Rows.{seek}
 use Rattle.model.specs.Tables.Words.{clearance, counts, devices, level, placeCount, places}
-use Rattle.op_screens.specs.DeviceLaws.{user-is}
 
 -- a device uses eight places at most
 pub count-in : (t q : List ℕ) (u : ℕ) → Taking toShow t q u → (v n : ℕ) → n ≡ counts (tablesOf t) v → n ≤ placeCount

@@ -1,23 +1,24 @@
 -- The rungs from 10 on and the effects of the operations on devices: 17, 18.
-use mathlib.Core.Bool.{Bool, _&&_, _||_, false, not, true}
+use mathlib.Core.Bool.{Bool, _&&_, false, not, true}
 use mathlib.Core.List.{List}
-use mathlib.Core.Path.{_∙_, _≡_, ap, refl, subst, sym}
-use Prim.Native.Nat.{_<_, _≤_, ℕ}
-use lib.Dec.{T, eqb, lit<, lit≤}
+use mathlib.Core.Path.{_∙_, _≡_, ap, refl, sym}
+use Prim.Native.Nat.{ℕ}
+use lib.Dec.{eqb, lit<, lit≤}
 use lib.ListN.{getD}
-use Rattle.ladder.specs.Contract.{First, Passed, Refusing, Second, Stepped, Taking}
-use Rattle.ladder.specs.OwnLaws.{accepted, askedOf, free, kind-right, kind-wrong, kinds-none, kinds-right, kinds-wrong, pass, skip, stop}
+use Rattle.ladder.specs.Contract.{First, Passed, Refusing, Stepped, Taking}
+use Rattle.ladder.specs.OwnLaws.{accepted, askedOf, free, kind-right, kind-wrong, pass, skip, stop}
 use Rattle.model.specs.Basics.Tests.{every}
-use Rattle.model.specs.Request.Asked.{asked, hasRole, own}
+use Rattle.model.specs.Request.Asked.{asked, hasRole}
 use Rattle.model.specs.Request.Ladder.{refused}
-use Rattle.model.specs.Request.Words.{Request, requestOf}
+use Rattle.model.specs.Request.Words.{requestOf}
 use Rattle.model.specs.Tables.Layout.{tablesOf}
 use Rattle.model.specs.Effect.Words.{setLevel, setMaximum}
 use Rattle.model.specs.Level.{atMost, downgrader, lower, officer}
-use Rattle.model.specs.Request.Conditions.{deviceAbove, deviceLowered, insecure, isDevice, lacks}
+use Rattle.model.specs.Request.Conditions.{deviceAbove, deviceLowered, isDevice, lacks}
 use Rattle.model.specs.Request.Operations.{toDeviceLevel, toMaximum}
 use Rattle.model.specs.State.Check.{secureTest}
 use Rattle.model.specs.Tables.Words.{device, level}
+use Rattle.op_words.specs.RungLaws.{device-level-trial, lacks-is, level-effect, trial-done, trial-failed}
 
 -- ---- operation 17, maximum
 
@@ -31,8 +32,7 @@ module _ (t q : List ℕ) (u e : ℕ) (k : Taking toMaximum t q u) (g : First t 
     maximum-11 = skip toMaximum t q u k 1 10 (lit≤ tt) (lit≤ tt) (kind-right toMaximum t q u k e g isDevice refl b h z) tt
 
     officer-is : lacks officer (tablesOf t) (askedOf t q) ≡ not y
-    unfolding lacks asked
-    officer-is = rw (k .climbed .user, ← r)
+    officer-is = lacks-is toMaximum t q u k officer y r
 
     pub maximum-12 : y ≡ false → Refusing t q u 17 12
     unfolding refused
@@ -82,16 +82,8 @@ module _ (t q : List ℕ) (u e : ℕ) (k : Taking toDeviceLevel t q u) (g : Firs
       unfolding refused
       device-level-passed = pass toDeviceLevel t q u k 11 (lit≤ tt) (lit< tt) device-level-11 (lowered-is ∙ w)
 
-      trial-is : insecure (λ s. setLevel (s .first) (s .a)) (tablesOf t) (askedOf t q) ≡ not s
-      unfolding insecure asked requestOf
-      trial-is = rw (g .is, ← i, ← m)
-
       pub device-level-13 : s ≡ false → Refusing t q u 18 13
-      unfolding refused
-      device-level-13 v = stop toDeviceLevel t q u k 12 (lit≤ tt) (lit< tt) device-level-passed (trial-is ∙ ap not v)
+      device-level-13 = trial-failed toDeviceLevel device-level-trial t q u k device-level-passed (setLevel e a (tablesOf t)) (level-effect t q e a g i) s m
 
       pub device-level-done : s ≡ true → (n : List ℕ) → tablesOf n ≡ setLevel e a (tablesOf t) → Stepped t q 0 n
-      unfolding refused every free asked requestOf
-      device-level-done v n j = accepted toDeviceLevel t q u k n (skip toDeviceLevel t q u k 3 13 (lit≤ tt) (lit≤ tt)
-          (pass toDeviceLevel t q u k 12 (lit≤ tt) (lit< tt) device-level-passed (trial-is ∙ ap not v)) tt)
-          (j ∙ rw (i) (ap (λ (x : ℕ). setLevel x (getD q 12 0) (tablesOf t)) (sym (g .is))))
+      device-level-done = trial-done toDeviceLevel device-level-trial t q u k device-level-passed (setLevel e a (tablesOf t)) (level-effect t q e a g i) s m

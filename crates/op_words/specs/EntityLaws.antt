@@ -1,28 +1,24 @@
 -- The rungs from 10 on and the effects of the operations on objects and containers: 4, 5, 6, 7, 19.
-use mathlib.Core.Bool.{Bool, _&&_, _||_, false, not, true}
+use mathlib.Core.Bool.{Bool, _&&_, false, not, true}
 use mathlib.Core.List.{List}
-use mathlib.Core.Path.{_∙_, _≡_, ap, refl, subst, sym}
-use Prim.Native.Nat.{_<_, _≤_, ℕ}
-use lib.Dec.{T, eqb, lit<, lit≤}
+use mathlib.Core.Path.{_∙_, _≡_, ap, refl, sym}
+use Prim.Native.Nat.{ℕ}
+use lib.Dec.{lit<, lit≤}
 use lib.ListN.{getD}
 use Rattle.ladder.specs.Contract.{First, Passed, Refusing, Second, Stepped, Taking}
-use Rattle.ladder.specs.OwnLaws.{accepted, askedOf, free, kind-right, kind-wrong, kinds-none, kinds-right, kinds-wrong, pass, skip, stop}
+use Rattle.ladder.specs.OwnLaws.{accepted, askedOf, free, kind-right, kind-wrong, kinds-right, kinds-wrong, pass, skip, stop, user-is}
 use Rattle.model.specs.Basics.Tests.{every}
-use Rattle.model.specs.Request.Asked.{asked, hasRole, own}
+use Rattle.model.specs.Request.Asked.{asked, hasRole}
 use Rattle.model.specs.Request.Ladder.{refused}
-use Rattle.model.specs.Request.Words.{Request, requestOf}
+use Rattle.model.specs.Request.Words.{requestOf}
 use Rattle.model.specs.Tables.Layout.{tablesOf}
-use Rattle.model.specs.Effect.Words.{copy, edit, release, setLevel, setMark}
+use Rattle.model.specs.Effect.Words.{edit, release, setLevel, setMark}
 use Rattle.model.specs.Level.{atMost, downgrader, lower, releasing}
-use Rattle.model.specs.Request.Conditions.{firstAbove, insecure, isContainer, isDraft, isEntity, lacks, levelLowered}
+use Rattle.model.specs.Request.Conditions.{firstAbove, isContainer, isDraft, isEntity, lacks, levelLowered}
 use Rattle.model.specs.Request.Operations.{toCopy, toEdit, toLevel, toMark, toRelease}
 use Rattle.model.specs.State.Check.{secureTest}
 use Rattle.model.specs.Tables.Words.{level, value}
-
--- the user that asks is the requester
-pub user-is : (t q : List ℕ) (u : ℕ) → requestOf q .user ≡ u → askedOf t q .user ≡ u
-unfolding asked
-user-is t q u e = e
+use Rattle.op_words.specs.RungLaws.{lacks-is, level-effect, level-trial, trial-done, trial-failed}
 
 -- ---- operation 4, edit
 
@@ -96,19 +92,11 @@ module _ (t q : List ℕ) (u e : ℕ) (k : Taking toLevel t q u) (g : First t q 
       unfolding refused
       passed-12 = pass toLevel t q u k 11 (lit≤ tt) (lit< tt) level-11 (lowered-is ∙ w)
 
-      trial-is : insecure (λ s. setLevel (s .first) (s .a)) (tablesOf t) (askedOf t q) ≡ not s
-      unfolding insecure asked requestOf
-      trial-is = rw (g .is, ← i, ← m)
-
       pub level-13 : s ≡ false → Refusing t q u 6 13
-      unfolding refused
-      level-13 v = stop toLevel t q u k 12 (lit≤ tt) (lit< tt) passed-12 (trial-is ∙ ap not v)
+      level-13 = trial-failed toLevel level-trial t q u k passed-12 (setLevel e a (tablesOf t)) (level-effect t q e a g i) s m
 
       pub level-done : s ≡ true → (n : List ℕ) → tablesOf n ≡ setLevel e a (tablesOf t) → Stepped t q 0 n
-      unfolding refused every free asked requestOf
-      level-done v n j = accepted toLevel t q u k n (skip toLevel t q u k 3 13 (lit≤ tt) (lit≤ tt)
-          (pass toLevel t q u k 12 (lit≤ tt) (lit< tt) passed-12 (trial-is ∙ ap not v)) tt)
-          (j ∙ rw (i) (ap (λ (x : ℕ). setLevel x (getD q 12 0) (tablesOf t)) (sym (g .is))))
+      level-done = trial-done toLevel level-trial t q u k passed-12 (setLevel e a (tablesOf t)) (level-effect t q e a g i) s m
 
 -- ---- operation 19, release
 
@@ -122,8 +110,7 @@ module _ (t q : List ℕ) (u e : ℕ) (k : Taking toRelease t q u) (g : First t 
     release-11 = skip toRelease t q u k 1 10 (lit≤ tt) (lit≤ tt) (kind-right toRelease t q u k e g isDraft refl b h z) tt
 
     releaser-is : lacks releasing (tablesOf t) (askedOf t q) ≡ not y
-    unfolding lacks asked
-    releaser-is = rw (k .climbed .user, ← r)
+    releaser-is = lacks-is toRelease t q u k releasing y r
 
     pub release-12 : y ≡ false → Refusing t q u 19 12
     unfolding refused
@@ -135,4 +122,4 @@ module _ (t q : List ℕ) (u e : ℕ) (k : Taking toRelease t q u) (g : First t 
         (pass toRelease t q u k 11 (lit≤ tt) (lit< tt) release-11 (releaser-is ∙ ap not w)) tt) (j ∙ effect-is)
       where
         effect-is : release u e (tablesOf t) ≡ release (askedOf t q .user) (askedOf t q .first) (tablesOf t)
-        effect-is = rw (g .is, user-is t q u (k .climbed .user))
+        effect-is = rw (g .is, user-is toRelease t q u k)

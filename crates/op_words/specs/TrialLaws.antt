@@ -5,7 +5,7 @@ use mathlib.Core.Path.{_∙_, _≡_, ap, refl, sym}
 use Prim.Native.Nat.{ℕ}
 use lib.Dec.{eqb}
 use lib.ListN.{length}
-use Rattle.model.specs.Basics.Choice.{Same, it, other, pick, same}
+use Rattle.model.specs.Basics.Choice.{Same, it, pick, same}
 use Rattle.model.specs.State.Check.{secureTest}
 use Rattle.model.specs.Tables.Edits.{Edit, _and_, onEntity, onUser, userWord, word}
 use Rattle.model.specs.Tables.Layout.{tablesOf, wordCount}

@@ -1,26 +1,26 @@
 -- The rungs from 10 on and the effects of the operations on users and notices: 14, 15, 16, 20.
 use mathlib.Core.Bool.{Bool, _&&_, _||_, false, not, true}
 use mathlib.Core.List.{List}
-use mathlib.Core.Path.{_∙_, _≡_, ap, refl, subst, sym}
-use Prim.Native.Nat.{_<_, _≤_, ℕ}
-use lib.Dec.{T, eqb, lit<, lit≤}
+use mathlib.Core.Path.{_∙_, _≡_, ap, refl, sym}
+use Prim.Native.Nat.{ℕ}
+use lib.Dec.{eqb, lit<, lit≤}
 use lib.ListN.{getD}
-use Rattle.ladder.specs.Contract.{First, Passed, Refusing, Second, Stepped, Taking}
-use Rattle.ladder.specs.OwnLaws.{accepted, askedOf, free, kind-right, kind-wrong, kinds-none, kinds-right, kinds-wrong, pass, skip, stop}
+use Rattle.ladder.specs.Contract.{Passed, Refusing, Stepped, Taking}
+use Rattle.ladder.specs.OwnLaws.{accepted, askedOf, free, kinds-none, pass, skip, stop, user-is}
 use Rattle.model.specs.Basics.Tests.{every}
-use Rattle.model.specs.Request.Asked.{asked, hasRole, own}
+use Rattle.model.specs.Request.Asked.{asked, hasRole}
 use Rattle.model.specs.Request.Ladder.{refused}
-use Rattle.model.specs.Request.Words.{Request, requestOf}
+use Rattle.model.specs.Request.Words.{requestOf}
 use Rattle.model.specs.Tables.Layout.{tablesOf}
-use Rattle.model.specs.Effect.Words.{acknowledge, quieting, setAuthorised, setClearance, setCurrent}
+use Rattle.model.specs.Effect.Words.{acknowledge, setAuthorised, setClearance, setCurrent}
 use Rattle.model.specs.Level.{officer, roleCount, subset}
-use Rattle.model.specs.Request.Conditions.{currentOutside, insecure, lacks, notAcknowledged, rolesOfAnother, rolesOff, rolesUnauthorised, userAbsent}
-use Rattle.model.specs.Request.Operations.{toAcknowledge, toAuthorised, toClearance, toCurrent}
+use Rattle.model.specs.Request.Conditions.{currentOutside, lacks, notAcknowledged, rolesOfAnother, rolesOff, rolesUnauthorised, userAbsent}
+use Rattle.model.specs.Request.Operations.{clearanceEffect, toAcknowledge, toAuthorised, toClearance, toCurrent}
 use Rattle.model.specs.State.Check.{secureTest}
-use Rattle.model.specs.Tables.Edits.{_and_, onUser, userWord, written}
-use Rattle.model.specs.Tables.StoreLaws.{user-alike, user-twice}
-use Rattle.model.specs.Tables.Words.{Tables, UserWord, authorised, clearance, current, device, held, heldOp, missed, present, spare}
-use Rattle.op_words.specs.EntityLaws.{user-is}
+use Rattle.model.specs.Tables.Edits.{_and_, onUser, userWord}
+use Rattle.model.specs.Tables.StoreLaws.{user-twice}
+use Rattle.model.specs.Tables.Words.{authorised, current, device, held, heldOp, missed, present}
+use Rattle.op_words.specs.RungLaws.{authorised-officers, by-officer, clearance-officers, clearance-trial, trial-done, trial-failed}
 
 -- ---- operation 14, current roles
 
@@ -65,89 +65,44 @@ module _ (t q : List ℕ) (u : ℕ) (k : Taking toCurrent t q u) (a b p v : ℕ)
       current-done z n e = accepted toCurrent t q u k n (skip toCurrent t q u k 3 13 (lit≤ tt) (lit≤ tt)
           (pass toCurrent t q u k 12 (lit≤ tt) (lit< tt) current-passed-12 (unauthorised-is ∙ ap not z)) tt) (e ∙ rw (i, j))
 
--- ---- operation 15, clearance
+-- ---- operation 15, clearance: rung 13
 
-module _ (t q : List ℕ) (u : ℕ) (k : Taking toClearance t q u) (a p : ℕ) (i : a ≡ getD q 12 0) (hp : p ≡ tablesOf t .user a present) where
-  clearance-absent : userAbsent (tablesOf t) (askedOf t q) ≡ eqb p 0
-  unfolding userAbsent asked requestOf
-  clearance-absent = rw (← i, ← hp)
+module _ (t q : List ℕ) (u : ℕ) (k : Taking toClearance t q u) (a p : ℕ) (i : a ≡ getD q 12 0) (hp : p ≡ tablesOf t .user a present)
+    (w : eqb p 0 ≡ false) (y : Bool) (r : y ≡ hasRole (tablesOf t) u officer) (x : y ≡ true) (b : ℕ) (j : b ≡ getD q 13 0) (s : Bool)
+    (m : s ≡ secureTest (setClearance a b (tablesOf t))) where
+  clearance-passed : Passed 12 (tablesOf t) (requestOf q)
+  clearance-passed = by-officer toClearance clearance-officers t q u k a p i hp w y r x
 
-  pub clearance-11 : eqb p 0 ≡ true → Refusing t q u 15 11
+  clearance-effect : clearanceEffect (askedOf t q) (tablesOf t) ≡ setClearance a b (tablesOf t)
+  unfolding asked requestOf
+  clearance-effect = rw (i, j)
+
+  pub clearance-13 : s ≡ false → Refusing t q u 15 13
+  clearance-13 = trial-failed toClearance clearance-trial t q u k clearance-passed (setClearance a b (tablesOf t)) clearance-effect s m
+
+  pub clearance-done : s ≡ true → (n : List ℕ) → tablesOf n ≡ setClearance a b (tablesOf t) → Stepped t q 0 n
+  clearance-done = trial-done toClearance clearance-trial t q u k clearance-passed (setClearance a b (tablesOf t)) clearance-effect s m
+
+-- ---- operation 16, authorised roles: rung 13
+
+module _ (t q : List ℕ) (u : ℕ) (k : Taking toAuthorised t q u) (a p : ℕ) (i : a ≡ getD q 12 0) (hp : p ≡ tablesOf t .user a present)
+    (w : eqb p 0 ≡ false) (y : Bool) (r : y ≡ hasRole (tablesOf t) u officer) (x : y ≡ true) (b : ℕ) (j : b ≡ getD q 13 0) (s : Bool)
+    (m : s ≡ subset roleCount (tablesOf t .user a current) b) where
+  authorised-passed : Passed 12 (tablesOf t) (requestOf q)
+  authorised-passed = by-officer toAuthorised authorised-officers t q u k a p i hp w y r x
+
+  outside-is : currentOutside (tablesOf t) (askedOf t q) ≡ not s
+  unfolding currentOutside asked requestOf
+  outside-is = rw (← i, ← j, ← m)
+
+  pub authorised-13 : s ≡ false → Refusing t q u 16 13
   unfolding refused
-  clearance-11 w = stop toClearance t q u k 10 (lit≤ tt) (lit< tt) (kinds-none toClearance t q u k refl) (clearance-absent ∙ w)
+  authorised-13 z = stop toAuthorised t q u k 12 (lit≤ tt) (lit< tt) authorised-passed (outside-is ∙ ap not z)
 
-  module _ (w : eqb p 0 ≡ false) (y : Bool) (r : y ≡ hasRole (tablesOf t) u officer) where
-    clearance-passed-11 : Passed 11 (tablesOf t) (requestOf q)
-    unfolding refused
-    clearance-passed-11 = pass toClearance t q u k 10 (lit≤ tt) (lit< tt) (kinds-none toClearance t q u k refl) (clearance-absent ∙ w)
-
-    clearance-officer : lacks officer (tablesOf t) (askedOf t q) ≡ not y
-    unfolding lacks asked
-    clearance-officer = rw (k .climbed .user, ← r)
-
-    pub clearance-12 : y ≡ false → Refusing t q u 15 12
-    unfolding refused
-    clearance-12 x = stop toClearance t q u k 11 (lit≤ tt) (lit< tt) clearance-passed-11 (clearance-officer ∙ ap not x)
-
-    module _ (x : y ≡ true) (b : ℕ) (j : b ≡ getD q 13 0) (s : Bool) (m : s ≡ secureTest (setClearance a b (tablesOf t))) where
-      clearance-passed-12 : Passed 12 (tablesOf t) (requestOf q)
-      unfolding refused
-      clearance-passed-12 = pass toClearance t q u k 11 (lit≤ tt) (lit< tt) clearance-passed-11 (clearance-officer ∙ ap not x)
-
-      clearance-trial : insecure (λ s. setClearance (s .a) (s .b)) (tablesOf t) (askedOf t q) ≡ not s
-      unfolding insecure asked requestOf
-      clearance-trial = rw (← i, ← j, ← m)
-
-      pub clearance-13 : s ≡ false → Refusing t q u 15 13
-      unfolding refused
-      clearance-13 z = stop toClearance t q u k 12 (lit≤ tt) (lit< tt) clearance-passed-12 (clearance-trial ∙ ap not z)
-
-      pub clearance-done : s ≡ true → (n : List ℕ) → tablesOf n ≡ setClearance a b (tablesOf t) → Stepped t q 0 n
-      unfolding refused every free asked requestOf
-      clearance-done z n e = accepted toClearance t q u k n (skip toClearance t q u k 3 13 (lit≤ tt) (lit≤ tt)
-          (pass toClearance t q u k 12 (lit≤ tt) (lit< tt) clearance-passed-12 (clearance-trial ∙ ap not z)) tt) (e ∙ rw (i, j))
-
--- ---- operation 16, authorised roles
-
-module _ (t q : List ℕ) (u : ℕ) (k : Taking toAuthorised t q u) (a p : ℕ) (i : a ≡ getD q 12 0) (hp : p ≡ tablesOf t .user a present) where
-  authorised-absent : userAbsent (tablesOf t) (askedOf t q) ≡ eqb p 0
-  unfolding userAbsent asked requestOf
-  authorised-absent = rw (← i, ← hp)
-
-  pub authorised-11 : eqb p 0 ≡ true → Refusing t q u 16 11
-  unfolding refused
-  authorised-11 w = stop toAuthorised t q u k 10 (lit≤ tt) (lit< tt) (kinds-none toAuthorised t q u k refl) (authorised-absent ∙ w)
-
-  module _ (w : eqb p 0 ≡ false) (y : Bool) (r : y ≡ hasRole (tablesOf t) u officer) where
-    authorised-passed-11 : Passed 11 (tablesOf t) (requestOf q)
-    unfolding refused
-    authorised-passed-11 = pass toAuthorised t q u k 10 (lit≤ tt) (lit< tt) (kinds-none toAuthorised t q u k refl) (authorised-absent ∙ w)
-
-    authorised-officer : lacks officer (tablesOf t) (askedOf t q) ≡ not y
-    unfolding lacks asked
-    authorised-officer = rw (k .climbed .user, ← r)
-
-    pub authorised-12 : y ≡ false → Refusing t q u 16 12
-    unfolding refused
-    authorised-12 x = stop toAuthorised t q u k 11 (lit≤ tt) (lit< tt) authorised-passed-11 (authorised-officer ∙ ap not x)
-
-    module _ (x : y ≡ true) (b : ℕ) (j : b ≡ getD q 13 0) (s : Bool) (m : s ≡ subset roleCount (tablesOf t .user a current) b) where
-      authorised-passed-12 : Passed 12 (tablesOf t) (requestOf q)
-      unfolding refused
-      authorised-passed-12 = pass toAuthorised t q u k 11 (lit≤ tt) (lit< tt) authorised-passed-11 (authorised-officer ∙ ap not x)
-
-      outside-is : currentOutside (tablesOf t) (askedOf t q) ≡ not s
-      unfolding currentOutside asked requestOf
-      outside-is = rw (← i, ← j, ← m)
-
-      pub authorised-13 : s ≡ false → Refusing t q u 16 13
-      unfolding refused
-      authorised-13 z = stop toAuthorised t q u k 12 (lit≤ tt) (lit< tt) authorised-passed-12 (outside-is ∙ ap not z)
-
-      pub authorised-done : s ≡ true → (n : List ℕ) → tablesOf n ≡ setAuthorised a b (tablesOf t) → Stepped t q 0 n
-      unfolding refused every free asked requestOf
-      authorised-done z n e = accepted toAuthorised t q u k n (skip toAuthorised t q u k 3 13 (lit≤ tt) (lit≤ tt)
-          (pass toAuthorised t q u k 12 (lit≤ tt) (lit< tt) authorised-passed-12 (outside-is ∙ ap not z)) tt) (e ∙ rw (i, j))
+  pub authorised-done : s ≡ true → (n : List ℕ) → tablesOf n ≡ setAuthorised a b (tablesOf t) → Stepped t q 0 n
+  unfolding refused every free asked requestOf
+  authorised-done z n e = accepted toAuthorised t q u k n (skip toAuthorised t q u k 3 13 (lit≤ tt) (lit≤ tt)
+      (pass toAuthorised t q u k 12 (lit≤ tt) (lit< tt) authorised-passed (outside-is ∙ ap not z)) tt) (e ∙ rw (i, j))
 
 -- ---- operation 20, acknowledge
 
@@ -171,4 +126,4 @@ module _ (t q : List ℕ) (u : ℕ) (k : Taking toAcknowledge t q u) (a b h m : 
   acknowledge-done w n e = accepted toAcknowledge t q u k n (pass toAcknowledge t q u k 15 (lit≤ tt) (lit< tt) acknowledge-15 (differs-is ∙ w))
       (e ∙ ap (onUser u (userWord held 0)) (user-twice u (userWord heldOp 0) (userWord missed 0) (tablesOf t))
       ∙ user-twice u (userWord held 0) (userWord heldOp 0 and userWord missed 0) (tablesOf t)
-      ∙ ap (λ (x : ℕ). acknowledge x (tablesOf t)) (sym (user-is t q u (k .climbed .user))))
+      ∙ ap (λ (x : ℕ). acknowledge x (tablesOf t)) (sym (user-is toAcknowledge t q u k)))

@@ -8,6 +8,7 @@ use Rattle.model.specs.Basics.Choice.{Same, it, other, pick, same}
 use Rattle.model.specs.Tables.Edits.{Edit, _and_, onEntity, row, word, written}
 use Rattle.model.specs.Tables.Rows.{replace}
 use Rattle.model.specs.Tables.StoreLaws.{alike, twice}
+use Rattle.model.specs.Tables.WordAtLaws.{entity-word-same}
 use Rattle.model.specs.Tables.Words.{EntityWord, Tables, index, tag}
 use Rattle.rows.specs.NameLaws.{row-word}
 use Rattle.rows.specs.Rows.{RowName, rowIn}
@@ -15,6 +16,19 @@ use Rattle.rows.specs.Rows.{RowName, rowIn}
 -- an edit that leaves every word of the record as it is
 pub idle : (e : ℕ) (A : Edit EntityWord) (d : Tables) → ((f : EntityWord) → written A (d .entity e) f ≡ d .entity e f) → onEntity e A d ≡ d
 idle e A d h = alike e A (record { touched = λ f. false; value = λ f. 0 }) d h
+
+-- a word stored as it is
+pub word-idle : (e : ℕ) (d : Tables) (g : EntityWord) (v : ℕ) → v ≡ d .entity e g → onEntity e (word g v) d ≡ d
+word-idle e d g v q = idle e (word g v) d (λ x. go x (eqb (tag x) (tag g)) (eqb (index x) (index g)) (same (tag x) (tag g)) (same (index x) (index g)))
+  where
+    go : (x : EntityWord) (a b : Bool) → Same (tag x) (tag g) a → Same (index x) (index g) b → pick (a && b) v (d .entity e x) ≡ d .entity e x
+    go x true true (it p) (it r) = q ∙ ap (d .entity e) (sym (entity-word-same x g p r))
+    go x true false p r = refl
+    go x false b p r = refl
+
+-- three edits of one entity are one
+pub thrice : (e : ℕ) (A B C : Edit EntityWord) (d : Tables) → onEntity e A (onEntity e B (onEntity e C d)) ≡ onEntity e (A and B and C) d
+thrice e A B C d = ap (onEntity e A) (twice e B C d) ∙ twice e A (B and C) d
 
 module _ (f : ℕ → EntityWord) (n : RowName f) (e : ℕ) (d : Tables) where
   -- a row as it is: the tables as they are

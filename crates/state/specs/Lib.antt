@@ -1,7 +1,6 @@
 -- The passes of the state check, and that together they are the model's tests.
 pub mod Passes
 pub mod Holders
-pub mod TestLaws
 pub mod RowLaws
 pub mod UserLaws
 pub mod EntityLaws

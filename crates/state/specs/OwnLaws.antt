@@ -6,7 +6,7 @@ use Prim.Native.Nat.{_+_, _-_, _<_, _≤_, suc, zero, ℕ}
 use native.Mathlib.Omega.{arith}
 use lib.Dec.{eqb, ltb}
 use borrow.Author.Tests.{ne-eqb}
-use Rattle.laws.specs.Bools.{agrees-pick, equal-bools, passes}
+use Rattle.laws.specs.Bools.{agrees-pick, equal-bools, imp-quiet, imp-shown, passes}
 use Rattle.laws.specs.Loops.{seek-before, seek-within}
 use Rattle.model.specs.Basics.Agree.{Agrees, agrees-and, agrees-eq, agrees-every, agrees-le, agrees-or}
 use Rattle.model.specs.Basics.Choice.{Below, below, over, under}
@@ -21,7 +21,6 @@ use Rattle.model.specs.Tables.Words.{Tables, counts, devices, kinds, level, mar
 use Rattle.model.specs.Tables.Words.{triples, type, userCount, value}
 use Rattle.state.specs.EntityLaws.{apart, count-agrees, filled-passes, unlike-agrees}
 use Rattle.state.specs.Passes.{contentsAt, countTest, idleAt, ownTest, placeTest, tripleNew, unlike}
-use Rattle.state.specs.TestLaws.{imp-quiet, imp-shown}
 
 -- ---- triples
 

@@ -6,8 +6,8 @@ use Prim.Native.Nat.{_<_, _≤_, suc, ℕ}
 use native.Mathlib.Omega.{arith}
 use lib.Dec.{eqb, ltb}
 use borrow.Author.Tests.{eq-eqb, le-ltb, lt-ltb, ne-eqb}
-use Rattle.laws.specs.Bools.{equal-bools, holds, or-imp}
-use Rattle.laws.specs.Loops.{every-at, every-both, every-of, every-same}
+use Rattle.laws.specs.Bools.{and-assoc, equal-bools, holds, imp-both, or-imp}
+use Rattle.laws.specs.Loops.{every-at, every-both, every-of, every-same, imp-every}
 use Rattle.model.specs.Basics.Agree.{agrees-T, agrees-imp, agrees-le}
 use Rattle.model.specs.Basics.Choice.{Below, below, over, pick, under}
 use Rattle.model.specs.Basics.Tests.{every, imp}
@@ -18,7 +18,6 @@ use Rattle.model.specs.Tables.Layout.{Bounded}
 use Rattle.model.specs.Tables.Words.{Tables, authorised, clearance, count, counts, current, deviceKind, devices, entityCount, kinds, level}
 use Rattle.model.specs.Tables.Words.{maximum, placeCount, places, sums, userCount}
 use Rattle.state.specs.Passes.{capped, entitySecure, placeSecure, userSecure}
-use Rattle.state.specs.TestLaws.{and-assoc, imp-both, imp-every}
 
 -- ---- a number, or eight
 

@@ -1,7 +1,8 @@
 use borrow.Author.Tests.{eq-eqb, ne-eqb, not-false, not-true}
-use mathlib.Core.Path.{_∙_, ap, refl, subst, sym}
-use Rattle.op_words.specs.UserLaws.{clearance-11, clearance-12, clearance-13, clearance-done}
-use Rattle.op_words.specs.ArgumentLaws.{arguments-in}
+use mathlib.Core.Path.{refl}
+use Rattle.op_words.specs.UserLaws.{clearance-13, clearance-done}
+use Rattle.op_words.specs.RungLaws.{clearance-officers, no-officer, user-absent}
+use Rattle.ladder.specs.ArgumentLaws.{arguments-in}
 use Rattle.model.specs.Request.Operations.{toClearance}
 use borrow.Author.Needs.{needs}
 use Rattle.op_words.proofs.users.clearance.Statement.{statement}
@@ -23,7 +24,7 @@ present-requires c κs = let z = arguments-in toClearance _ _ _ (c .before .befo
 
 -- src/users.rt:35:9
 refuse-requires : tie.Need-refuse-requires
-refuse-requires c κs = clearance-11 _ _ _ (c .before .before .before .before .before .before .before .pre) _ _ refl (c .before .before .present .ensures) (eq-eqb _ _ (c .before .if1 .taken))
+refuse-requires c κs = user-absent _ clearance-officers _ _ _ (c .before .before .before .before .before .before .before .pre) _ _ refl (c .before .before .present .ensures) (eq-eqb _ _ (c .before .if1 .taken))
 
 -- src/users.rt:35:9
 same-length : tie.Need-same-length
@@ -39,7 +40,7 @@ has-role-requires c κs = search needs
 
 -- src/users.rt:38:9
 refuse-requires-2 : tie.Need-refuse-requires-2
-refuse-requires-2 c κs = clearance-12 _ _ _ (c .before .before .before .before .before .before .before .before .before .before .pre) _ _ refl (c .before .before .before .before .before .present .ensures) (ne-eqb _ _ (c .before .before .before .before .if1 .left)) _ (c .before .before .has-role .ensures) (not-true _ (c .before .if2 .taken))
+refuse-requires-2 c κs = no-officer _ clearance-officers _ _ _ (c .before .before .before .before .before .before .before .before .before .before .pre) _ _ refl (c .before .before .before .before .before .present .ensures) (ne-eqb _ _ (c .before .before .before .before .if1 .left)) _ (c .before .before .has-role .ensures) (not-true _ (c .before .if2 .taken))
 
 -- src/users.rt:38:9
 same-length-2 : tie.Need-same-length-2

@@ -1,7 +1,7 @@
-use borrow.Author.Tests.{eq-eqb, ne-eqb, not-false, not-true}
-use mathlib.Core.Path.{_∙_, ap, refl, subst, sym}
+use borrow.Author.Tests.{not-false, not-true}
+use mathlib.Core.Path.{_∙_, refl}
 use Rattle.op_words.specs.UserLaws.{current-11, current-12, current-13, current-done}
-use Rattle.op_words.specs.ArgumentLaws.{arguments-in}
+use Rattle.ladder.specs.ArgumentLaws.{arguments-in}
 use Rattle.model.specs.Request.Operations.{toCurrent}
 use borrow.Author.Needs.{needs}
 use Rattle.op_words.proofs.users.current_roles.Statement.{statement}

@@ -6,8 +6,7 @@ use borrow.Author.Needs.{needs}
 use Rattle.model.specs.Tables.Layout.{tablesOf}
 use Rattle.model.specs.Basics.Tests.{every}
 use Rattle.model.specs.Tables.WordAt.{entityWordAt}
-use Rattle.laws.specs.Loops.{every-gather, every-none}
-use Rattle.state.specs.TestLaws.{every-gathered}
+use Rattle.laws.specs.Loops.{every-gather, every-gathered, every-none}
 use Rattle.state.specs.Passes.{entityBlank}
 use Rattle.state.proofs.entities.entity_blank.Statement.{statement}
 use Rattle.state.proofs.entities.entity_blank.Tie as tie

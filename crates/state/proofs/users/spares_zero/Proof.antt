@@ -5,8 +5,7 @@ use lib.Dec.{eqb}
 use borrow.Author.Needs.{needs}
 use Rattle.model.specs.Tables.Layout.{tablesOf}
 use Rattle.model.specs.Basics.Tests.{every}
-use Rattle.laws.specs.Loops.{every-gather, every-none}
-use Rattle.state.specs.TestLaws.{every-gathered}
+use Rattle.laws.specs.Loops.{every-gather, every-gathered, every-none}
 use Rattle.model.specs.Tables.Words.{spare}
 use Rattle.state.specs.UserLaws.{spare-zero}
 use Rattle.state.proofs.users.spares_zero.Statement.{statement}

@@ -5,8 +5,7 @@ use lib.Dec.{eqb}
 use borrow.Author.Needs.{needs}
 use Rattle.model.specs.Tables.Layout.{tablesOf}
 use Rattle.model.specs.Basics.Tests.{every}
-use Rattle.laws.specs.Loops.{every-gather, every-none}
-use Rattle.state.specs.TestLaws.{every-gathered}
+use Rattle.laws.specs.Loops.{every-gather, every-gathered, every-none}
 use Rattle.model.specs.Tables.WordAt.{userWordAt}
 use Rattle.state.specs.Passes.{userBlank}
 use Rattle.state.proofs.users.user_blank.Statement.{statement}
