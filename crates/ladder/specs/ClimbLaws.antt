@@ -2,26 +2,21 @@
 -- accepted.
 use mathlib.Core.Bool.{Bool, false, true}
 use mathlib.Core.List.{List, [], _∷_}
-use mathlib.Core.Logic.{_≢_}
-use mathlib.Core.Option.{some}
-use mathlib.Core.Path.{_∙_, _≡_, ap, refl, subst, sym}
-use Prim.Native.Nat.{_+_, _<_, _≤_, suc, zero, ℕ}
+use mathlib.Core.Path.{_∙_, _≡_, ap, refl}
+use Prim.Native.Nat.{_≤_, suc, zero, ℕ}
 use native.Mathlib.Omega.{arith}
 use lib.Dec.{T, eqb, ltb}
 use lib.ListN.{length}
-use Rattle.ladder.specs.Contract.{Climbed, Passed, Ready, Stepped}
-use Rattle.laws.specs.Bools.{fails, holds}
+use Rattle.ladder.specs.Contract.{Passed}
+use Rattle.laws.specs.Bools.{fails}
 use Rattle.model.specs.Basics.Choice.{Below, Same, below, it, other, over, same, under}
-use Rattle.model.specs.Request.AfterLaws.{after-accepted, after-unchanged}
-use Rattle.model.specs.Request.After.{effect}
-use Rattle.model.specs.Request.Ladder.{IsAnswer, Rung, answer, applies, ladder, never, notSecure, notWellFormed, rungAt, unknownUser}
+use Rattle.model.specs.Request.Ladder.{Rung, answer, applies, ladder, never, notSecure, notWellFormed, rungAt}
 use Rattle.model.specs.Request.LadderLaws.{answer-is, answer-unique}
-use Rattle.model.specs.Request.RungLaws.{notSecure-fails, notWellFormed-fails, unknownUser-fails}
-use Rattle.model.specs.Request.Words.{Request, requestOf}
+use Rattle.model.specs.Request.RungLaws.{notSecure-fails, notWellFormed-fails}
+use Rattle.model.specs.Request.Words.{Request}
 use Rattle.model.specs.State.Agree.{wellFormed-bounded}
 use Rattle.model.specs.State.Secure.{Good}
-use Rattle.model.specs.Tables.Layout.{tablesOf}
-use Rattle.model.specs.Tables.Words.{Tables, firstNoticed, present, userCount}
+use Rattle.model.specs.Tables.Words.{Tables}
 
 module _ (d : Tables) (q : Request) where
   -- one rung more is passed

@@ -1,18 +1,17 @@
 -- Rules 5.2 and 5.4: the names of a reference are a part of the request's words.
-use mathlib.Core.Bool.{Bool, _&&_, false, not, true}
+use mathlib.Core.Bool.{Bool, false, not, true}
 use mathlib.Core.List.{List, [], _∷_}
 use mathlib.Core.Option.{Option, none, some}
 use mathlib.Core.Path.{_∙_, _≡_, ap, refl, subst, sym}
 use Prim.Native.Nat.{_+_, _-_, _≤_, suc, zero, ℕ}
-use native.Mathlib.Numerals.{add-one}
 use native.Mathlib.Omega.{arith}
-use lib.Dec.{T, leb}
+use lib.Dec.{T}
 use lib.ListN.{drop, getD, length, take}
 use lib.Seq.{drop-cons}
 use Rattle.ladder.specs.ClimbLaws.{passed-lower}
 use Rattle.ladder.specs.Contract.{Climbed, Passed}
 use Rattle.ladder.specs.Path.{arityOf}
-use Rattle.laws.specs.Bools.{T-l, T-r, not-yes, passes}
+use Rattle.laws.specs.Bools.{T-l, T-r, passes}
 use Rattle.model.specs.Basics.Agree.{agrees-and, agrees-le}
 use Rattle.model.specs.Request.Allowed.{arity}
 use Rattle.model.specs.Request.Conditions.{Kind}

@@ -1,13 +1,13 @@
 -- Rule 8.2: the stores of a refusal are its notice.
-use mathlib.Core.Bool.{Bool, false, true}
+use mathlib.Core.Bool.{false, true}
 use mathlib.Core.List.{List}
 use mathlib.Core.Logic.{_≢_}
-use mathlib.Core.Path.{_∙_, _≡_, ap, refl, subst, sym}
-use Prim.Native.Nat.{_≤_, ℕ}
+use mathlib.Core.Path.{_∙_, _≡_, ap, refl, sym}
+use Prim.Native.Nat.{ℕ}
 use lib.Dec.{eqb, ltb}
 use borrow.Author.Tests.{eq-eqb, ne-eqb}
 use Rattle.ladder.specs.Contract.{Refusing, Stepped}
-use Rattle.model.specs.Effect.Notice.{countOn, keepFirst, notice, noticing}
+use Rattle.model.specs.Effect.Notice.{countOn, notice, noticing}
 use Rattle.model.specs.Request.AfterLaws.{after-noticed}
 use Rattle.model.specs.Request.Words.{requestOf}
 use Rattle.model.specs.Tables.Edits.{_and_, onUser, userWord, written}

@@ -3,14 +3,13 @@ use mathlib.Core.Bool.{Bool, _&&_, _||_, and-true, false, not, true}
 use mathlib.Core.List.{List}
 use mathlib.Core.Logic.{_≢_}
 use mathlib.Core.Option.{Option, none, some}
-use mathlib.Core.Path.{_∙_, _≡_, ap, refl, subst, sym}
+use mathlib.Core.Path.{_∙_, _≡_, ap, refl, sym}
 use Prim.Native.Nat.{_+_, suc, ℕ}
 use lib.Dec.{eqb, leb}
 use lib.ListN.{getD}
-use borrow.Author.Tests.{ne-eqb}
 use Rattle.ladder.specs.Shape.{noneForm, oneForm, padded, spareForm, twoForm}
 use Rattle.laws.specs.Bools.{or-imp}
-use Rattle.model.specs.Basics.Tests.{every, imp}
+use Rattle.model.specs.Basics.Tests.{every}
 use Rattle.model.specs.Request.Ladder.{fits, namesFit, ofOp}
 use Rattle.model.specs.Request.LadderLaws.{ofOp-some}
 use Rattle.model.specs.Request.OperationLaws.{number-opOf, opOf-number}

@@ -1,7 +1,7 @@
 -- What the public calls promise, for all words. Rule 8.6: every call answers a pair; these two have no number to give.
 use mathlib.Core.List.{List}
 use mathlib.Core.Path.{_≡_}
-use Prim.Native.Nat.{_*_, _+_, _^_, ℕ}
+use Prim.Native.Nat.{_*_, _+_, ℕ}
 use Rattle.mms.specs.declared.Answer.{Answer}
 use Rattle.model.specs.Request.Step.{afterOf, answerOf}
 use Rattle.model.specs.State.Check.{check}

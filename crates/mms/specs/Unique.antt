@@ -1,10 +1,10 @@
 -- No second answer and no second tables satisfy what a public call promises; and what the step promises is the model's own statement of a
 -- step, which names no code.
 use mathlib.Core.List.{List}
-use mathlib.Core.Path.{_∙_, _≡_, ap, refl, sym}
-use Prim.Native.Nat.{_*_, _+_, _<_, ℕ}
+use mathlib.Core.Path.{_∙_, _≡_, sym}
+use Prim.Native.Nat.{_<_, ℕ}
 use native.Mathlib.Omega.{arith}
-use Rattle.mms.specs.Contract.{Exporting, Stepping, checking, exported, stepping}
+use Rattle.mms.specs.Contract.{Exporting, Stepping, checking, exported}
 use Rattle.mms.specs.declared.Answer.{Answer}
 use Rattle.model.specs.Request.Step.{Settles, afterOf, answerOf}
 use Rattle.model.specs.Theorem.Unique.{settles, settles-unique}

@@ -1,8 +1,8 @@
 -- One look at each triple of an entity decides what the model asks of all of them for the user and for each role.
-use mathlib.Core.Bool.{Bool, not}
+use mathlib.Core.Bool.{not}
 use mathlib.Core.Logic.{_⊎_, inl, inr}
-use mathlib.Core.Path.{_∙_, _≡_, ap, subst, sym}
-use Prim.Native.Nat.{_%_, _*_, _+_, _-_, _/_, _<_, _≤_, ℕ}
+use mathlib.Core.Path.{_∙_, _≡_, ap, subst}
+use Prim.Native.Nat.{_%_, _*_, _+_, _-_, _<_, _≤_, ℕ}
 use native.Mathlib.Omega.{arith}
 use lib.Dec.{T}
 use Rattle.laws.specs.Bools.{equal-bools}
@@ -12,7 +12,7 @@ use Rattle.model.specs.Level.{bit}
 use Rattle.model.specs.Request.Allowed.{Permitted}
 use Rattle.model.specs.Request.Ladder.{permits}
 use Rattle.model.specs.Request.TestLaws.{permits-agrees}
-use Rattle.model.specs.Tables.Words.{Tables, current, operationCount, operationWeight, placeCount, positionCount, tripleOf, triples, userCount}
+use Rattle.model.specs.Tables.Words.{Tables, current, operationCount, operationWeight, placeCount, positionCount, tripleOf, triples}
 use Rattle.model.specs.Tables.Words.{whoLimit, whoOf, whoRole, whoWeight}
 use Rattle.reference.specs.Ways.{admits}
 

@@ -1,5 +1,5 @@
 -- The resolver's ways: where it ends, where a name leads nowhere, and where it goes on.
-use mathlib.Core.Bool.{Bool, _&&_, and-false, false, not, true}
+use mathlib.Core.Bool.{Bool, _&&_, false, not, true}
 use mathlib.Core.List.{List, [], _∷_}
 use mathlib.Core.Logic.{_≢_}
 use mathlib.Core.Path.{_∙_, _≡_, ap, refl, subst, sym}
@@ -16,9 +16,8 @@ use Rattle.model.specs.Request.Ladder.{bars}
 use Rattle.model.specs.Request.Reference.{Present, basis, follow, passed, placeTest, presentTest, resolve, standing}
 use Rattle.model.specs.Request.ReferenceLaws.{place-agrees, present-agrees}
 use Rattle.model.specs.State.WellFormed.{WellFormed}
-use Rattle.model.specs.Tables.Words.{Tables, counts, entityCount, kind, kinds, level, mark, places}
+use Rattle.model.specs.Tables.Words.{Tables, counts, entityCount, level, mark, places}
 use Rattle.reference.specs.Ways.{Ranged, bar, found, leading, onward, refusalOf}
-use Rattle.reference.specs.declared.Found.{Found}
 use Rattle.reference.specs.declared.Found.the-variants.{At, Nowhere}
 
 -- well-formed tables are ranged

@@ -1,9 +1,8 @@
 -- What the resolver answers, and on what tables; what makes a container a bar, and what a triple admits.
 use mathlib.Core.Bool.{Bool, _&&_, _||_, not}
 use mathlib.Core.List.{List}
-use Prim.Native.Nat.{_%_, _-_, _/_, _<_, _≤_, suc, zero, ℕ}
+use Prim.Native.Nat.{_%_, _-_, _<_, _≤_, suc, zero, ℕ}
 use lib.Dec.{eqb, leb}
-use Rattle.levels.specs.declared.Entity.{Entity}
 use Rattle.model.specs.Level.{atMost, bit}
 use Rattle.model.specs.Request.Ladder.{bars}
 use Rattle.model.specs.Request.Reference.{basis, follow, passed, resolve}

@@ -1,13 +1,12 @@
 -- The choice of an operation by its number: what each way may rely on, and that none is left over.
-use mathlib.Core.Bool.{Bool, false, not, true}
+use mathlib.Core.Bool.{Bool, false, not}
 use mathlib.Core.List.{List, []}
 use mathlib.Core.Logic.{_≢_}
 use mathlib.Core.Option.{Option, none, some}
 use mathlib.Core.Path.{_∙_, _≡_, ap, refl, subst, sym}
 use Prim.Native.Nat.{_≤_, suc, zero, ℕ}
 use native.Mathlib.Omega.{arith}
-use lib.Dec.{T, eqb}
-use lib.ListN.{length}
+use lib.Dec.{eqb}
 use Rattle.ladder.specs.ClimbLaws.{passed-lower, passed-more}
 use Rattle.ladder.specs.Contract.{Climbed, First, Passed, Refusing, Second, Taking}
 use Rattle.ladder.specs.OwnLaws.{noticed-as}
@@ -15,12 +14,10 @@ use Rattle.ladder.specs.Path.{arityOf, operandOf, pairOf, pathAnswer}
 use Rattle.ladder.specs.PathLaws.{path-hit, path-pass}
 use Rattle.ladder.specs.ShapeLaws.{named-as}
 use Rattle.ladder.specs.declared.operands.Operand.the-variants.{Fine, No}
-use Rattle.ladder.specs.declared.operands.Pair.{Pair}
 use Rattle.ladder.specs.declared.operands.Pair.the-variants.{Both, Neither}
 use Rattle.levels.specs.declared.Entity.{Entity}
 use Rattle.model.specs.Basics.TestLaws.{is-false}
 use Rattle.model.specs.Request.Allowed.{arity}
-use Rattle.model.specs.Request.After.{noticedOp}
 use Rattle.model.specs.Request.Asked.{asked, basisOf, operand}
 use Rattle.model.specs.Request.Ladder.{applies, bars, ladder, leadsNowhere, never, noAccess, notCleared, notUnderstood, ofOp, permits, rungAt}
 use Rattle.model.specs.Request.Ladder.{someOperand}

@@ -5,19 +5,17 @@ use mathlib.Core.List.{List}
 use mathlib.Core.Logic.{_≢_}
 use mathlib.Core.Option.{Option, none, some}
 use mathlib.Core.Path.{_∙_, _≡_, ap, refl, subst, sym}
-use Prim.Native.Nat.{_<_, _≤_, suc, ℕ}
+use Prim.Native.Nat.{_<_, _≤_, ℕ}
 use native.Mathlib.Omega.{arith}
-use lib.Dec.{T, eqb, eqb→eq, leb, lit<, lit≤, ltb}
+use lib.Dec.{T, eqb, eqb→eq, lit<, lit≤}
 use lib.ListN.{getD, length}
-use Rattle.ladder.specs.ClimbLaws.{good-passed, passed-hit, passed-lower, passed-more}
+use Rattle.ladder.specs.ClimbLaws.{good-passed, passed-hit, passed-more}
 use Rattle.ladder.specs.Contract.{Climbed, Passed, Ready, Refusing, Stepped}
 use Rattle.ladder.specs.OwnLaws.{noticed-as}
-use Rattle.laws.specs.Bools.{holds}
 use Rattle.laws.specs.Loops.{every-at}
-use Rattle.model.specs.Basics.Agree.{Agrees}
 use Rattle.model.specs.Basics.Choice.{pick}
 use Rattle.model.specs.Basics.Fails.{Fails}
-use Rattle.model.specs.Basics.TestLaws.{fails-false, is-false, is-true}
+use Rattle.model.specs.Basics.TestLaws.{fails-false, is-false}
 use Rattle.model.specs.Basics.Tests.{every}
 use Rattle.model.specs.Request.After.{noticedOp}
 use Rattle.model.specs.Request.AfterLaws.{after-unchanged}
@@ -27,13 +25,13 @@ use Rattle.model.specs.Request.LadderLaws.{judge-answer, ofOp-some}
 use Rattle.model.specs.Request.OperationLaws.{number-range, opOf-number}
 use Rattle.model.specs.Request.Operations.{Op, numberOf, opOf, openLoggedOff, operations, withNumber}
 use Rattle.model.specs.Request.RungLaws.{unknownUser-fails}
-use Rattle.model.specs.Request.Step.{afterOf, answerOf, sized}
+use Rattle.model.specs.Request.Step.{afterOf, sized}
 use Rattle.model.specs.Request.Words.{Request, requestOf, requestWords}
 use Rattle.model.specs.State.AgreeSecure.{judge-good}
 use Rattle.model.specs.State.Check.{judge, secureTest, wellFormedTest}
 use Rattle.model.specs.Tables.Layout.{tablesOf, wordCount}
 use Rattle.model.specs.Tables.LayoutLaws.{bounded}
-use Rattle.model.specs.Tables.Words.{Tables, device, present, userCount}
+use Rattle.model.specs.Tables.Words.{device}
 use Rattle.model.specs.Tables.WordsOfLaws.{tablesOf-injective}
 use Rattle.model.specs.Theorem.Steps.{afterOf-length, afterOf-tables, answerOf-sized, low-refusal-words, sized-agrees, unsized}
 use Rattle.step.specs.Contract.{Settled}

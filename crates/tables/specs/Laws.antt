@@ -1,21 +1,20 @@
 -- A word is read where it stands, and stored where it stands.
-use mathlib.Core.Bool.{Bool}
 use mathlib.Core.List.{List}
 use mathlib.Core.Logic.{inl, inr}
 use mathlib.Core.Path.{_∙_, _≡_, ap, sym}
-use Prim.Native.Nat.{_*_, _+_, _-_, _<_, _≤_, ℕ}
+use Prim.Native.Nat.{_*_, _+_, _-_, _<_, ℕ}
 use native.Mathlib.Omega.{arith}
-use lib.Dec.{T, eqb, eqb→eq}
-use lib.ListN.{getD, length, set}
+use lib.Dec.{eqb, eqb→eq}
+use lib.ListN.{getD, set}
 use Rattle.laws.specs.Loops.{every-at}
 use Rattle.model.specs.Basics.Tests.{every}
 use Rattle.model.specs.Tables.Edits.{onEntity, onUser, userWord, word}
-use Rattle.model.specs.Tables.Layout.{entityAt, entityIn, entityWidth, offset, tablesOf, userAt, userIn, userOffset, userWidth, wordCount}
+use Rattle.model.specs.Tables.Layout.{entityAt, entityIn, entityWidth, offset, tablesOf, userAt, userIn, userOffset, userWidth}
 use Rattle.model.specs.Tables.LayoutLaws.{bounded, entity-set, user-set}
 use Rattle.model.specs.Tables.RangeLaws.{guard-in, in-entity, in-user}
 use Rattle.model.specs.Tables.WordAt.{entityWordAt, userWordAt}
 use Rattle.model.specs.Tables.WordAtLaws.{index-below, offset-at, user-offset-at}
-use Rattle.model.specs.Tables.Words.{EntityWord, UserWord, entityCount, index, placeCount, userCount}
+use Rattle.model.specs.Tables.Words.{EntityWord, UserWord, entityCount, index, placeCount}
 use Rattle.tables.specs.Singles.{EntityIn, UserIn, entitySingle, userSingle}
 
 -- the single words stand at their own places

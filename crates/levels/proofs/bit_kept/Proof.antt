@@ -1,6 +1,4 @@
 use Rattle.laws.specs.Bools.{or-imp}
-use mathlib.Core.Path.{_∙_, ap₂}
-use mathlib.Core.Bool.{Bool, not, _||_}
 use borrow.Author.Needs.{needs}
 use Rattle.levels.proofs.bit_kept.Statement.{statement}
 use Rattle.levels.proofs.bit_kept.Tie as tie

@@ -1,6 +1,5 @@
 use mathlib.Core.Path.{ap}
 use Prim.Native.Nat.{ℕ}
-use Rattle.mms.specs.declared.Answer.{Answer}
 use borrow.Author.Needs.{needs}
 use Rattle.mms.proofs.check.Statement.{statement}
 use Rattle.mms.proofs.check.Tie as tie

@@ -3,7 +3,7 @@ use Rattle.laws.specs.Loops.{every-none, every-more, every-fails, every-done}
 use borrow.Author.Tests.{not-true, not-false}
 use mathlib.Core.Path.{_≡_, _∙_, sym}
 use mathlib.Core.Bool.{true}
-use Prim.Native.Nat.{_≤_, _-_, suc}
+use Prim.Native.Nat.{_≤_, _-_}
 use native.Mathlib.Omega.{arith}
 use Rattle.model.specs.Basics.Tests.{every}
 use mathlib.Core.Bool.{not}

@@ -1,5 +1,3 @@
-use mathlib.Core.Bool.{not}
-use mathlib.Core.Path.{_∙_, ap}
 use Rattle.reference.specs.TripleLaws.{permits-some}
 use borrow.Author.Needs.{needs}
 use Rattle.reference.proofs.is_permitted.Statement.{statement}

@@ -1,5 +1,4 @@
-use mathlib.Core.Path.{_∙_, _≡_, refl, sym}
-use mathlib.Core.Logic.{_≢_}
+use mathlib.Core.Path.{_∙_, refl, sym}
 use native.Mathlib.Omega.{arith}
 use Rattle.reference.specs.WayLaws.{resolve-on, resolve-one, resolve-stop}
 use borrow.Author.Needs.{needs}

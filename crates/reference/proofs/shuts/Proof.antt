@@ -1,6 +1,3 @@
-use mathlib.Core.Bool.{not}
-use mathlib.Core.Path.{_∙_, ap}
-use Rattle.reference.specs.Ways.{admits}
 use borrow.Author.Needs.{needs}
 use Rattle.reference.proofs.shuts.Statement.{statement}
 use Rattle.reference.proofs.shuts.Tie as tie

@@ -1,5 +1,5 @@
-use mathlib.Core.Bool.{_&&_, true}
-use lib.Dec.{eqb, leb, ltb}
+use mathlib.Core.Bool.{true}
+use lib.Dec.{eqb}
 use lib.ListN.{getD}
 use Rattle.ladder.specs.ShapeLaws.{none-form}
 use Rattle.model.specs.Request.Conditions.{aFlag, aLevel, aPosition, aSort, aSum, aUser, aWho, anOperation, between, free, someRoles, unused}

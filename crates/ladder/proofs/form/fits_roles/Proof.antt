@@ -1,4 +1,4 @@
-use mathlib.Core.Bool.{_&&_, true}
+use mathlib.Core.Bool.{_&&_}
 use lib.Dec.{eqb, leb, ltb}
 use lib.ListN.{getD}
 use Rattle.ladder.specs.ShapeLaws.{none-form}

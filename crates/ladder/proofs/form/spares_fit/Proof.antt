@@ -1,4 +1,3 @@
-use mathlib.Core.Path.{refl}
 use Rattle.ladder.specs.Shape.{spareForm}
 use Rattle.ladder.specs.ShapeLaws.{padded-names}
 use Rattle.model.specs.Request.Words.{requestOf}

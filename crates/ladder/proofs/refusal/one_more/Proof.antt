@@ -1,5 +1,4 @@
 use borrow.Author.Tests.{lt-ltb, le-ltb}
-use Rattle.model.specs.Effect.Notice.{countOn}
 use native.Mathlib.Numerals.{add-one}
 use borrow.Author.Needs.{needs}
 use Rattle.ladder.proofs.refusal.one_more.Statement.{statement}

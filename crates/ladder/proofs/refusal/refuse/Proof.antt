@@ -1,8 +1,6 @@
-use mathlib.Core.Path.{_∙_, ap, sym}
+use mathlib.Core.Path.{_∙_, sym}
 use Rattle.ladder.specs.NoticeLaws.{notice-kept, notice-new, refused-stepped}
-use Rattle.model.specs.Effect.Notice.{countOn}
-use Rattle.model.specs.Tables.Edits.{onUser, userWord}
-use Rattle.model.specs.Tables.Words.{held, heldOp, missed}
+use Rattle.model.specs.Tables.Words.{held, missed}
 use borrow.Author.Needs.{needs}
 use Rattle.ladder.proofs.refusal.refuse.Statement.{statement}
 use Rattle.ladder.proofs.refusal.refuse.Tie as tie

@@ -1,5 +1,5 @@
-use borrow.Author.Tests.{eq-eqb, ne-eqb, not-false, not-true}
-use mathlib.Core.Path.{_∙_, ap, refl, subst, sym}
+use borrow.Author.Tests.{not-false, not-true}
+use mathlib.Core.Path.{_∙_, refl}
 use Rattle.op_words.specs.DeviceLaws.{device-level-10, device-level-12, device-level-13, device-level-done}
 use borrow.Author.Needs.{needs}
 use Rattle.op_words.proofs.devices.device_level.Statement.{statement}

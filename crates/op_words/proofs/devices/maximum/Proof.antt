@@ -1,5 +1,5 @@
-use borrow.Author.Tests.{eq-eqb, ne-eqb, not-false, not-true}
-use mathlib.Core.Path.{_∙_, ap, refl, subst, sym}
+use borrow.Author.Tests.{not-false, not-true}
+use mathlib.Core.Path.{_∙_, refl}
 use Rattle.op_words.specs.DeviceLaws.{maximum-10, maximum-12, maximum-13, maximum-done}
 use borrow.Author.Needs.{needs}
 use Rattle.op_words.proofs.devices.maximum.Statement.{statement}

@@ -1,5 +1,5 @@
 use borrow.Author.Tests.{not-false, not-true}
-use mathlib.Core.Path.{_∙_, ap, refl, subst, sym}
+use mathlib.Core.Path.{_∙_}
 use Rattle.op_words.specs.EntityLaws.{copy-10, copy-13, copy-done}
 use borrow.Author.Needs.{needs}
 use Rattle.op_words.proofs.entities.copy.Statement.{statement}

@@ -1,5 +1,5 @@
 use borrow.Author.Tests.{not-false, not-true}
-use mathlib.Core.Path.{_∙_, ap, refl, subst, sym}
+use mathlib.Core.Path.{_∙_, refl}
 use Rattle.op_words.specs.EntityLaws.{level-10, level-12, level-13, level-done}
 use borrow.Author.Needs.{needs}
 use Rattle.op_words.proofs.entities.level.Statement.{statement}

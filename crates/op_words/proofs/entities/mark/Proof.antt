@@ -1,5 +1,4 @@
 use borrow.Author.Tests.{not-false, not-true}
-use mathlib.Core.Path.{_∙_, ap, refl, subst, sym}
 use Rattle.op_words.specs.EntityLaws.{mark-10, mark-done}
 use borrow.Author.Needs.{needs}
 use Rattle.op_words.proofs.entities.mark.Statement.{statement}

@@ -1,5 +1,5 @@
 use borrow.Author.Tests.{not-false, not-true}
-use mathlib.Core.Path.{_∙_, ap, refl, subst, sym}
+use mathlib.Core.Path.{_∙_}
 use Rattle.op_words.specs.EntityLaws.{release-10, release-12, release-done}
 use Rattle.model.specs.Tables.StoreLaws.{twice}
 use Rattle.model.specs.Tables.Edits.{word}

@@ -1,5 +1,4 @@
-use borrow.Author.Tests.{eq-eqb, ne-eqb, not-false, not-true}
-use mathlib.Core.Path.{_∙_, ap, refl, subst, sym}
+use mathlib.Core.Path.{_∙_, refl}
 use Rattle.op_words.specs.UserLaws.{acknowledge-16, acknowledge-done}
 use borrow.Author.Needs.{needs}
 use Rattle.op_words.proofs.notices.acknowledge.Statement.{statement}
