@@ -12,7 +12,8 @@
 uint64_t mms_check(const uint32_t *t, size_t n);
 uint64_t mms_step(uint32_t *t, size_t n, const uint32_t *q, size_t m);
 
-/* The step without the check: good tables, lengths 2,304 and 16. */
+/* The step without the check, exported for measuring only: good tables,
+   lengths 2,304 and 16. */
 uint32_t bench_advance(uint32_t *t, size_t n, const uint32_t *q, size_t m);
 
 #endif
