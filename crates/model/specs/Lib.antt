@@ -7,5 +7,6 @@ pub mod Tables
 pub mod State
 pub mod Effect
 pub mod Request
+pub mod List
 pub mod Theorem
 pub mod Case
