@@ -1,5 +1,6 @@
 -- The disclosure list: what it is, the walk that finds it, and that what the walk finds is it.
 pub mod Order
+pub mod OrderLaws
 pub mod Complete
 pub mod Listing
 pub mod Walk
