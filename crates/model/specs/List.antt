@@ -2,6 +2,7 @@
 pub mod Order
 pub mod OrderLaws
 pub mod Complete
+pub mod CompleteLaws
 pub mod Listing
 pub mod Walk
 pub mod Ways
