@@ -5,4 +5,5 @@ pub mod Complete
 pub mod CompleteLaws
 pub mod Listing
 pub mod Walk
+pub mod WalkLaws
 pub mod Ways
