@@ -6,4 +6,6 @@ pub mod CompleteLaws
 pub mod Listing
 pub mod Walk
 pub mod WalkLaws
+pub mod Reach
+pub mod BoundLaws
 pub mod Ways
