@@ -4,6 +4,8 @@ pub mod OrderLaws
 pub mod Complete
 pub mod CompleteLaws
 pub mod Listing
+pub mod Admitted
+pub mod AdmittedLaws
 pub mod Walk
 pub mod WalkLaws
 pub mod Reach

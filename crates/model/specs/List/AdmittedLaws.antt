@@ -1,0 +1,55 @@
+-- The refusals that the list shares with the step: which there are, and what their absence says (rule 10.2).
+use mathlib.Core.Bool.{Bool, false, true}
+use mathlib.Core.List.{List, []}
+use mathlib.Core.Path.{_≡_}
+use Prim.Native.Nat.{_≤_, ℕ}
+use native.Mathlib.Omega.{arith}
+use lib.Dec.{eqb}
+use lib.ListN.{length}
+use Rattle.model.specs.Basics.Agree.{Agrees}
+use Rattle.model.specs.Basics.Choice.{Same, other, pick, same}
+use Rattle.model.specs.Basics.Fails.{Fails}
+use Rattle.model.specs.List.Admitted.{Admitted}
+use Rattle.model.specs.List.Listing.{barred, showing}
+use Rattle.model.specs.Request.Allowed.{Known, On}
+use Rattle.model.specs.Request.Ladder.{notLoggedOn, unknownUser}
+use Rattle.model.specs.Request.OperationLaws.{number-opOf}
+use Rattle.model.specs.Request.Operations.{toShow}
+use Rattle.model.specs.Request.RungLaws.{notLoggedOn-fails, unknownUser-fails}
+use Rattle.model.specs.Request.Words.{Request, requestOf}
+use Rattle.model.specs.State.AgreeSecure.{check-agrees}
+use Rattle.model.specs.State.Check.{check, judge, secureTest, wellFormedTest}
+use Rattle.model.specs.State.Secure.{Good}
+use Rattle.model.specs.Tables.Layout.{tablesOf, wordCount}
+
+-- Where none of 1, 2, 3, 4 and 6 applies, the words are whole, their tables are good, and the user is there and on a device.
+pub barred-admitted : (t : List ℕ) (u : ℕ) → barred t u ≡ 0 → Admitted t u
+unfolding barred requestOf showing
+barred-admitted t u = go (eqb (check t) 0) (unknownUser (tablesOf t) q) (notLoggedOn (tablesOf t) q) (same (check t) 0) (check-agrees t)
+    (unknownUser-fails (tablesOf t) q) (notLoggedOn-fails (tablesOf t) q toShow (number-opOf toShow))
+  where
+    q : Request
+    q = requestOf (showing u [])
+
+    go : (a b c : Bool) → Same (check t) 0 a → Agrees a ((length t ≡ wordCount) × Good (tablesOf t)) → Fails b (Known (tablesOf t) u)
+        → Fails c (On toShow (tablesOf t) u) → pick a (pick b 4 (pick c 6 0)) (check t) ≡ 0 → Admitted t u
+    go true true c s x y z e = absurd (omega arith)
+    go true false true s x y z e = absurd (omega arith)
+    go true false false s x y z e =
+        let k = y .to tt in
+        record { whole = x .to tt .0; good = x .to tt .1; low = k .low; high = k .high; there = k .there; on = z .to tt tt }
+    go false b c (other n) x y z e = absurd (n e)
+
+-- No refusal before 17 is above 6.
+pub barred-range : (t : List ℕ) (u : ℕ) → barred t u ≤ 6
+unfolding barred check judge
+barred-range t u = go (eqb (length t) wordCount) (wellFormedTest (tablesOf t)) (secureTest (tablesOf t))
+    (unknownUser (tablesOf t) (requestOf (showing u []))) (notLoggedOn (tablesOf t) (requestOf (showing u [])))
+  where
+    go : (a w s b c : Bool) → pick (eqb (pick a (pick w (pick s 0 3) 2) 1) 0) (pick b 4 (pick c 6 0)) (pick a (pick w (pick s 0 3) 2) 1) ≤ 6
+    go true true true true c = omega arith
+    go true true true false true = omega arith
+    go true true true false false = omega arith
+    go true true false b c = omega arith
+    go true false s b c = omega arith
+    go false w s b c = omega arith
