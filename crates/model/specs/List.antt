@@ -11,3 +11,6 @@ pub mod WalkLaws
 pub mod Reach
 pub mod BoundLaws
 pub mod Ways
+pub mod Further
+pub mod AnswerLaws
+pub mod ShowLaws
