@@ -14,3 +14,4 @@ pub mod Ways
 pub mod Further
 pub mod AnswerLaws
 pub mod ShowLaws
+pub mod ListingLaws

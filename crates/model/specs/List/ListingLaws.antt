@@ -1,0 +1,118 @@
+-- The disclosure list is what the walk finds: there is one list for any words, user and room, and no second (rule 10).
+use mathlib.Core.Bool.{Bool, false, true}
+use mathlib.Core.List.{List, [], _++_, _∷_}
+use mathlib.Core.Logic.{_≢_, ⊎-elim}
+use mathlib.Core.Path.{_∙_, _≡_, ap, refl, sym}
+use Prim.Native.Nat.{_*_, _<_, _≤_, ℕ}
+use native.Mathlib.Omega.{arith}
+use lib.Dec.{eqb, leb}
+use lib.ListN.{drop, length}
+use Rattle.model.specs.Basics.Agree.{agrees-eq, agrees-le, agrees-not}
+use Rattle.model.specs.Basics.Choice.{pick}
+use Rattle.model.specs.Basics.Fails.{fails-agreed, fails-le}
+use Rattle.model.specs.Basics.TestLaws.{fails-false, pick-false, pick-same, pick-true}
+use Rattle.model.specs.List.AdmittedLaws.{barred-admitted, barred-range}
+use Rattle.model.specs.List.BoundLaws.{walk-bound}
+use Rattle.model.specs.List.Complete.{Complete}
+use Rattle.model.specs.List.CompleteLaws.{complete-none, complete-unique}
+use Rattle.model.specs.List.Listing.{Lists, barred, entries, entryWords, listAnswer, listNumber, opens, roomAfter}
+use Rattle.model.specs.List.ShowLaws.{barred-answer, opens-agrees, shown-reached}
+use Rattle.model.specs.List.WalkLaws.{walk-complete}
+use Rattle.model.specs.List.Ways.{found, showable, ways}
+use Rattle.model.specs.Request.Ladder.{bars}
+use Rattle.model.specs.Request.Reference.{standing}
+use Rattle.model.specs.State.WellFormed.{WellFormed}
+use Rattle.model.specs.Tables.Layout.{tablesOf}
+use Rattle.model.specs.Tables.Words.{Tables, clearance, counts, entityCount, placeCount}
+
+-- Rules 10.3 to 10.6: where the list is not refused, the walk makes the complete list.
+pub found-complete : (t : List ℕ) (u : ℕ) → barred t u ≡ 0 → Complete (opens t u) (found (tablesOf t) u)
+unfolding found
+found-complete t u h = walk-complete (ways (tablesOf t) u) (standing (tablesOf t)) (showable (tablesOf t) u) entityCount (opens t u)
+    (λ r low high. shown-reached t u r low high h)
+
+-- Where it is, no reference opens.
+pub none-complete : (t : List ℕ) (u : ℕ) → barred t u ≢ 0 → Complete (opens t u) []
+none-complete t u h = complete-none (opens t u) (λ r low high.
+    let e = sym (barred-answer t u r low high h) in
+    fails-false (opens t u r) (fails-agreed (opens-agrees t u r) .from (⊎-elim (λ z. h (e ∙ z)) (λ z. omega (arith, barred-range t u, e ∙ z)))))
+
+-- An entity has at most eight ways,
+ways-few : (d : Tables) → WellFormed d → (u e : ℕ) → ways d u e ≤ placeCount
+unfolding ways
+ways-few d w u e = go (bars d (d .user u clearance) (e ∷ []))
+  where
+    go : (b : Bool) → pick b 0 (counts d e) ≤ placeCount
+    go true = omega arith
+    go false = w .entities e .filled .packed .room
+
+-- so no list is longer than 37,440.
+pub found-bound : (t : List ℕ) (u : ℕ) → barred t u ≡ 0 → length (found (tablesOf t) u) ≤ 37440
+unfolding found
+found-bound t u h = walk-bound (ways (tablesOf t) u) (standing (tablesOf t)) (showable (tablesOf t) u)
+    (ways-few (tablesOf t) (barred-admitted t u h .good .0) u) entityCount
+
+module _ {t : List ℕ} {u : ℕ} {room : List ℕ} where
+  -- What the list gives, it gives of any list that is complete.
+  pub lists-any : {a n : ℕ} {r : List ℕ} → Lists t u room a n r → (l : List (List ℕ)) → Complete (opens t u) l
+      → (a ≡ listAnswer (barred t u) l (length room)) × (n ≡ listNumber (barred t u) l) × (r ≡ roomAfter a l room)
+  lists-any {a} x l c =
+      let e = complete-unique (opens t u) (x .list) l (x .complete) c in (
+        x .answer ∙ ap (λ (k : List (List ℕ)). listAnswer (barred t u) k (length room)) e,
+        x .number ∙ ap (listNumber (barred t u)) e,
+        x .words ∙ ap (λ (k : List (List ℕ)). roomAfter a k room) e,
+      )
+
+  -- No second answer, number or room is the list's.
+  pub lists-unique : {a b n m : ℕ} {r s : List ℕ} → Lists t u room a n r → Lists t u room b m s → (a ≡ b) × (n ≡ m) × (r ≡ s)
+  lists-unique x y =
+      let z = lists-any x (y .list) (y .complete) in
+      let e = z .0 ∙ sym (y .answer) in
+      (e, z .1 ∙ sym (y .number), z .2 ∙ ap (λ (k : ℕ). roomAfter k (y .list) room) e ∙ sym (y .words))
+
+module _ (t : List ℕ) (u : ℕ) (room : List ℕ) where
+  -- Rule 10.2: a refusal 1 to 6 has the number 0, and leaves the room.
+  pub lists-refused : barred t u ≢ 0 → Lists t u room (barred t u) 0 room
+  lists-refused h =
+      let f = agrees-not (agrees-eq (barred t u) 0) .from h in record {
+        list = [];
+        complete = none-complete t u h;
+        answer = sym (pick-false (eqb (barred t u) 0) (pick (leb 0 (length room)) 0 17) (barred t u) f);
+        number = sym (pick-same (eqb (barred t u) 0) 0);
+        words = sym (pick-false (eqb (barred t u) 0) (entries [] ++ drop (length (entries [])) room) room f);
+      }
+
+  l : List (List ℕ)
+  l = found (tablesOf t) u
+
+  -- with room or without, the number is of what is found
+  counted : barred t u ≡ 0 → length l ≡ listNumber (barred t u) l
+  counted h = sym (pick-true (eqb (barred t u) 0) (length l) 0 (agrees-eq (barred t u) 0 .from h))
+
+  answered : (a : ℕ) → barred t u ≡ 0 → pick (leb (entryWords * length l) (length room)) 0 17 ≡ a → a ≡ listAnswer (barred t u) l (length room)
+  answered a h e =
+      let f = agrees-eq (barred t u) 0 .from h in
+      sym (pick-true (eqb (barred t u) 0) (pick (leb (entryWords * length l) (length room)) 0 17) (barred t u) f ∙ e)
+
+  -- Too little room is answered 17, with the number of entries that there are, and stays as it was.
+  pub lists-short : barred t u ≡ 0 → length room < 5 * length (found (tablesOf t) u) → Lists t u room 17 (length (found (tablesOf t) u)) room
+  unfolding l
+  lists-short h k = record {
+    list = l;
+    complete = found-complete t u h;
+    answer = answered 17 h (pick-false (leb (entryWords * length l) (length room)) 0 17 (fails-le (entryWords * length l) (length room) .from k));
+    number = counted h;
+    words = refl;
+  }
+
+  -- Rule 10.7: with room enough the entries stand at its front, and the words behind them stay.
+  pub lists-written : (r : List ℕ) → barred t u ≡ 0 → 5 * length (found (tablesOf t) u) ≤ length room
+      → r ≡ entries (found (tablesOf t) u) ++ drop (length (entries (found (tablesOf t) u))) room → Lists t u room 0 (length (found (tablesOf t) u)) r
+  unfolding l
+  lists-written r h k e = record {
+    list = l;
+    complete = found-complete t u h;
+    answer = answered 0 h (pick-true (leb (entryWords * length l) (length room)) 0 17 (agrees-le (entryWords * length l) (length room) .from k));
+    number = counted h;
+    words = e;
+  }
