@@ -1,14 +1,15 @@
 -- The refusals that the list shares with the step: which there are, and what their absence says (rule 10.2).
 use mathlib.Core.Bool.{Bool, false, true}
 use mathlib.Core.List.{List, []}
-use mathlib.Core.Path.{_≡_}
+use mathlib.Core.Path.{_∙_, _≡_, ap}
 use Prim.Native.Nat.{_≤_, ℕ}
 use native.Mathlib.Omega.{arith}
 use lib.Dec.{eqb}
 use lib.ListN.{length}
-use Rattle.model.specs.Basics.Agree.{Agrees}
+use Rattle.model.specs.Basics.Agree.{Agrees, agrees-eq}
 use Rattle.model.specs.Basics.Choice.{Same, other, pick, same}
 use Rattle.model.specs.Basics.Fails.{Fails}
+use Rattle.model.specs.Basics.TestLaws.{pick-true}
 use Rattle.model.specs.List.Admitted.{Admitted}
 use Rattle.model.specs.List.Listing.{barred, showing}
 use Rattle.model.specs.Request.Allowed.{Known, On}
@@ -21,6 +22,7 @@ use Rattle.model.specs.State.AgreeSecure.{check-agrees}
 use Rattle.model.specs.State.Check.{check, judge, secureTest, wellFormedTest}
 use Rattle.model.specs.State.Secure.{Good}
 use Rattle.model.specs.Tables.Layout.{tablesOf, wordCount}
+use Rattle.model.specs.Tables.Words.{Tables}
 
 -- Where none of 1, 2, 3, 4 and 6 applies, the words are whole, their tables are good, and the user is there and on a device.
 pub barred-admitted : (t : List ℕ) (u : ℕ) → barred t u ≡ 0 → Admitted t u
@@ -53,3 +55,12 @@ barred-range t u = go (eqb (length t) wordCount) (wellFormedTest (tablesOf t)) (
     go true true false b c = omega arith
     go true false s b c = omega arith
     go false w s b c = omega arith
+
+-- Where the state check passes the words of the tables d, who asks is what is left.
+pub barred-checked : (t : List ℕ) (d : Tables) (u : ℕ) → check t ≡ 0 → tablesOf t ≡ d
+    → barred t u ≡ pick (unknownUser d (requestOf (showing u []))) 4 (pick (notLoggedOn d (requestOf (showing u []))) 6 0)
+unfolding barred
+barred-checked t d u e f = pick-true (eqb (check t) 0) (left (tablesOf t)) (check t) (agrees-eq (check t) 0 .from e) ∙ ap left f
+  where
+    left : Tables → ℕ
+    left d = pick (unknownUser d (requestOf (showing u []))) 4 (pick (notLoggedOn d (requestOf (showing u []))) 6 0)

@@ -2,7 +2,7 @@
 use mathlib.Core.Bool.{Bool, false, true}
 use mathlib.Core.List.{List, [], _++_, _∷_}
 use mathlib.Core.Logic.{_≢_, ⊎-elim}
-use mathlib.Core.Path.{_∙_, _≡_, ap, refl, sym}
+use mathlib.Core.Path.{_∙_, _≡_, ap, refl, subst, sym}
 use Prim.Native.Nat.{_*_, _<_, _≤_, ℕ}
 use native.Mathlib.Omega.{arith}
 use lib.Dec.{eqb, leb}
@@ -116,3 +116,14 @@ module _ (t : List ℕ) (u : ℕ) (room : List ℕ) where
     number = counted h;
     words = e;
   }
+
+  -- The same of a list that the walk is known to find.
+  pub lists-found : (l : List (List ℕ)) → barred t u ≡ 0 → found (tablesOf t) u ≡ l → 5 * length l ≤ length room
+      → Lists t u room 0 (length l) (entries l ++ drop (length (entries l)) room)
+  lists-found l h e =
+      subst (λ (k : List (List ℕ)). 5 * length k ≤ length room → Lists t u room 0 (length k) (entries k ++ drop (length (entries k)) room)) e
+      (λ k. lists-written (entries (found (tablesOf t) u) ++ drop (length (entries (found (tablesOf t) u))) room) h k refl)
+
+  pub lists-found-short : (l : List (List ℕ)) → barred t u ≡ 0 → found (tablesOf t) u ≡ l → length room < 5 * length l
+      → Lists t u room 17 (length l) room
+  lists-found-short l h e = subst (λ (k : List (List ℕ)). length room < 5 * length k → Lists t u room 17 (length k) room) e (lists-short h)
