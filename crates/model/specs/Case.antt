@@ -5,6 +5,7 @@ pub mod Figures
 pub mod S1
 pub mod S1Holds
 pub mod S1Words
+pub mod S1List
 pub mod Condemned
 pub mod CondemnedFlows
 pub mod Damaged

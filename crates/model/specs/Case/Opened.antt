@@ -2,6 +2,9 @@
 use Rattle.model.specs.Basics.Tests.{imp, every}
 use Rattle.model.specs.Case.Cases.{item, gone, asking, ask, raw, stand, passesAt, allPass}
 use Rattle.model.specs.Level.{bit, subset, rank, atMostOver, atMost, lower}
+use Rattle.model.specs.List.Listing.{entries, showing}
+use Rattle.model.specs.List.Walk.{through, visit, walk}
+use Rattle.model.specs.List.Ways.{ways, showable, found}
 use Rattle.model.specs.Request.After.{effect, noticedOp, leaves, after}
 use Rattle.model.specs.Request.Asked.{asked, hasRole}
 use Rattle.model.specs.Request.Conditions.{isAny, isEntity, isContainer, isDevice, isDraft, between, free, unused, aLevel, someRoles}
@@ -61,3 +64,8 @@ openedCase = tt
 unfoldable pub opened : Unit {0}
 unfolding openedBasics openedLevel openedTables openedState openedRequest openedCase
 opened = tt
+
+-- the same for a case of the list
+unfoldable pub openedList : Unit {0}
+unfolding opened entries showing through visit walk ways showable found
+openedList = tt
