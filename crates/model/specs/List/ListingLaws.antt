@@ -38,7 +38,7 @@ none-complete t u h = complete-none (opens t u) (λ r low high.
     fails-false (opens t u r) (fails-agreed (opens-agrees t u r) .from (⊎-elim (λ z. h (e ∙ z)) (λ z. omega (arith, barred-range t u, e ∙ z)))))
 
 -- An entity has at most eight ways,
-ways-few : (d : Tables) → WellFormed d → (u e : ℕ) → ways d u e ≤ placeCount
+pub ways-few : (d : Tables) → WellFormed d → (u e : ℕ) → ways d u e ≤ placeCount
 unfolding ways
 ways-few d w u e = go (bars d (d .user u clearance) (e ∷ []))
   where
