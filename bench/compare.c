@@ -8,29 +8,25 @@
 #include <string.h>
 
 #include "faulty.h"
+#include "full.h"
 #include "generate.h"
+#include "guarded.h"
+#include "lists.h"
 #include "ordinary.h"
 #include "proved.h"
 #include "subcommands.h"
 #include "tables.h"
 
 enum {
-    GUARD = 8,
-    GUARD_WORD = 0x5a17c0de,
     STEPS_PER_TABLE = 250, /* long enough for tables to fill and to empty */
     DAMAGE_EVERY = 4,
+    LISTS_EVERY = 25,  /* requests from one moment for lists to the next */
+    BY_STEP_EVERY = 4, /* tables; with these, lists are compared with the step */
     REPORTS = 5, /* differences printed before the run is given up */
     CELLS = LAST_ANSWER + 1
 };
 
-/* Buffers are one word longer than the right length, for slices that are too
-   long, and have guard words on both sides, for writes that go astray. */
-struct guarded_table {
-    uint32_t before[GUARD];
-    uint32_t words[TABLE_WORDS + 1];
-    uint32_t behind[GUARD];
-};
-
+/* Longer and guarded, as tables are. */
 struct guarded_request {
     uint32_t before[GUARD];
     uint32_t words[REQUEST_WORDS + 1];
@@ -41,12 +37,15 @@ struct desk {
     uint32_t (*check)(const uint32_t *t, size_t n);
     uint32_t (*advance)(uint32_t *t, const uint32_t *q);
     uint32_t (*step)(uint32_t *t, size_t n, const uint32_t *q, size_t m);
+    list_function *list;
 };
 
 struct run {
     const struct comparison *what;
     struct desk desk;
     struct dice dice;
+    struct dice list_dice; /* of their own, so that lists change no request */
+    struct list_trial lists;
     uint64_t table;   /* number of the table in hand, from 1 */
     uint32_t request; /* number of the request on it, from 1 */
     uint64_t steps;
@@ -98,29 +97,11 @@ static const struct row {
 
 /* ---- buffers ---- */
 
-static void fill(uint32_t *words, size_t n, uint32_t word)
-{
-    for (size_t i = 0; i < n; i++)
-        words[i] = word;
-}
-
-static void guard_table(struct guarded_table *g)
-{
-    fill(g->before, GUARD, GUARD_WORD);
-    fill(g->words + TABLE_WORDS, 1, GUARD_WORD);
-    fill(g->behind, GUARD, GUARD_WORD);
-}
-
 static void guard_request(struct guarded_request *g)
 {
     fill(g->before, GUARD, GUARD_WORD);
     fill(g->words + REQUEST_WORDS, 1, GUARD_WORD);
     fill(g->behind, GUARD, GUARD_WORD);
-}
-
-static bool same_tables(const struct guarded_table *a, const struct guarded_table *b)
-{
-    return memcmp(a, b, sizeof *a) == 0;
 }
 
 static bool same_requests(const struct guarded_request *a, const struct guarded_request *b)
@@ -169,21 +150,39 @@ struct trial {
     uint64_t ordinary_answer, proved_answer;
 };
 
-static void report(struct run *r, const struct trial *x, const char *complaint)
+static void begin_report(struct run *r, const char *call, const char *complaint, size_t n,
+                         size_t m)
 {
     r->differences++;
-    printf("difference: %s: %s\n", x->call, complaint);
+    printf("difference: %s: %s\n", call, complaint);
     printf("  seed %" PRIu64 ", table %" PRIu64 ", request %" PRIu32
            ", lengths %zu and %zu, step %" PRIu64 "\n",
-           r->what->seed, r->table, r->request, x->n, x->m, r->steps);
+           r->what->seed, r->table, r->request, n, m, r->steps);
     printf("  replay: compare %" PRIu64 " %" PRIu64 " table=%" PRIu64 "%s\n", r->what->seed,
            r->what->steps, r->table, r->what->faults != 0 ? " and the same switches" : "");
+}
+
+static void report(struct run *r, const struct trial *x, const char *complaint)
+{
+    begin_report(r, x->call, complaint, x->n, x->m);
     printf("  request:");
     for (uint32_t i = 0; i < REQUEST_WORDS; i++)
         printf(" %" PRIu32, x->asked.words[i]);
     printf("\n  answers: ordinary %" PRIu64 ", proved %" PRIu64 " (number %" PRIu64 ")\n",
            x->ordinary_answer >> 32, x->proved_answer >> 32, x->proved_answer & UINT32_MAX);
     print_words_that_differ(&x->ordinary, &x->proved);
+}
+
+static bool report_list(struct run *r, const char *call)
+{
+    const struct list_trial *l = &r->lists;
+
+    begin_report(r, call, l->complaint, l->n, l->m);
+    printf("  user %" PRIu32 "; answers: ordinary %" PRIu64 " (number %" PRIu64 "), proved %" PRIu64
+           " (number %" PRIu64 ")\n",
+           l->user, l->ordinary >> 32, l->ordinary & UINT32_MAX, l->proved >> 32,
+           l->proved & UINT32_MAX);
+    return false;
 }
 
 /* ---- one call compared ---- */
@@ -265,6 +264,39 @@ static bool try_check(struct run *r, struct trial *x, size_t n)
     return true;
 }
 
+/* ---- lists ---- */
+
+static bool try_lists(struct run *r, const struct trial *x)
+{
+    r->lists.tables = &x->start;
+    return compare_lists(&r->lists, &r->list_dice) || report_list(r, "list");
+}
+
+static bool try_list_with_step(struct run *r, const struct trial *x)
+{
+    r->lists.tables = &x->start;
+    return compare_list_with_step(&r->lists, &r->list_dice) || report_list(r, "list");
+}
+
+/* Generated tables seldom give long lists, so full ones come in between. */
+static bool try_full_table(struct run *r)
+{
+    static struct guarded_table full;
+
+    guard_table(&full);
+    full_table(&r->list_dice, full.words);
+    r->lists.tables = &full;
+    return (compare_lists(&r->lists, &r->list_dice)
+            && compare_list_with_step(&r->lists, &r->list_dice))
+        || report_list(r, "list of a full table");
+}
+
+static bool try_list_of_bad(struct run *r, const struct trial *x, size_t n)
+{
+    r->lists.tables = &x->start;
+    return compare_list_of_bad(&r->lists, &r->list_dice, n) || report_list(r, "list");
+}
+
 /* ---- one table ---- */
 
 static void count_step(struct run *r, const struct trial *x)
@@ -320,7 +352,8 @@ static bool try_damage(struct run *r, struct trial *x)
 
     generate_damage(&r->dice, x->start.words);
     same = try_check(r, x, TABLE_WORDS)
-        && try_bad_step(r, x, TABLE_WORDS, REQUEST_WORDS);
+        && try_bad_step(r, x, TABLE_WORDS, REQUEST_WORDS)
+        && try_list_of_bad(r, x, TABLE_WORDS);
     x->start = good;
     return same;
 }
@@ -339,7 +372,8 @@ static bool try_random_words(struct run *r, struct trial *x)
     same = same && try_bad_step(r, x, TABLE_WORDS, REQUEST_WORDS);
     generate_random_words(&r->dice, x->start.words, TABLE_WORDS);
     same = same && try_check(r, x, TABLE_WORDS)
-        && try_bad_step(r, x, TABLE_WORDS, REQUEST_WORDS);
+        && try_bad_step(r, x, TABLE_WORDS, REQUEST_WORDS)
+        && try_list_of_bad(r, x, TABLE_WORDS);
     x->start = good;
     return same;
 }
@@ -350,7 +384,7 @@ static bool try_lengths(struct run *r, struct trial *x)
     static const size_t requests[] = { 0, 1, REQUEST_WORDS - 1, REQUEST_WORDS, REQUEST_WORDS + 1 };
 
     for (size_t i = 0; i < sizeof tables / sizeof *tables; i++) {
-        if (!try_check(r, x, tables[i]))
+        if (!try_check(r, x, tables[i]) || !try_list_of_bad(r, x, tables[i]))
             return false;
         for (size_t j = 0; j < sizeof requests / sizeof *requests; j++)
             if (!try_bad_step(r, x, tables[i], requests[j]))
@@ -368,6 +402,10 @@ static bool try_odd_things(struct run *r, struct trial *x)
         same = try_damage(r, x);
     if (same && r->request == STEPS_PER_TABLE / 2)
         same = try_lengths(r, x) && try_random_words(r, x);
+    if (same && r->request % LISTS_EVERY == 0)
+        same = try_lists(r, x);
+    if (same && r->request == STEPS_PER_TABLE / 2 && r->table % BY_STEP_EVERY == 0)
+        same = try_list_with_step(r, x) && try_full_table(r);
     x->asked = asked;
     return same;
 }
@@ -382,11 +420,12 @@ static void compare_table(struct run *r, uint64_t number)
     r->table = number;
     r->request = 0;
     dice_seed(&r->dice, r->what->seed * UINT64_C(0x9e3779b97f4a7c15) + number);
+    dice_seed(&r->list_dice, ~(r->what->seed * UINT64_C(0x9e3779b97f4a7c15) + number));
     guard_table(&x.start);
     guard_request(&x.asked);
     memset(x.asked.words, 0, REQUEST_WORDS * sizeof *x.asked.words);
     generate_table(&r->dice, x.start.words);
-    if (!try_check(r, &x, TABLE_WORDS))
+    if (!try_check(r, &x, TABLE_WORDS) || !try_lists(r, &x))
         return;
     while (r->request < STEPS_PER_TABLE && r->steps < r->what->steps) {
         r->request++;
@@ -469,18 +508,24 @@ static int summarise(const struct run *r)
            r->bad_steps[1], r->bad_steps[2], r->bad_steps[3]);
     printf("state checks, answered 0: %" PRIu64 ", 1: %" PRIu64 ", 2: %" PRIu64 ", 3: %" PRIu64 "\n",
            r->checks[0], r->checks[1], r->checks[2], r->checks[3]);
-    wrong = name_wrong_cells(r, true) + name_wrong_cells(r, false) + name_unreached_checks(r);
+    print_list_tally(&r->lists.tally);
+    wrong = name_wrong_cells(r, true) + name_wrong_cells(r, false) + name_unreached_checks(r)
+        + name_unreached_lists(&r->lists.tally);
     printf("differences: %" PRIu64 "%s; cells amiss: %" PRIu32 "\n", r->differences,
            r->differences >= REPORTS ? " (given up)" : "", wrong);
     return r->differences != 0 || wrong != 0;
 }
 
+/* An error in the step must be noticed by the step. Lists with the same error
+   would differ sooner and end the run, so they are then free of it. */
 static struct desk choose_desk(uint32_t faults)
 {
+    list_function *list = (faults & LIST_FAULTS) != 0 ? faulty_list : ordinary_list;
+
     if (faults == 0)
-        return (struct desk){ ordinary_check, ordinary_advance, ordinary_step };
+        return (struct desk){ ordinary_check, ordinary_advance, ordinary_step, list };
     faulty_switches = faults;
-    return (struct desk){ faulty_check, faulty_advance, faulty_step };
+    return (struct desk){ faulty_check, faulty_advance, faulty_step, list };
 }
 
 int compare(const struct comparison *what)
@@ -489,6 +534,8 @@ int compare(const struct comparison *what)
 
     r.what = what;
     r.desk = choose_desk(what->faults);
+    r.lists.list = r.desk.list;
+    r.lists.advance = ordinary_advance;
     if (what->only != 0) {
         compare_table(&r, what->only);
         printf("table %" PRIu64 " alone: %" PRIu64 " steps, differences: %" PRIu64 "\n", what->only,

@@ -10,5 +10,6 @@ uint32_t faulty_switches;
 #define ordinary_check faulty_check
 #define ordinary_advance faulty_advance
 #define ordinary_step faulty_step
+#define ordinary_list faulty_list
 
 #include "ordinary.c"

@@ -14,7 +14,16 @@ enum fault {
     FAULT_MARK = 2,   /* mark tested on the named entity instead of the path */
     FAULT_ROLES = 4,  /* authorised roles taken for the current ones */
     FAULT_NOTICE = 8, /* a held notice overwritten */
-    FAULT_ROOM = 16   /* room in a move counted before leaving */
+    FAULT_ROOM = 16,  /* room in a move counted before leaving */
+
+    /* in the list alone */
+    FAULT_DEVICES = 32, /* references through a device forgotten */
+    FAULT_NAMED = 64,   /* mark tested on the named entity instead of the path;
+                           since what is above the clearance is not shown
+                           anyway, no test of the mark is left */
+    FAULT_EARLY = 128,  /* written before it is known that the room suffices */
+    FAULT_COUNT = 256,  /* one more counted than there are */
+    LIST_FAULTS = FAULT_DEVICES | FAULT_NAMED | FAULT_EARLY | FAULT_COUNT
 };
 
 extern uint32_t faulty_switches; /* a sum of the above */
@@ -22,5 +31,6 @@ extern uint32_t faulty_switches; /* a sum of the above */
 uint32_t faulty_check(const uint32_t *t, size_t n);
 uint32_t faulty_advance(uint32_t *t, const uint32_t *q);
 uint32_t faulty_step(uint32_t *t, size_t n, const uint32_t *q, size_t m);
+uint64_t faulty_list(const uint32_t *t, size_t n, uint32_t user, uint32_t *room, size_t m);
 
 #endif

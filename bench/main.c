@@ -16,24 +16,31 @@ static const struct {
     uint32_t fault;
 } switches[] = {
     { "levels", FAULT_LEVELS }, { "mark", FAULT_MARK }, { "roles", FAULT_ROLES },
-    { "notice", FAULT_NOTICE }, { "room", FAULT_ROOM },
+    { "notice", FAULT_NOTICE }, { "room", FAULT_ROOM }, { "devices", FAULT_DEVICES },
+    { "named", FAULT_NAMED }, { "early", FAULT_EARLY }, { "count", FAULT_COUNT },
 };
 
 static int usage(void)
 {
-    fputs("usage: compare SEED STEPS [levels|mark|roles|notice|room ...] [table=NUMBER]\n"
+    fputs("usage: compare SEED STEPS [FAULT ...] [table=NUMBER]\n"
           "       time SEED REPS\n"
           "       s1\n"
+          "       rooms SEED\n"
           "compare: status 1 on any difference or on a cell that was not reached.\n"
-          "  The names put an easy error into the ordinary desk, which must be noticed:\n"
-          "  levels  levels compared as plain numbers\n"
-          "  mark    mark tested on the named entity instead of the path\n"
-          "  roles   authorised instead of current roles\n"
-          "  notice  a held notice overwritten\n"
-          "  room    room in a move counted before leaving\n"
+          "  A FAULT puts an easy error into the ordinary desk, which must be noticed:\n"
+          "  levels   levels compared as plain numbers\n"
+          "  mark     mark tested on the named entity instead of the path\n"
+          "  roles    authorised instead of current roles\n"
+          "  notice   a held notice overwritten\n"
+          "  room     room in a move counted before leaving\n"
+          "  devices  list without the references through a device\n"
+          "  named    list tests the mark on the named entity instead of the path\n"
+          "  early    list writes before it is known that the room suffices\n"
+          "  count    list counts one entry more than there are\n"
           "  table=NUMBER replays that table alone.\n"
           "time: medians over REPS repetitions, in ns per call.\n"
-          "s1: the answers listed for case state S1.\n",
+          "s1: the answers listed for case state S1.\n"
+          "rooms: lists of S1 and of full tables in rooms of every length.\n",
           stderr);
     return 2;
 }
@@ -84,6 +91,15 @@ static int run_time(int count, char **words)
     return time_desks(seed, (uint32_t)repetitions);
 }
 
+static int run_rooms(int count, char **words)
+{
+    uint64_t seed;
+
+    if (count != 1 || !read_number(words[0], &seed))
+        return usage();
+    return try_every_room(seed);
+}
+
 int main(int argc, char **argv)
 {
     if (argc >= 2 && strcmp(argv[1], "compare") == 0)
@@ -92,5 +108,7 @@ int main(int argc, char **argv)
         return run_time(argc - 2, argv + 2);
     if (argc == 2 && strcmp(argv[1], "s1") == 0)
         return check_s1();
+    if (argc >= 2 && strcmp(argv[1], "rooms") == 0)
+        return run_rooms(argc - 2, argv + 2);
     return usage();
 }

@@ -412,18 +412,18 @@ static bool resolve(uint32_t *t, const uint32_t *reference, uint32_t clearance,
     return true;
 }
 
-static bool permitted(const uint32_t *entity, const uint32_t *q, uint32_t roles,
+static bool permitted(const uint32_t *entity, uint32_t user, uint32_t roles, uint32_t operation,
                       uint32_t position)
 {
     const uint32_t *triples = entity + ENTITY_TRIPLES;
-    uint32_t wanted = q[REQUEST_OPERATION] * 256 + position;
+    uint32_t wanted = operation * 256 + position;
 
     for (uint32_t i = 0; i < TRIPLES && triples[i] != 0; i++) {
         uint32_t who = triples[i] >> 16;
 
         if ((triples[i] & 65535) != wanted)
             continue;
-        if (who == q[REQUEST_USER])
+        if (who == user)
             return true;
         if (who >= FIRST_ROLE && (roles >> (who - FIRST_ROLE) & 1) != 0)
             return true;
@@ -451,7 +451,8 @@ static bool kind_fits(const uint32_t *entity, uint32_t sort)
 static uint32_t find_operands(uint32_t *t, const uint32_t *q, const uint32_t *user,
                               struct operand *first, struct operand *second)
 {
-    const struct shape *shape = &shapes[q[REQUEST_OPERATION]];
+    uint32_t operation = q[REQUEST_OPERATION];
+    const struct shape *shape = &shapes[operation];
     uint32_t clearance = user[USER_CLEARANCE];
     uint32_t roles = acting_roles(user);
     bool two = shape->second != NO_OPERAND;
@@ -462,9 +463,9 @@ static uint32_t find_operands(uint32_t *t, const uint32_t *q, const uint32_t *us
         return NO_SUCH_NAME;
     if (two && !resolve(t, q + REQUEST_SECOND, clearance, second))
         return NO_SUCH_NAME;
-    if (!permitted(first->record, q, roles, 1))
+    if (!permitted(first->record, q[REQUEST_USER], roles, operation, 1))
         return NO_ACCESS;
-    if (two && !permitted(second->record, q, roles, 2))
+    if (two && !permitted(second->record, q[REQUEST_USER], roles, operation, 2))
         return NO_ACCESS;
     if (first->hidden || (two && second->hidden))
         return MARKED_PATH;
@@ -885,4 +886,115 @@ uint32_t ordinary_step(uint32_t *t, size_t n, const uint32_t *q, size_t m)
     if (answer != ACCEPTED)
         return answer;
     return ordinary_advance(t, q);
+}
+
+/* ---- the disclosure list ---- */
+
+/* Who asks, and a walk over the references. Entries are written as long as
+   there are fewer than `fits`, and counted in any case. */
+struct walk {
+    const uint32_t *t;
+    uint32_t user;
+    uint32_t roles;
+    uint32_t clearance;
+    uint32_t screen; /* the level of the user's device */
+    uint32_t reference[ENTRY_WORDS];
+    uint32_t *room;
+    size_t fits;
+    uint32_t count;
+};
+
+/* Rungs 8, 10 and 13 of a show. The rest of the ladder either can't refuse
+   (5, 15), is about the path (7, 9), or doesn't keep anything off the list
+   (14). */
+static bool showable(const struct walk *w, const uint32_t *entity)
+{
+    uint32_t level = entity[ENTITY_LEVEL];
+
+    return entity[ENTITY_KIND] != DEVICE
+        && level_at_most(level, w->clearance)
+        && level_at_most(level, w->screen)
+        && permitted(entity, w->user, w->roles, SHOW, 1);
+}
+
+static void enter(struct walk *w)
+{
+    if (w->count < w->fits)
+        memcpy(w->room + (size_t)w->count * ENTRY_WORDS, w->reference, sizeof w->reference);
+    w->count++;
+}
+
+static void visit_places(struct walk *w, const uint32_t *entity);
+
+/* Looks at the entity that the reference leads to, then beyond it. A marked
+   container above the clearance hides all that is reached through it. */
+static void visit(struct walk *w, uint32_t number)
+{
+    const uint32_t *entity = w->t + entity_base(number);
+
+    if (showable(w, entity))
+        enter(w);
+    if (w->reference[0] == NAMES)
+        return;
+    if (marked_above(entity, w->clearance) && !FAULT(FAULT_NAMED))
+        return;
+    if (FAULT(FAULT_DEVICES) && entity[ENTITY_KIND] == DEVICE)
+        return;
+    visit_places(w, entity);
+}
+
+static void visit_places(struct walk *w, const uint32_t *entity)
+{
+    uint32_t length = ++w->reference[0];
+
+    for (uint32_t place = 1; place <= entity[ENTITY_USED]; place++) {
+        w->reference[length] = place;
+        visit(w, entity[ENTITY_CONTENTS + place - 1]);
+    }
+    w->reference[length] = 0;
+    w->reference[0] = length - 1;
+}
+
+/* How many entries there are; the first `fits` of them go into the room. */
+static uint32_t walk_all(const uint32_t *t, uint32_t number, uint32_t *room, size_t fits)
+{
+    const uint32_t *user = t + user_base(number);
+    struct walk w = { .t = t, .user = number, .room = room, .fits = fits };
+
+    w.roles = acting_roles(user);
+    w.clearance = user[USER_CLEARANCE];
+    w.screen = t[entity_base(user[USER_DEVICE]) + ENTITY_LEVEL];
+    w.reference[0] = 1;
+    for (uint32_t first = 1; first <= ENTITIES; first++) {
+        if (t[entity_base(first) + ENTITY_KIND] == ABSENT)
+            continue;
+        w.reference[1] = first;
+        visit(&w, first);
+    }
+    return w.count;
+}
+
+static uint64_t pair(uint32_t answer, uint32_t number)
+{
+    return (uint64_t)answer << 32 | number;
+}
+
+uint64_t ordinary_list(const uint32_t *t, size_t n, uint32_t user, uint32_t *room, size_t m)
+{
+    uint32_t answer = ordinary_check(t, n);
+    size_t fits = m / ENTRY_WORDS;
+    uint32_t count;
+
+    if (answer != ACCEPTED)
+        return pair(answer, 0);
+    if (!is_user(user) || t[user_base(user) + USER_PRESENT] == 0)
+        return pair(UNKNOWN_USER, 0);
+    if (t[user_base(user) + USER_DEVICE] == 0)
+        return pair(NOT_LOGGED_ON, 0);
+    /* Counted first, since a room that is too short must stay as it was. */
+    count = walk_all(t, user, room, FAULT(FAULT_EARLY) ? fits : 0);
+    if (count > fits)
+        return pair(ROOM_TOO_SHORT, count);
+    walk_all(t, user, room, fits);
+    return pair(ACCEPTED, FAULT(FAULT_COUNT) ? count + 1 : count);
 }

@@ -1,13 +1,16 @@
 /*
  * Case state S1 of the specification and every answer that it lists, asked of
- * the ordinary desk and of the proved one. The disclosure list is asked by
- * its meaning: the references whose show (a = 3) is answered 0 or 14.
+ * the ordinary desk and of the proved one. The disclosure list is asked twice:
+ * by its own call, and by its meaning, which is the references whose show
+ * (a = 3) is answered 0 or 14.
  */
+#include "s1.h"
+
 #include <inttypes.h>
-#include <stdbool.h>
 #include <stdio.h>
 #include <string.h>
 
+#include "lists.h"
 #include "ordinary.h"
 #include "proved.h"
 #include "subcommands.h"
@@ -48,7 +51,7 @@ static uint32_t *set_entity(uint32_t *t, uint32_t number, uint32_t kind, uint32_
     return entity;
 }
 
-static void build_s1(uint32_t *t)
+void build_s1(uint32_t *t)
 {
     uint32_t *entity;
 
@@ -80,11 +83,29 @@ static void build_s1(uint32_t *t)
     entity[ENTITY_TRIPLES + 2] = make_triple(1, SET_LEVEL, 1);
 }
 
+void build_s1_unmarked(uint32_t *t)
+{
+    build_s1(t);
+    t[entity_base(4) + ENTITY_MARK] = 0;
+}
+
+const struct s1_list s1_lists[S1_LISTS] = {
+    { "list for user 1", false, 1, 0, 0, { { 0 } } },
+    { "list for user 2", false, 2, 0, 1, { { 1, 5 } } },
+    { "list for user 3", false, 3, 6, 0, { { 0 } } },
+    { "list for user 9", false, 9, 4, 0, { { 0 } } },
+    { "list for user 1 with 4 unmarked", true, 1, 0, 0, { { 0 } } },
+    { "list for user 2 with 4 unmarked", true, 2, 0, 2, { { 2, 4, 1 }, { 1, 5 } } },
+    { "list for user 3 with 4 unmarked", true, 3, 6, 0, { { 0 } } },
+    { "list for user 9 with 4 unmarked", true, 9, 4, 0, { { 0 } } },
+};
+
 /* ---- asking ---- */
 
 struct trial {
     const char *desk;
     step_function *step;
+    list_function *list;
     uint32_t t[TABLE_WORDS];
     uint32_t asked;
     uint32_t wrong;
@@ -199,7 +220,34 @@ static void check_notice(struct trial *s)
     expect(s, "count after that", user[USER_COUNT], 0);
 }
 
-/* ---- the list ---- */
+/* ---- the list by its own call ---- */
+
+static void check_list(struct trial *s, const struct s1_list *l)
+{
+    static uint32_t before[TABLE_WORDS];
+    static struct room room;
+    size_t words = (size_t)l->count * ENTRY_WORDS;
+    uint64_t wanted = (uint64_t)l->answer << 32 | l->count;
+
+    if (l->unmarked)
+        build_s1_unmarked(s->t);
+    else
+        build_s1(s->t);
+    memcpy(before, s->t, sizeof before);
+    room_fill(&room, words);
+    expect(s, l->what, s->list(s->t, TABLE_WORDS, l->user, room.words, words), wanted);
+    expect(s, l->what, (uint64_t)memcmp(room.words, l->entries, words * sizeof *room.words) != 0, 0);
+    expect(s, l->what, room_kept(&room, words, words), true);
+    expect(s, l->what, (uint64_t)memcmp(before, s->t, sizeof before) != 0, 0);
+}
+
+static void check_lists_by_call(struct trial *s)
+{
+    for (uint32_t i = 0; i < S1_LISTS; i++)
+        check_list(s, &s1_lists[i]);
+}
+
+/* ---- the list by its meaning ---- */
 
 enum { LIST_ROOM = 8 };
 
@@ -225,9 +273,10 @@ static void list_from(struct trial *s, uint32_t user, bool unmarked, uint32_t *r
 {
     uint32_t length = reference[0];
 
-    build_s1(s->t);
     if (unmarked)
-        s->t[entity_base(4) + ENTITY_MARK] = 0;
+        build_s1_unmarked(s->t);
+    else
+        build_s1(s->t);
     if (is_listed(s, user, reference)) {
         if (list->count < LIST_ROOM)
             memcpy(list->entries[list->count], reference, sizeof list->entries[0]);
@@ -264,7 +313,7 @@ static void expect_list(struct trial *s, const char *what, const struct list *li
         expect(s, what, (uint64_t)memcmp(list->entries[i], wanted[i], sizeof *wanted) != 0, 0);
 }
 
-static void check_lists(struct trial *s)
+static void check_lists_by_meaning(struct trial *s)
 {
     static const uint32_t entries[][1 + NAMES] = { { 2, 4, 1 }, { 1, 5 } };
     struct list list;
@@ -291,16 +340,17 @@ static void check_script(struct trial *s)
     expect(s, "script, second missed", user[USER_COUNT], 1);
 }
 
-static uint32_t check_desk(const char *desk, step_function *step)
+static uint32_t check_desk(const char *desk, step_function *step, list_function *list)
 {
     static struct trial s;
 
-    s = (struct trial){ .desk = desk, .step = step };
+    s = (struct trial){ .desk = desk, .step = step, .list = list };
     check_listed(&s);
     check_effects(&s);
     check_release(&s);
     check_notice(&s);
-    check_lists(&s);
+    check_lists_by_call(&s);
+    check_lists_by_meaning(&s);
     check_script(&s);
     printf("s1, %s: %" PRIu32 " things asked, %" PRIu32 " wrong\n", desk, s.asked, s.wrong);
     return s.wrong;
@@ -308,8 +358,8 @@ static uint32_t check_desk(const char *desk, step_function *step)
 
 int check_s1(void)
 {
-    uint32_t wrong = check_desk("ordinary", step_of_ordinary);
+    uint32_t wrong = check_desk("ordinary", step_of_ordinary, ordinary_list);
 
-    wrong += check_desk("proved", step_of_proved);
+    wrong += check_desk("proved", step_of_proved, mms_list);
     return wrong != 0;
 }

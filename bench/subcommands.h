@@ -15,5 +15,6 @@ struct comparison {
 int compare(const struct comparison *what);
 int time_desks(uint64_t seed, uint32_t repetitions);
 int check_s1(void);
+int try_every_room(uint64_t seed);
 
 #endif

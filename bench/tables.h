@@ -19,6 +19,7 @@ enum {
     PLACES = 8,
     TRIPLES = 8,
     NAMES = 4,
+    ENTRY_WORDS = 1 + NAMES, /* a reference as it stands in a list */
     OPERATIONS = 20,
     MAX_LEVEL = 1023,
     MAX_ROLES = 255,
@@ -113,7 +114,8 @@ enum answer {
     NO_ROOM = 14,
     ARRANGEMENT = 15,
     NOT_ACKNOWLEDGED = 16,
-    LAST_ANSWER = NOT_ACKNOWLEDGED
+    LAST_ANSWER = NOT_ACKNOWLEDGED, /* the last that a step gives */
+    ROOM_TOO_SHORT = 17
 };
 
 /* Users and entities are numbered from 1; these give a record's first word. */

@@ -10,6 +10,7 @@
 #include <string.h>
 #include <time.h>
 
+#include "full.h"
 #include "generate.h"
 #include "ordinary.h"
 #include "proved.h"
@@ -22,6 +23,7 @@ enum {
     OF_ONE = 4,       /* the same where a load is of one operation */
     MOST_REQUESTS = 2 * OF_EACH * OPERATIONS,
     CHECK_ROUNDS = 4, /* times the check is called on each table */
+    LISTS = 4,        /* asked of each table */
     REQUEST_TRIES = 100,
     TABLE_TRIES = 200000
 };
@@ -33,9 +35,13 @@ struct load {
     uint32_t originals[TABLES][TABLE_WORDS];
     uint32_t tables[TABLES][TABLE_WORDS];
     uint32_t requests[TABLES][MOST_REQUESTS][REQUEST_WORDS];
-    uint32_t length; /* requests for each table */
-    uint64_t answers; /* the sum of all answers */
+    uint32_t users[TABLES][LISTS]; /* who asks for a list, instead of requests */
+    uint32_t length; /* requests or lists for each table */
+    uint64_t answers; /* the sum of all answers; of lists, all results */
 };
+
+/* Long enough for any list. */
+static uint32_t list_room[MOST_ENTRIES * ENTRY_WORDS];
 
 /* ---- preparing ---- */
 
@@ -104,6 +110,36 @@ static bool prepare_load(struct dice *d, struct load *l, uint32_t first, uint32_
             if (++tries == TABLE_TRIES)
                 return false;
     return true;
+}
+
+/* False where nobody is on. */
+static bool choose_askers(struct dice *d, const uint32_t *t, uint32_t *users)
+{
+    uint32_t on[USERS];
+    uint32_t count = 0;
+
+    for (uint32_t user = 1; user <= USERS; user++)
+        if (t[user_base(user) + USER_DEVICE] != 0)
+            on[count++] = user;
+    for (uint32_t i = 0; count > 0 && i < LISTS; i++)
+        users[i] = on[dice_below(d, count)];
+    return count > 0;
+}
+
+typedef void table_function(struct dice *d, uint32_t *t);
+
+static void prepare_lists(struct dice *d, struct load *l, table_function *make)
+{
+    l->length = LISTS;
+    l->answers = 0;
+    for (uint32_t i = 0; i < TABLES; i++) {
+        do
+            make(d, l->originals[i]);
+        while (!choose_askers(d, l->originals[i], l->users[i]));
+        for (uint32_t j = 0; j < LISTS; j++)
+            l->answers += ordinary_list(l->originals[i], TABLE_WORDS, l->users[i][j], list_room,
+                                        MOST_ENTRIES * ENTRY_WORDS);
+    }
 }
 
 /* ---- timing ---- */
@@ -191,6 +227,30 @@ static uint64_t proved_steps(struct load *l)
     return sum;
 }
 
+/* Both halves of a result go into the sum, so that the numbers must agree. */
+
+static uint64_t ordinary_lists(struct load *l)
+{
+    uint64_t sum = 0;
+
+    for (uint32_t i = 0; i < TABLES; i++)
+        for (uint32_t j = 0; j < l->length; j++)
+            sum += ordinary_list(l->tables[i], TABLE_WORDS, l->users[i][j], list_room,
+                                 MOST_ENTRIES * ENTRY_WORDS);
+    return sum;
+}
+
+static uint64_t proved_lists(struct load *l)
+{
+    uint64_t sum = 0;
+
+    for (uint32_t i = 0; i < TABLES; i++)
+        for (uint32_t j = 0; j < l->length; j++)
+            sum += mms_list(l->tables[i], TABLE_WORDS, l->users[i][j], list_room,
+                            MOST_ENTRIES * ENTRY_WORDS);
+    return sum;
+}
+
 /* A line of the output: two sides on one load. */
 struct contest {
     const char *name;
@@ -258,13 +318,34 @@ static void print_contest(struct contest *c, uint32_t repetitions)
     double ordinary = median(c->times[0], repetitions) / (double)c->calls;
     double proved = median(c->times[1], repetitions) / (double)c->calls;
 
-    printf("%-26s%12.1f%12.1f%9.2f%9" PRIu64 "\n", c->name, ordinary, proved, proved / ordinary,
+    printf("%-26s%12.1f%12.1f%9.2f%9" PRIu64, c->name, ordinary, proved, proved / ordinary,
            c->calls);
+    if (c->side[0] == ordinary_lists) /* all answered 0, so these are entries */
+        printf("  mean %.1f entries", (double)c->answers / (double)c->calls);
+    printf("\n");
 }
 
 /* ---- all contests ---- */
 
-enum { CHECKS, MIX, FIRST_SINGLE, STEPS = FIRST_SINGLE + OPERATIONS, CONTESTS };
+enum {
+    CHECKS,
+    MIX,
+    FIRST_SINGLE,
+    STEPS = FIRST_SINGLE + OPERATIONS,
+    FIRST_LISTS,
+    LIST_LOADS = 3,
+    CONTESTS = FIRST_LISTS + LIST_LOADS
+};
+
+/* A list has its check in it: there is no other. */
+static const struct {
+    const char *name;
+    table_function *make;
+} list_loads[LIST_LOADS] = {
+    { "list, generated tables", generate_table },
+    { "list, full tables", full_table },
+    { "list, fullest tables", fullest_table },
+};
 
 static const char *const names[OPERATIONS] = {
     "advance, 1 create", "advance, 2 delete", "advance, 3 move", "advance, 4 edit",
@@ -286,6 +367,17 @@ static void set_contest(struct contest *c, const char *name, struct load *load,
     c->answers = load->answers;
 }
 
+static void prepare_list_contests(struct dice *d, struct contest *contests)
+{
+    for (uint32_t i = 0; i < LIST_LOADS; i++) {
+        struct load *load = room_for(sizeof *load);
+
+        prepare_lists(d, load, list_loads[i].make);
+        set_contest(&contests[FIRST_LISTS + i], list_loads[i].name, load, ordinary_lists,
+                    proved_lists);
+    }
+}
+
 static bool prepare_contests(struct dice *d, struct contest *contests)
 {
     struct load *mix = room_for(sizeof *mix);
@@ -305,6 +397,7 @@ static bool prepare_contests(struct dice *d, struct contest *contests)
         set_contest(&contests[FIRST_SINGLE + operation - 1], names[operation - 1], single,
                     ordinary_advances, proved_advances);
     }
+    prepare_list_contests(d, contests);
     return true;
 }
 
