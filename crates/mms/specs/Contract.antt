@@ -1,8 +1,9 @@
--- What the public calls promise, for all words. Rule 8.6: every call answers a pair; these two have no number to give.
+-- What the public calls promise, for all words. Rule 8.6: every call answers a pair; the check and the step have no number to give.
 use mathlib.Core.List.{List}
 use mathlib.Core.Path.{_≡_}
 use Prim.Native.Nat.{_*_, _+_, ℕ}
 use Rattle.mms.specs.declared.Answer.{Answer}
+use Rattle.model.specs.List.Listing.{Lists}
 use Rattle.model.specs.Request.Step.{afterOf, answerOf}
 use Rattle.model.specs.State.Check.{check}
 
@@ -19,6 +20,10 @@ pub record Stepping (t q : List ℕ) (a : Answer) (r : List ℕ) : Type 0 where
   pub answer : a ≡ stepping t q
   pub words : r ≡ afterOf t q
 
+-- Rule 10: the answer a, and the words r that stand in the room afterwards. The tables are only read.
+abbrev pub Listing : List ℕ → ℕ → List ℕ → Answer → List ℕ → Type 0
+Listing t u room a r = Lists t u room (a .no) (a .number) r
+
 -- An answer in one word of 64 bits, as C gets it.
 abbrev pub exported : Answer → ℕ
 exported a = a .no * 4294967296 + a .number
@@ -27,3 +32,9 @@ exported a = a .no * 4294967296 + a .number
 pub record Exporting (t q : List ℕ) (a : ℕ) (r : List ℕ) : Type 0 where
   pub answer : a ≡ exported (stepping t q)
   pub words : r ≡ afterOf t q
+
+-- The list for C.
+pub record ExportingList (t : List ℕ) (u : ℕ) (room : List ℕ) (a : ℕ) (r : List ℕ) : Type 0 where
+  pub answer : Answer
+  pub listed : Listing t u room answer r
+  pub word : a ≡ exported answer

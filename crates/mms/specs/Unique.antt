@@ -1,11 +1,15 @@
 -- No second answer and no second tables satisfy what a public call promises; and what the step promises is the model's own statement of a
 -- step, which names no code.
 use mathlib.Core.List.{List}
-use mathlib.Core.Path.{_∙_, _≡_, sym}
-use Prim.Native.Nat.{_<_, ℕ}
+use mathlib.Core.Path.{_∙_, _≡_, ap, sym}
+use Prim.Native.Nat.{_%_, _*_, _+_, _/_, _<_, ℕ}
 use native.Mathlib.Omega.{arith}
-use Rattle.mms.specs.Contract.{Exporting, Stepping, checking, exported}
+use lib.ListN.{length}
+use Rattle.mms.specs.Contract.{Exporting, ExportingList, Listing, Stepping, checking, exported}
 use Rattle.mms.specs.declared.Answer.{Answer}
+use Rattle.model.specs.List.Complete.{Complete}
+use Rattle.model.specs.List.Listing.{barred, listAnswer, listNumber, opens, roomAfter}
+use Rattle.model.specs.List.ListingLaws.{lists-any, lists-small, lists-unique}
 use Rattle.model.specs.Request.Step.{Settles, afterOf, answerOf}
 use Rattle.model.specs.Theorem.Unique.{settles, settles-unique}
 
@@ -27,6 +31,17 @@ settles-step t q a r z s =
     let u = settles-unique t q (a .no) (answerOf t q) r (afterOf t q) s (settles t q) in
     record { answer = λ i. record { no = u .0 i; number = z i }; words = u .1 }
 
+-- The list has one answer, and leaves one room.
+pub list-unique : (t : List ℕ) (u : ℕ) (room : List ℕ) (a b : Answer) (r s : List ℕ) → Listing t u room a r → Listing t u room b s → (a ≡ b) × (r ≡ s)
+list-unique t u room a b r s x y =
+    let z = lists-unique x y in
+    (λ i. record { no = z .0 i; number = z .1 i }, z .2)
+
+-- Whatever list is complete for the step's own answers, by its length and its words the list is answered.
+pub list-any : (t : List ℕ) (u : ℕ) (room : List ℕ) (a : Answer) (r : List ℕ) → Listing t u room a r → (l : List (List ℕ)) → Complete (opens t u) l
+    → (a .no ≡ listAnswer (barred t u) l (length room)) × (a .number ≡ listNumber (barred t u) l) × (r ≡ roomAfter (a .no) l room)
+list-any t u room a r x l c = lists-any x l c
+
 -- Two answers of 32 bits each are one where C gets one word.
 pub exported-unique : (a b : Answer) → a .number < 4294967296 → b .number < 4294967296 → exported a ≡ exported b → a ≡ b
 exported-unique a b h k e =
@@ -37,3 +52,18 @@ exported-unique a b h k e =
 -- The step for C has one answer, and leaves one list of words.
 pub exported-step-unique : (t q : List ℕ) (a b : ℕ) (r s : List ℕ) → Exporting t q a r → Exporting t q b s → (a ≡ b) × (r ≡ s)
 exported-step-unique t q a b r s x y = (x .answer ∙ sym (y .answer), x .words ∙ sym (y .words))
+
+-- The list for C has one answer, and leaves one room;
+pub exported-list-unique : (t : List ℕ) (u : ℕ) (room : List ℕ) (a b : ℕ) (r s : List ℕ) → ExportingList t u room a r → ExportingList t u room b s
+    → (a ≡ b) × (r ≡ s)
+exported-list-unique t u room a b r s x y =
+    let z = list-unique t u room (x .answer) (y .answer) r s (x .listed) (y .listed) in
+    (x .word ∙ ap (λ (c : Answer). exported c) (z .0) ∙ sym (y .word), z .1)
+
+-- and the pair can be told from the word.
+pub exported-list-parts : (t : List ℕ) (u : ℕ) (room : List ℕ) (a : ℕ) (r : List ℕ) (x : ExportingList t u room a r)
+    → (a / 4294967296 ≡ x .answer .no) × (a % 4294967296 ≡ x .answer .number)
+exported-list-parts t u room a r x =
+    let n = lists-small (x .listed) in
+    let w : a ≡ x .answer .no * 4294967296 + x .answer .number = x .word in
+    (omega arith, omega arith)

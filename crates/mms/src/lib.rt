@@ -1,7 +1,7 @@
 // The desk's public calls, and their C exports. Each takes any words, and none asks anything of them. An answer is a pair: document 01's
-// number, and a count or a place that goes with some of them, which is 0 for these two calls.
+// number, and a count or a place that goes with some of them, which is 0 for the check and the step.
 ghost use mathlib.Core.Path.{_≡_};
-ghost use Rattle.mms.specs.Contract.{Exporting, Stepping, checking, exported};
+ghost use Rattle.mms.specs.Contract.{Exporting, ExportingList, Listing, Stepping, checking, exported};
 
 pub struct Answer {
     pub no: u32,
@@ -22,6 +22,18 @@ pub fn step(tables: &mut [u32], request: &[u32]) -> Answer
 {
     let n = step::step(tables, request);
     Answer { no: n, number: 0 }
+}
+
+// The disclosure list: every reference by which this user's request to show would be accepted, or refused for a full screen only, as entries
+// at the front of the room; with 17 the number of entries that there are, and the room as it was.
+pub fn list(tables: &[u32], user: u32, room: &mut [u32]) -> Answer
+    ensures { λ r. ⌜ Listing (now (tables .entry)) user (now (room .entry)) r (now (room .exit)) ⌝ }
+{
+    let l = disclosure::list(tables, user, room);
+    Answer {
+        no: l.answer,
+        number: l.count,
+    }
 }
 
 // The answer in one word: the number in the upper half, what goes with it in the lower.
@@ -46,5 +58,14 @@ pub extern "C" fn mms_step(tables: &mut [u32], request: &[u32]) -> u64
     ensures { λ r. ⌜ Exporting (now (tables .entry)) (now (request .entry)) r (now (tables .exit)) ⌝ }
 {
     let a = step(tables, request);
+    packed(a.no, a.number)
+}
+
+// `list` for C.
+#[no_mangle]
+pub extern "C" fn mms_list(tables: &[u32], user: u32, room: &mut [u32]) -> u64
+    ensures { λ r. ⌜ ExportingList (now (tables .entry)) user (now (room .entry)) r (now (room .exit)) ⌝ }
+{
+    let a = list(tables, user, room);
     packed(a.no, a.number)
 }

@@ -20,7 +20,7 @@ pub enum Found {
 }
 
 // Whether entity e is marked and level l is not at least its level.
-fn is_bar(t: &[u32], l: Level, e: Entity) -> bool
+pub fn is_bar(t: &[u32], l: Level, e: Entity) -> bool
     requires { ⌜ EntityIn (now t) (e .0) ⌝ }
     ensures { λ r. ⌜ r ≡ bar (tablesOf (now (t .entry))) (l .0) (e .0) ⌝ }
 {

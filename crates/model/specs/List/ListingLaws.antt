@@ -8,7 +8,7 @@ use native.Mathlib.Omega.{arith}
 use lib.Dec.{eqb, leb}
 use lib.ListN.{drop, length}
 use Rattle.model.specs.Basics.Agree.{agrees-eq, agrees-le, agrees-not}
-use Rattle.model.specs.Basics.Choice.{pick}
+use Rattle.model.specs.Basics.Choice.{Same, it, other, pick, same}
 use Rattle.model.specs.Basics.Fails.{fails-agreed, fails-le}
 use Rattle.model.specs.Basics.TestLaws.{fails-false, pick-false, pick-same, pick-true}
 use Rattle.model.specs.List.AdmittedLaws.{barred-admitted, barred-range}
@@ -37,14 +37,18 @@ none-complete t u h = complete-none (opens t u) (λ r low high.
     let e = sym (barred-answer t u r low high h) in
     fails-false (opens t u r) (fails-agreed (opens-agrees t u r) .from (⊎-elim (λ z. h (e ∙ z)) (λ z. omega (arith, barred-range t u, e ∙ z)))))
 
--- An entity has at most eight ways,
-pub ways-few : (d : Tables) → WellFormed d → (u e : ℕ) → ways d u e ≤ placeCount
+-- No more places lead on than are used,
+pub ways-used : (d : Tables) (u e : ℕ) → ways d u e ≤ counts d e
 unfolding ways
-ways-few d w u e = go (bars d (d .user u clearance) (e ∷ []))
+ways-used d u e = go (bars d (d .user u clearance) (e ∷ []))
   where
-    go : (b : Bool) → pick b 0 (counts d e) ≤ placeCount
+    go : (b : Bool) → pick b 0 (counts d e) ≤ counts d e
     go true = omega arith
-    go false = w .entities e .filled .packed .room
+    go false = omega arith
+
+-- which are at most eight,
+pub ways-few : (d : Tables) → WellFormed d → (u e : ℕ) → ways d u e ≤ placeCount
+ways-few d w u e = omega (arith, ways-used d u e, w .entities e .filled .packed .room)
 
 -- so no list is longer than 37,440.
 pub found-bound : (t : List ℕ) (u : ℕ) → barred t u ≡ 0 → length (found (tablesOf t) u) ≤ 37440
@@ -69,6 +73,14 @@ module _ {t : List ℕ} {u : ℕ} {room : List ℕ} where
       let z = lists-any x (y .list) (y .complete) in
       let e = z .0 ∙ sym (y .answer) in
       (e, z .1 ∙ sym (y .number), z .2 ∙ ap (λ (k : ℕ). roomAfter k (y .list) room) e ∙ sym (y .words))
+
+  -- Its number is a small one.
+  pub lists-small : {a n : ℕ} {r : List ℕ} → Lists t u room a n r → n ≤ 37440
+  lists-small {a} {n} x = go (eqb (barred t u) 0) (same (barred t u) 0)
+    where
+      go : (b : Bool) → Same (barred t u) 0 b → n ≤ 37440
+      go true (it h) = omega (arith, lists-any x (found (tablesOf t) u) (found-complete t u h) .1, ap (λ (k : ℕ). listNumber k (found (tablesOf t) u)) h, found-bound t u h)
+      go false (other h) = omega (arith, lists-any x [] (none-complete t u h) .1, pick-same {A = ℕ} (eqb (barred t u) 0) 0)
 
 module _ (t : List ℕ) (u : ℕ) (room : List ℕ) where
   -- Rule 10.2: a refusal 1 to 6 has the number 0, and leaves the room.
@@ -95,7 +107,7 @@ module _ (t : List ℕ) (u : ℕ) (room : List ℕ) where
       sym (pick-true (eqb (barred t u) 0) (pick (leb (entryWords * length l) (length room)) 0 17) (barred t u) f ∙ e)
 
   -- Too little room is answered 17, with the number of entries that there are, and stays as it was.
-  pub lists-short : barred t u ≡ 0 → length room < 5 * length (found (tablesOf t) u) → Lists t u room 17 (length (found (tablesOf t) u)) room
+  pub lists-short : barred t u ≡ 0 → length room < entryWords * length (found (tablesOf t) u) → Lists t u room 17 (length (found (tablesOf t) u)) room
   unfolding l
   lists-short h k = record {
     list = l;
@@ -106,7 +118,7 @@ module _ (t : List ℕ) (u : ℕ) (room : List ℕ) where
   }
 
   -- Rule 10.7: with room enough the entries stand at its front, and the words behind them stay.
-  pub lists-written : (r : List ℕ) → barred t u ≡ 0 → 5 * length (found (tablesOf t) u) ≤ length room
+  pub lists-written : (r : List ℕ) → barred t u ≡ 0 → entryWords * length (found (tablesOf t) u) ≤ length room
       → r ≡ entries (found (tablesOf t) u) ++ drop (length (entries (found (tablesOf t) u))) room → Lists t u room 0 (length (found (tablesOf t) u)) r
   unfolding l
   lists-written r h k e = record {
@@ -118,12 +130,12 @@ module _ (t : List ℕ) (u : ℕ) (room : List ℕ) where
   }
 
   -- The same of a list that the walk is known to find.
-  pub lists-found : (l : List (List ℕ)) → barred t u ≡ 0 → found (tablesOf t) u ≡ l → 5 * length l ≤ length room
+  pub lists-found : (l : List (List ℕ)) → barred t u ≡ 0 → found (tablesOf t) u ≡ l → entryWords * length l ≤ length room
       → Lists t u room 0 (length l) (entries l ++ drop (length (entries l)) room)
   lists-found l h e =
-      subst (λ (k : List (List ℕ)). 5 * length k ≤ length room → Lists t u room 0 (length k) (entries k ++ drop (length (entries k)) room)) e
+      subst (λ (k : List (List ℕ)). entryWords * length k ≤ length room → Lists t u room 0 (length k) (entries k ++ drop (length (entries k)) room)) e
       (λ k. lists-written (entries (found (tablesOf t) u) ++ drop (length (entries (found (tablesOf t) u))) room) h k refl)
 
-  pub lists-found-short : (l : List (List ℕ)) → barred t u ≡ 0 → found (tablesOf t) u ≡ l → length room < 5 * length l
+  pub lists-found-short : (l : List (List ℕ)) → barred t u ≡ 0 → found (tablesOf t) u ≡ l → length room < entryWords * length l
       → Lists t u room 17 (length l) room
-  lists-found-short l h e = subst (λ (k : List (List ℕ)). length room < 5 * length k → Lists t u room 17 (length k) room) e (lists-short h)
+  lists-found-short l h e = subst (λ (k : List (List ℕ)). length room < entryWords * length k → Lists t u room 17 (length k) room) e (lists-short h)

@@ -1,0 +1,76 @@
+// The disclosure list: the refusals that it may give, then the verdicts on the entities, then one walk that counts and, where the room
+// suffices, the same walk again that writes.
+use levels::User;
+ghost use mathlib.Core.Path.{_≡_};
+ghost use Rattle.disclosure.specs.Contract.{Listing};
+ghost use Rattle.model.specs.List.Admitted.{Admitted};
+ghost use Rattle.model.specs.List.Listing.{barred};
+
+mod verdicts;
+mod walk;
+
+// The answer, and how many entries there are; 0 with a refusal that is not for want of room.
+pub struct Listed {
+    pub answer: u32,
+    pub count: u32,
+}
+
+// Refusals 1, 2, 3, 4 and 6, or 0.
+fn admit(t: &[u32], user: u32) -> u32
+    ensures { λ r. ⌜ r ≡ barred (now (t .entry)) user ⌝ }
+{
+    let n = state::checked(t);
+    if n != 0 {
+        return n;
+    }
+    if user < 1 {
+        return 4;
+    }
+    if 16 < user {
+        return 4;
+    }
+    if tables::present(t, User(user)) == 0 {
+        return 4;
+    }
+    if tables::device(t, User(user)).0 == 0 {
+        return 6;
+    }
+    0
+}
+
+// The list of a user who was let in: 17 and nothing written where the room is too short.
+fn disclose(t: &[u32], user: u32, room: &mut [u32]) -> Listed
+    requires { ⌜ barred (now t) user ≡ 0 ⌝ }
+    ensures { λ r. ⌜ Listing (now (t .entry)) user (now (room .entry)) r (now (room .exit)) ⌝ }
+{
+    let mut v = [0u32; 65];
+    verdicts::judge_all(t, User(user), &mut v);
+    let mut none = [0u32; 1];
+    let need = walk::visit_all(t, &v, &mut none);
+    let n = (need / 5) as u32;
+    if room.len() < need {
+        return Listed {
+            answer: 17,
+            count: n,
+        };
+    }
+    walk::visit_all(t, &v, room);
+    Listed {
+        answer: 0,
+        count: n,
+    }
+}
+
+// The list of any words, any number of a user and any room.
+pub fn list(t: &[u32], user: u32, room: &mut [u32]) -> Listed
+    ensures { λ r. ⌜ Listing (now (t .entry)) user (now (room .entry)) r (now (room .exit)) ⌝ }
+{
+    let n = admit(t, user);
+    if n != 0 {
+        return Listed {
+            answer: n,
+            count: 0,
+        };
+    }
+    disclose(t, user, room)
+}

@@ -1,0 +1,67 @@
+// The verdict on each entity, found once however many references come by it: whether it may be shown, and how many of its places lead on.
+use levels::Entity;
+use levels::Level;
+use levels::User;
+ghost use mathlib.Core.Path.{_≡_};
+ghost use Prim.Native.Nat.{_≤_};
+ghost use Rattle.disclosure.specs.Verdicts.{Asker, Judged, verdict};
+ghost use Rattle.model.specs.List.Admitted.{Admitted};
+ghost use Rattle.model.specs.List.Ways.{showable, ways};
+ghost use Rattle.model.specs.Tables.Layout.{tablesOf};
+ghost use Rattle.model.specs.Tables.Words.{entityCount};
+
+// Whether show asks nothing of entity e that it does not meet: it is no device, of a level that the clearance and the screen are at least,
+// and its triples permit it.
+fn is_showable(t: &[u32], u: User, clearance: Level, screen: Level, e: Entity) -> bool
+    requires { ⌜ Asker (now t) (u .0) (clearance .0) (screen .0) × (1 ≤ e .0) × (e .0 ≤ entityCount) ⌝ }
+    ensures { λ r. ⌜ r ≡ showable (tablesOf (now (t .entry))) (u .0) (e .0) ⌝ }
+{
+    if !ladder::kinds::is_entity(t, e) {
+        return false;
+    }
+    let l = tables::level(t, e);
+    if !levels::at_most(l, clearance) {
+        return false;
+    }
+    if !levels::at_most(l, screen) {
+        return false;
+    }
+    reference::is_permitted(t, e, u, 10, 1)
+}
+
+// How many places of entity e lead on: none where it is marked and the clearance is not at least its level.
+fn ways_on(t: &[u32], u: User, clearance: Level, screen: Level, e: Entity) -> u32
+    requires { ⌜ Asker (now t) (u .0) (clearance .0) (screen .0) × (1 ≤ e .0) × (e .0 ≤ entityCount) ⌝ }
+    ensures { λ r. ⌜ r ≡ ways (tablesOf (now (t .entry))) (u .0) (e .0) ⌝ }
+{
+    if reference::is_bar(t, clearance, e) {
+        return 0;
+    }
+    tables::count(t, e)
+}
+
+// Both in one word: twice the places that lead on, and one more where the entity may be shown.
+fn judge(t: &[u32], u: User, clearance: Level, screen: Level, e: Entity) -> u32
+    requires { ⌜ Asker (now t) (u .0) (clearance .0) (screen .0) × (1 ≤ e .0) × (e .0 ≤ entityCount) ⌝ }
+    ensures { λ r. ⌜ r ≡ verdict (tablesOf (now (t .entry))) (u .0) (e .0) ⌝ }
+{
+    let w = ways_on(t, u, clearance, screen, e) * 2;
+    if is_showable(t, u, clearance, screen, e) {
+        return w + 1;
+    }
+    w
+}
+
+// The verdicts on all entities, each at its number.
+pub fn judge_all(t: &[u32], u: User, v: &mut [u32; 65])
+    requires { ⌜ Admitted (now t) (u .0) × Judged (tablesOf (now t)) (u .0) 0 (now v) ⌝ }
+    ensures { λ _. ⌜ Judged (tablesOf (now (t .entry))) (u .0) entityCount (now (v .exit)) ⌝ }
+{
+    let clearance = tables::clearance(t, u);
+    let screen = tables::level(t, tables::device(t, u));
+    let mut i: u32 = 0;
+    while i < 64 {
+        v[i as usize + 1] = judge(t, u, clearance, screen, Entity(i + 1));
+        i += 1;
+    }
+}
