@@ -1,5 +1,5 @@
 -- Rule 10.2: the refusals before the walk, one law for each way in which they end.
-use mathlib.Core.Bool.{Bool, false, not, true}
+use mathlib.Core.Bool.{Bool, false, true}
 use mathlib.Core.List.{List, []}
 use mathlib.Core.Logic.{_≢_}
 use mathlib.Core.Path.{_≡_, refl, subst, sym}
@@ -7,7 +7,6 @@ use Prim.Native.Nat.{ℕ}
 use lib.Dec.{T, eqb}
 use lib.ListN.{length}
 use borrow.Author.Tests.{ne-eqb}
-use Rattle.model.specs.Basics.Choice.{pick}
 use Rattle.model.specs.Basics.Fails.{Fails}
 use Rattle.model.specs.Basics.TestLaws.{fails-false}
 use Rattle.model.specs.List.Listing.{barred, showing}
@@ -29,9 +28,9 @@ not-failing false f h = absurd (h (f .to tt))
 
 module _ (t : List ℕ) (u : ℕ) where
   -- the check refuses
-  pub barred-checked : check t ≢ 0 → check t ≡ barred t u
+  pub barred-condemned : check t ≢ 0 → check t ≡ barred t u
   unfolding barred
-  barred-checked h = rw (ne-eqb (check t) 0 h) refl
+  barred-condemned h = rw (ne-eqb (check t) 0 h) refl
 
   -- rungs 4 and 6 of a request by this user
   q : Request

@@ -1,8 +1,7 @@
 -- The verdicts are what the walk of a user asks of the tables, entity by entity and all together.
 use mathlib.Core.Bool.{Bool, _&&_, false, not, true}
 use mathlib.Core.List.{List, [], _∷_}
-use mathlib.Core.Logic.{_≢_}
-use mathlib.Core.Path.{_∙_, _≡_, ap, refl, subst, sym}
+use mathlib.Core.Path.{_∙_, _≡_, ap, refl, sym}
 use Prim.Native.Nat.{_%_, _*_, _+_, _/_, _<_, _≤_, suc, zero, ℕ}
 use native.Mathlib.Omega.{arith}
 use lib.Dec.{eqb, leb}
@@ -20,13 +19,12 @@ use Rattle.model.specs.List.Ways.{found, showable, ways}
 use Rattle.model.specs.Request.Conditions.{isEntity}
 use Rattle.model.specs.Request.Ladder.{bars}
 use Rattle.model.specs.Request.Reference.{standing}
-use Rattle.model.specs.State.WellFormed.{WellFormed}
 use Rattle.model.specs.Tables.Layout.{tablesOf}
 use Rattle.model.specs.Tables.Words.{Tables, absentKind, clearance, count, counts, devices, entityCount, kinds, level, mark, placeCount, places}
 use Rattle.reference.specs.WayLaws.{wellFormed-ranged}
 use Rattle.reference.specs.Ways.{bar}
 
--- ---- the places that lead on
+-- ---- how a verdict is made
 
 bars-one : (d : Tables) (l e : ℕ) → bars d l (e ∷ []) ≡ bar d l e
 unfolding bars bar
@@ -36,30 +34,21 @@ bars-one d l e = go (not (eqb (d .entity e mark) 0) && not (atMost (d .entity e 
     go true = refl
     go false = refl
 
-module _ (d : Tables) (u e l : ℕ) (c : l ≡ d .user u clearance) where
-  ways-by : ways d u e ≡ pick (bar d l e) 0 (counts d e)
-  unfolding ways
-  ways-by = ap (λ (b : Bool). pick b 0 (counts d e)) (bars-one d (d .user u clearance) e ∙ ap (λ (x : ℕ). bar d x e) (sym c))
+pub bit-small : (b : Bool) → pick b 1 0 ≤ 1
+bit-small true = omega arith
+bit-small false = omega arith
 
-  pub ways-shut : bar d l e ≡ true → 0 ≡ ways d u e
-  ways-shut h = sym (ways-by ∙ ap (λ (b : Bool). pick b 0 (counts d e)) h)
-
-  pub ways-free : bar d l e ≡ false → counts d e ≡ ways d u e
-  ways-free h = sym (ways-by ∙ ap (λ (b : Bool). pick b 0 (counts d e)) h)
+-- a verdict is weighed from whether the way on is shut, how many places are used, and whether the entity may be shown
+pub verdict-weighed : (d : Tables) (u e l : ℕ) (shut : Bool) (used : ℕ) (shown : Bool) → l ≡ d .user u clearance → shut ≡ bar d l e
+    → used ≡ counts d e → shown ≡ showable d u e → pick shut 0 used * 2 + pick shown 1 0 ≡ verdict d u e
+unfolding verdict ways
+verdict-weighed d u e l shut used shown c s n w = rw (s, n, w, c, bars-one d (d .user u clearance) e)
 
 -- the user's screen is an entity
 pub screen-in : (t : List ℕ) (u : ℕ) → Admitted t u → (1 ≤ devices (tablesOf t) u) × (devices (tablesOf t) u ≤ entityCount)
 screen-in t u a = a .good .0 .entityNumbers (devices (tablesOf t) u) (λ q. omega (arith, a .good .0 .links .deviceIs u (a .on)))
 
--- ---- one verdict
-
-pub verdict-yes : (d : Tables) (u e n : ℕ) → n ≡ ways d u e → showable d u e ≡ true → n * 2 + 1 ≡ verdict d u e
-unfolding verdict
-verdict-yes d u e n h s = rw (h, s)
-
-pub verdict-no : (d : Tables) (u e n : ℕ) → n ≡ ways d u e → showable d u e ≡ false → n * 2 ≡ verdict d u e
-unfolding verdict
-verdict-no d u e n h s = rw (h, s) (omega arith)
+-- ---- what a verdict tells
 
 module _ (d : Tables) (u e x : ℕ) (h : x ≡ verdict d u e) where
   told-ways : x / 2 ≡ ways d u e

@@ -3,7 +3,7 @@ use mathlib.Core.Bool.{Bool, false, true}
 use mathlib.Core.List.{List, [], _++_, _∷_, append-nil, map}
 use mathlib.Core.Logic.{_≢_}
 use mathlib.Core.Path.{_∙_, _≡_, ap, refl, subst, sym}
-use Prim.Native.Nat.{_*_, _+_, _-_, _<_, _≤_, pred, suc, zero, ℕ}
+use Prim.Native.Nat.{_*_, _+_, _-_, _<_, _≤_, suc, zero, ℕ}
 use native.Mathlib.Nat.{add-zero}
 use native.Mathlib.Numerals.{add-one}
 use native.Mathlib.Omega.{arith}
@@ -63,9 +63,6 @@ unfolding entries
 here-yes b pre l r i h q =
     visited-as pre l r i (i + 5) (here true) (here b) (ap here (sym h))
     (record { reach = refl; wrote = λ k. q ∙ ap (λ (o : List ℕ). sets l i (entry o)) (sym (append-nil pre)) })
-
-pub here-fits : (b : Bool) (i : ℕ) → b ≡ true → Fits i (here b) → i + 5 ≤ 190000
-here-fits b i h q = omega (arith, ap (λ (x : Bool). length (here x)) h)
 
 -- ---- an entity and its places
 

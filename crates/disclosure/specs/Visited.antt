@@ -1,5 +1,5 @@
 -- What a visit says of the room: how far its entries reach, and what is written where they all fit.
-use mathlib.Core.List.{List, [], _++_, map}
+use mathlib.Core.List.{List, _++_, map}
 use mathlib.Core.Path.{_≡_}
 use Prim.Native.Nat.{_*_, _+_, _≤_, ℕ}
 use lib.ListN.{getD, length}

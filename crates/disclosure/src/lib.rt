@@ -3,7 +3,6 @@
 use levels::User;
 ghost use mathlib.Core.Path.{_≡_};
 ghost use Rattle.disclosure.specs.Contract.{Listing};
-ghost use Rattle.model.specs.List.Admitted.{Admitted};
 ghost use Rattle.model.specs.List.Listing.{barred};
 
 mod verdicts;

@@ -3,12 +3,13 @@ use levels::Entity;
 use levels::Level;
 use levels::User;
 ghost use mathlib.Core.Path.{_≡_};
-ghost use Prim.Native.Nat.{_≤_};
+ghost use Prim.Native.Nat.{_*_, _+_, _≤_};
+ghost use Rattle.model.specs.Basics.Choice.{pick};
 ghost use Rattle.disclosure.specs.Verdicts.{Asker, Judged, verdict};
 ghost use Rattle.model.specs.List.Admitted.{Admitted};
-ghost use Rattle.model.specs.List.Ways.{showable, ways};
+ghost use Rattle.model.specs.List.Ways.{showable};
 ghost use Rattle.model.specs.Tables.Layout.{tablesOf};
-ghost use Rattle.model.specs.Tables.Words.{entityCount};
+ghost use Rattle.model.specs.Tables.Words.{entityCount, placeCount};
 
 // Whether show asks nothing of entity e that it does not meet: it is no device, of a level that the clearance and the screen are at least,
 // and its triples permit it.
@@ -29,27 +30,35 @@ fn is_showable(t: &[u32], u: User, clearance: Level, screen: Level, e: Entity) -
     reference::is_permitted(t, e, u, 10, 1)
 }
 
-// How many places of entity e lead on: none where it is marked and the clearance is not at least its level.
-fn ways_on(t: &[u32], u: User, clearance: Level, screen: Level, e: Entity) -> u32
-    requires { ⌜ Asker (now t) (u .0) (clearance .0) (screen .0) × (1 ≤ e .0) × (e .0 ≤ entityCount) ⌝ }
-    ensures { λ r. ⌜ r ≡ ways (tablesOf (now (t .entry))) (u .0) (e .0) ⌝ }
+// 1 for yes and 0 for no.
+fn bit(yes: bool) -> u32
+    ensures { λ r. ⌜ r ≡ pick yes 1 0 ⌝ }
 {
-    if reference::is_bar(t, clearance, e) {
-        return 0;
+    if yes {
+        return 1;
     }
-    tables::count(t, e)
+    0
 }
 
-// Both in one word: twice the places that lead on, and one more where the entity may be shown.
+// Both in one word: twice the places that lead on, which none does where the way is shut, and one more where the entity may be shown.
+fn weigh(shut: bool, used: u32, shown: bool) -> u32
+    requires { ⌜ used ≤ placeCount ⌝ }
+    ensures { λ r. ⌜ r ≡ pick shut 0 used * 2 + pick shown 1 0 ⌝ }
+{
+    if shut {
+        return bit(shown);
+    }
+    used * 2 + bit(shown)
+}
+
+// The verdict on entity e. The way on is shut where e is marked and the clearance is not at least its level.
 fn judge(t: &[u32], u: User, clearance: Level, screen: Level, e: Entity) -> u32
     requires { ⌜ Asker (now t) (u .0) (clearance .0) (screen .0) × (1 ≤ e .0) × (e .0 ≤ entityCount) ⌝ }
     ensures { λ r. ⌜ r ≡ verdict (tablesOf (now (t .entry))) (u .0) (e .0) ⌝ }
 {
-    let w = ways_on(t, u, clearance, screen, e) * 2;
-    if is_showable(t, u, clearance, screen, e) {
-        return w + 1;
-    }
-    w
+    let shut = reference::is_bar(t, clearance, e);
+    let shown = is_showable(t, u, clearance, screen, e);
+    weigh(shut, tables::count(t, e), shown)
 }
 
 // The verdicts on all entities, each at its number.

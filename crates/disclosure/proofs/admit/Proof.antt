@@ -1,6 +1,6 @@
 use native.Mathlib.Omega.{arith}
 use mathlib.Core.Path.{_∙_, sym}
-use Rattle.disclosure.specs.AdmitLaws.{barred-checked, barred-none, barred-off, barred-unknown, checked-whole}
+use Rattle.disclosure.specs.AdmitLaws.{barred-condemned, barred-none, barred-off, barred-unknown, checked-whole}
 use borrow.Author.Needs.{needs}
 use Rattle.disclosure.proofs.admit.Statement.{statement}
 use Rattle.disclosure.proofs.admit.Tie as tie
@@ -16,7 +16,7 @@ checked-requires c κs = search needs
 
 -- src/lib.rt:24:9
 returns : tie.Need-returns
-returns c = c .before .checked .ensures ∙ barred-checked _ _ (λ q. c .if1 .taken (c .before .checked .ensures ∙ q))
+returns c = c .before .checked .ensures ∙ barred-condemned _ _ (λ q. c .if1 .taken (c .before .checked .ensures ∙ q))
 
 -- src/lib.rt:27:9
 returns-2 : tie.Need-returns-2

@@ -1,39 +1,36 @@
 use native.Mathlib.Omega.{arith}
-use mathlib.Core.Path.{_∙_, sym}
-use Rattle.disclosure.specs.VerdictLaws.{verdict-no, verdict-yes}
-use Rattle.model.specs.List.ListingLaws.{ways-few}
+use mathlib.Core.Path.{_∙_}
+use Rattle.disclosure.specs.VerdictLaws.{verdict-weighed}
 use borrow.Author.Needs.{needs}
 use Rattle.disclosure.proofs.verdicts.judge.Statement.{statement}
 use Rattle.disclosure.proofs.verdicts.judge.Tie as tie
 use Rattle.disclosure.proofs.verdicts.judge.Reads as reads
 use Rattle.disclosure.proofs.verdicts.judge.Lts as lts
 use Rattle.disclosure.proofs.verdicts.is_showable.Reads as is-showable-reads
-use Rattle.disclosure.proofs.verdicts.ways_on.Reads as ways-on-reads
+use Rattle.disclosure.proofs.verdicts.weigh.Reads as weigh-reads
+use Rattle.reference.proofs.is_bar.Reads as is-bar-reads
+use Rattle.tables.proofs.count.Reads as count-reads
 
--- src/verdicts.rt:48:13
-ways-on-requires : tie.Need-ways-on-requires
-ways-on-requires c κs = search needs
+-- src/verdicts.rt:59:9
+is-bar-requires : tie.Need-is-bar-requires
+is-bar-requires c κs = search needs
 
--- src/verdicts.rt:48:13
-mul-w : tie.Need-mul-w
-mul-w c = omega (arith, c .ways-on .ensures, ways-few _ (c .before .before .pre .0 .admitted .good .0) (c .before .before .args .u .0) (c .before .before .args .e .0))
-
--- src/verdicts.rt:49:8
+-- src/verdicts.rt:60:9
 is-showable-requires : tie.Need-is-showable-requires
 is-showable-requires c κs = search needs
 
--- src/verdicts.rt:50:16
-add-result : tie.Need-add-result
-add-result c = omega (arith, c .before .before .ways-on .ensures, ways-few _ (c .before .before .before .before .pre .0 .admitted .good .0) (c .before .before .before .before .args .u .0) (c .before .before .before .before .args .e .0))
+-- src/verdicts.rt:61:17
+count-requires : tie.Need-count-requires
+count-requires c κs = search needs
 
--- src/verdicts.rt:50:9
+-- src/verdicts.rt:61:5
+weigh-requires : tie.Need-weigh-requires
+weigh-requires c κs = omega (arith, c .count .ensures, c .before .before .before .before .pre .0 .admitted .good .0 .entities (c .before .before .before .before .args .e .0) .filled .packed .room)
+
+-- src/verdicts.rt:55:1
 returns : tie.Need-returns
-returns c = verdict-yes _ _ _ _ (c .before .before .ways-on .ensures) (sym (c .before .is-showable .ensures) ∙ c .if1 .taken)
-
--- src/verdicts.rt:44:1
-returns-2 : tie.Need-returns-2
-returns-2 c = verdict-no _ _ _ _ (c .before .before .ways-on .ensures) (sym (c .before .is-showable .ensures) ∙ c .if1 .left)
+returns c = c .weigh .ensures ∙ verdict-weighed _ _ _ _ _ _ _ (c .before .before .before .before .before .pre .0 .clearance) (c .before .before .before .is-bar .ensures) (c .before .count .ensures) (c .before .before .is-showable .ensures)
 
 pub judge-spec : {M : Type 1} → statement M
 judge-spec =
-    tie.close (tie.spec ways-on-requires mul-w is-showable-requires add-result returns returns-2)
+    tie.close (tie.spec is-bar-requires is-showable-requires count-requires weigh-requires returns)

@@ -1,12 +1,10 @@
-use borrow.Author.Needs.{needs}
 use native.Mathlib.Omega.{arith}
-use mathlib.Core.Path.{_∙_, _≡_, ap, subst, sym}
+use mathlib.Core.Path.{_∙_, _≡_, ap, subst}
 use Prim.Native.Nat.{_-_, _≤_, ℕ}
 use Rattle.disclosure.specs.Verdicts.{Judged}
 use Rattle.disclosure.specs.VerdictLaws.{judged-more, screen-in}
 use Rattle.model.specs.Tables.Layout.{tablesOf}
 use Rattle.model.specs.Request.Conditions.{levelOf}
-use Rattle.model.specs.Tables.Words.{entityCount}
 use Rattle.disclosure.proofs.verdicts.judge_all.Statement.{statement}
 use Rattle.disclosure.proofs.verdicts.judge_all.Tie as tie
 use Rattle.disclosure.proofs.verdicts.judge_all.Reads as reads

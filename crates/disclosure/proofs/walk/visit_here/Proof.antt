@@ -1,5 +1,5 @@
 use borrow.Author.Tests.{not-false, not-true}
-use Rattle.disclosure.specs.VisitLaws.{here-fits, here-no, here-past, here-yes}
+use Rattle.disclosure.specs.VisitLaws.{here-no, here-past, here-yes}
 use borrow.Author.Needs.{needs}
 use Rattle.disclosure.proofs.walk.visit_here.Statement.{statement}
 use Rattle.disclosure.proofs.walk.visit_here.Tie as tie
