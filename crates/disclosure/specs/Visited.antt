@@ -31,9 +31,12 @@ pub record Padded (ns : List ℕ) (n : ℕ) : Type 0 where
   pub four : length ns ≡ 4
   pub zeros : (k : ℕ) → n ≤ k → getD ns k 0 ≡ 0
 
--- more words than any list takes, so that no count wraps
+-- as many words as 64 first names with 585 continuations each take: more than any list, and no count of them wraps
+abbrev pub mostWords : ℕ
+mostWords = 187200
+
 abbrev pub Fits : ℕ → List (List ℕ) → Type 0
-Fits i l = i + entryWords * length l ≤ 190000
+Fits i l = i + entryWords * length l ≤ mostWords
 
 -- The entries of l, each begun by pre, reach from word i of the room to word n; where that is within the room, r is the room with their words.
 pub record Visited (pre room : List ℕ) (i : ℕ) (l : List (List ℕ)) (n : ℕ) (r : List ℕ) : Type 0 where
