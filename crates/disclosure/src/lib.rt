@@ -38,12 +38,12 @@ fn admit(t: &[u32], user: u32) -> u32
 }
 
 // The list of a user who was let in: 17 and nothing written where the room is too short.
-fn disclose(t: &[u32], user: u32, room: &mut [u32]) -> Listed
-    requires { ⌜ barred (now t) user ≡ 0 ⌝ }
-    ensures { λ r. ⌜ Listing (now (t .entry)) user (now (room .entry)) r (now (room .exit)) ⌝ }
+fn disclose(t: &[u32], u: User, room: &mut [u32]) -> Listed
+    requires { ⌜ barred (now t) (u .0) ≡ 0 ⌝ }
+    ensures { λ r. ⌜ Listing (now (t .entry)) (u .0) (now (room .entry)) r (now (room .exit)) ⌝ }
 {
     let mut v = [0u32; 65];
-    verdicts::judge_all(t, User(user), &mut v);
+    verdicts::judge_all(t, u, &mut v);
     let mut none = [0u32; 1];
     let need = walk::visit_all(t, &v, &mut none);
     let n = (need / 5) as u32;
@@ -71,5 +71,5 @@ pub fn list(t: &[u32], user: u32, room: &mut [u32]) -> Listed
             count: 0,
         };
     }
-    disclose(t, user, room)
+    disclose(t, User(user), room)
 }

@@ -4,12 +4,15 @@ use levels::Level;
 use levels::User;
 ghost use mathlib.Core.Path.{_≡_};
 ghost use Prim.Native.Nat.{_*_, _+_, _≤_};
-ghost use Rattle.model.specs.Basics.Choice.{pick};
 ghost use Rattle.disclosure.specs.Verdicts.{Asker, Judged, verdict};
+ghost use Rattle.model.specs.Basics.Choice.{pick};
 ghost use Rattle.model.specs.List.Admitted.{Admitted};
 ghost use Rattle.model.specs.List.Ways.{showable};
 ghost use Rattle.model.specs.Tables.Layout.{tablesOf};
 ghost use Rattle.model.specs.Tables.Words.{entityCount, placeCount};
+
+// The operation whose request a list stands for, by its number.
+const SHOW: u32 = 10;
 
 // Whether show asks nothing of entity e that it does not meet: it is no device, of a level that the clearance and the screen are at least,
 // and its triples permit it.
@@ -27,7 +30,7 @@ fn is_showable(t: &[u32], u: User, clearance: Level, screen: Level, e: Entity) -
     if !levels::at_most(l, screen) {
         return false;
     }
-    reference::is_permitted(t, e, u, 10, 1)
+    reference::is_permitted(t, e, u, SHOW, 1)
 }
 
 // 1 for yes and 0 for no.
@@ -40,7 +43,7 @@ fn bit(yes: bool) -> u32
     0
 }
 
-// Both in one word: twice the places that lead on, which none does where the way is shut, and one more where the entity may be shown.
+// Both in one word: twice the places that lead on, which are none where the way is shut, and one more where the entity may be shown.
 fn weigh(shut: bool, used: u32, shown: bool) -> u32
     requires { ⌜ used ≤ placeCount ⌝ }
     ensures { λ r. ⌜ r ≡ pick shut 0 used * 2 + pick shown 1 0 ⌝ }
