@@ -1,7 +1,7 @@
 -- How the list ends: refused, too little room, or written.
-use mathlib.Core.List.{List, [], _++_}
+use mathlib.Core.List.{List, [], _++_, _∷_}
 use mathlib.Core.Logic.{_≢_}
-use mathlib.Core.Path.{_∙_, _≡_, ap, subst, sym}
+use mathlib.Core.Path.{_∙_, _≡_, ap, refl, subst, sym}
 use Prim.Native.Nat.{_*_, _+_, _/_, _<_, _≤_, ℕ}
 use native.Mathlib.Nat.{zero-add}
 use native.Mathlib.Omega.{arith}
@@ -13,7 +13,7 @@ use Rattle.disclosure.specs.Verdicts.{Judged}
 use Rattle.disclosure.specs.Visited.{Visited, entriesOf, followed}
 use Rattle.model.specs.List.AdmittedLaws.{barred-admitted}
 use Rattle.model.specs.List.Listing.{Lists, barred, entries, entryWords}
-use Rattle.model.specs.List.ListingLaws.{found-bound, lists-refused, lists-short, lists-written}
+use Rattle.model.specs.List.ListingLaws.{found-bound, lists-found, lists-refused, lists-short, lists-written}
 use Rattle.model.specs.List.Ways.{found}
 use Rattle.model.specs.Tables.Layout.{tablesOf}
 use Rattle.model.specs.Tables.Words.{entityCount}
@@ -25,6 +25,10 @@ end-refused t u n room e h = subst (λ (m : ℕ). Lists t u room m 0 room) (sym 
 -- entries from the front of a room that they fit into
 stored-front : (l room : List ℕ) → length l ≤ length room → sets room 0 l ≡ l ++ drop (length l) room
 stored-front l room h = sets-eq l room 0 (rw zero-add h) ∙ ap (λ (k : ℕ). l ++ drop k room) (zero-add (length l))
+
+empty : (l : List (List ℕ)) → length l ≡ 0 → l ≡ []
+empty [] h = refl
+empty (r ∷ l) h = absurd (omega arith)
 
 module _ (t : List ℕ) (u : ℕ) (v : List ℕ) (b : barred t u ≡ 0) (j : Judged (tablesOf t) u entityCount v) where
   same-list : followed t v entityCount ≡ found (tablesOf t) u
@@ -40,6 +44,11 @@ module _ (t : List ℕ) (u : ℕ) (v : List ℕ) (b : barred t u ≡ 0) (j : Jud
     -- the count is a word
     pub need-bound : n / 5 ≤ 37440
     need-bound = omega (arith, need-is, found-bound t u b)
+
+    -- there is nothing to list, and any room is enough
+    pub end-none : (room : List ℕ) → n ≡ 0 → Lists t u room 0 0 room
+    unfolding entries
+    end-none room z = lists-found t u room [] b (empty (found (tablesOf t) u) (omega (arith, need-is))) (omega arith)
 
     -- the room is too short
     pub end-short : (room : List ℕ) → length room < n → Lists t u room 17 (n / 5) room

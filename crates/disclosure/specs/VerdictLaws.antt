@@ -9,8 +9,9 @@ use lib.ListN.{List·getD-eq-default, getD, length, length-set, set}
 use lib.Seq.{getD-set-other, getD-set-same}
 use borrow.Author.Tests.{leb-false, leb-true}
 use Rattle.model.specs.List.Admitted.{Admitted}
-use Rattle.disclosure.specs.Verdicts.{Guided, Judged, leads, lists, verdict}
+use Rattle.disclosure.specs.Verdicts.{Guided, Judged, leads, listed, verdict}
 use Rattle.disclosure.specs.Visited.{followed}
+use Rattle.laws.specs.Bools.{only}
 use Rattle.model.specs.Basics.Choice.{Same, it, other, pick, same}
 use Rattle.model.specs.Level.{atMost}
 use Rattle.model.specs.List.ListingLaws.{ways-used}
@@ -28,11 +29,7 @@ use Rattle.reference.specs.Ways.{bar}
 
 bars-one : (d : Tables) (l e : ℕ) → bars d l (e ∷ []) ≡ bar d l e
 unfolding bars bar
-bars-one d l e = go (not (eqb (d .entity e mark) 0) && not (atMost (d .entity e level) l))
-  where
-    go : (b : Bool) → elim b [ true ↦ true | false ↦ false ] ≡ b
-    go true = refl
-    go false = refl
+bars-one d l e = only (not (eqb (d .entity e mark) 0) && not (atMost (d .entity e level) l))
 
 pub bit-small : (b : Bool) → pick b 1 0 ≤ 1
 bit-small true = omega arith
@@ -134,6 +131,6 @@ module _ (t : List ℕ) (u : ℕ) (v : List ℕ) (a : Admitted t u) (j : Judged 
 
   -- the walk by the verdicts is the walk of the user
   pub judged-found : followed t v entityCount ≡ found (tablesOf t) u
-  unfolding d leads lists found
+  unfolding d leads listed found
   judged-found i = walk (λ e. told-ways (tablesOf t) u e (getD v e 0) (word-verdict e) i) (standing (tablesOf t))
       (λ e. told-showable (tablesOf t) u e (getD v e 0) (word-verdict e) i) 3 entityCount

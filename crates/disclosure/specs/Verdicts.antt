@@ -2,7 +2,7 @@
 use mathlib.Core.Bool.{Bool}
 use mathlib.Core.List.{List}
 use mathlib.Core.Path.{_≡_}
-use Prim.Native.Nat.{_%_, _*_, _+_, _/_, _≤_, ℕ}
+use Prim.Native.Nat.{_%_, _*_, _+_, _/_, _≤_, suc, ℕ}
 use lib.Dec.{eqb}
 use lib.ListN.{getD, length}
 use Rattle.model.specs.Basics.Choice.{pick}
@@ -10,7 +10,7 @@ use Rattle.model.specs.List.Admitted.{Admitted}
 use Rattle.model.specs.List.Ways.{showable, ways}
 use Rattle.model.specs.Request.Conditions.{levelOf}
 use Rattle.model.specs.Tables.Layout.{tablesOf, wordCount}
-use Rattle.model.specs.Tables.Words.{Tables, clearance, counts, devices}
+use Rattle.model.specs.Tables.Words.{Tables, clearance, counts, devices, entityCount}
 use Rattle.reference.specs.Ways.{Ranged}
 
 -- the user u is let in, c is the clearance and s the level of the screen
@@ -27,12 +27,12 @@ verdict d u e = ways d u e * 2 + pick (showable d u e) 1 0
 unfoldable pub leads : List ℕ → ℕ → ℕ
 leads v e = getD v e 0 / 2
 
-unfoldable pub lists : List ℕ → ℕ → Bool
-lists v e = eqb (getD v e 0 % 2) 1
+unfoldable pub listed : List ℕ → ℕ → Bool
+listed v e = eqb (getD v e 0 % 2) 1
 
--- v has the verdicts on the entities 1 to n, and none on others
+-- v has the verdicts on the entities 1 to n, each at its number; its word 0 is for no entity
 pub record Judged (d : Tables) (u n : ℕ) (v : List ℕ) : Type 0 where
-  pub size : length v ≡ 65
+  pub size : length v ≡ suc entityCount
   pub first : getD v 0 0 ≡ 0
   pub told : (e : ℕ) → 1 ≤ e → e ≤ n → getD v e 0 ≡ verdict d u e
 
@@ -40,5 +40,5 @@ pub record Judged (d : Tables) (u n : ℕ) (v : List ℕ) : Type 0 where
 pub record Guided (t v : List ℕ) : Type 0 where
   pub whole : length t ≡ wordCount
   pub ranged : Ranged (tablesOf t)
-  pub size : length v ≡ 65
+  pub size : length v ≡ suc entityCount
   pub used : (e : ℕ) → leads v e ≤ counts (tablesOf t) e

@@ -10,7 +10,7 @@ use native.Mathlib.Omega.{arith}
 use lib.ListN.{length, length-append, length-map, set, take}
 use lib.Seq.{sets}
 use Rattle.disclosure.specs.EntryLaws.{entriesOf-under, stored-both, take-more}
-use Rattle.disclosure.specs.Verdicts.{Guided, leads, lists}
+use Rattle.disclosure.specs.Verdicts.{Guided, leads, listed}
 use Rattle.disclosure.specs.Visited.{Fits, Padded, Visited, entriesOf, followed, inside, under}
 use Rattle.model.specs.List.BoundLaws.{through-grows, visit-bound, walk-bound}
 use Rattle.model.specs.List.Listing.{entries, entry, entryWords}
@@ -67,11 +67,11 @@ here-yes b pre l r i h q =
 -- ---- an entity and its places
 
 module _ (t v : List ℕ) where
-  visit-last : (k e : ℕ) → k ≡ 0 → under t v k e ≡ here (lists v e)
+  visit-last : (k e : ℕ) → k ≡ 0 → under t v k e ≡ here (listed v e)
   unfolding visit
   visit-last k e z = rw z refl
 
-  visit-more : (k e : ℕ) → k ≢ 0 → under t v k e ≡ here (lists v e) ++ inside t v (k - 1) e (leads v e)
+  visit-more : (k e : ℕ) → k ≢ 0 → under t v k e ≡ here (listed v e) ++ inside t v (k - 1) e (leads v e)
   unfolding visit
   visit-more zero e z = absurd (z refl)
   visit-more (suc k) e z = let q : suc k - 1 ≡ k = omega arith in rw q refl
@@ -81,23 +81,23 @@ module _ (t v : List ℕ) where
   inside-more k e p = rw add-one refl
 
   -- no name is left
-  pub entity-last : (k e : ℕ) (b : Bool) (pre l r : List ℕ) (i n : ℕ) → k ≡ 0 → b ≡ lists v e → Visited pre l i (here b) n r
+  pub entity-last : (k e : ℕ) (b : Bool) (pre l r : List ℕ) (i n : ℕ) → k ≡ 0 → b ≡ listed v e → Visited pre l i (here b) n r
       → Visited pre l i (under t v k e) n r
   entity-last k e b pre l r i n z s h = visited-as pre l r i n (here b) (under t v k e) (ap here s ∙ sym (visit-last k e z)) h
 
-  pub here-room : (k e : ℕ) (b : Bool) (i : ℕ) → b ≡ lists v e → Fits i (under t v k e) → Fits i (here b)
+  pub here-room : (k e : ℕ) (b : Bool) (i : ℕ) → b ≡ listed v e → Fits i (under t v k e) → Fits i (here b)
   here-room zero e b i s h = let q : length (here b) ≡ length (under t v zero e) = ap (λ (x : Bool). length (here x)) s ∙ ap length (sym (visit-last zero e refl)) in omega arith
   here-room (suc k) e b i s h =
       let z : suc k ≢ 0 = λ q. omega arith in
-      omega (arith, ap (λ (x : Bool). length (here x)) s, ap length (visit-more (suc k) e z), length-append (here (lists v e)) (inside t v (suc k - 1) e (leads v e)))
+      omega (arith, ap (λ (x : Bool). length (here x)) s, ap length (visit-more (suc k) e z), length-append (here (listed v e)) (inside t v (suc k - 1) e (leads v e)))
 
-  module _ (k e m : ℕ) (b : Bool) (z : k ≢ 0) (s : b ≡ lists v e) (w : m ≡ leads v e) where
+  module _ (k e m : ℕ) (b : Bool) (z : k ≢ 0) (s : b ≡ listed v e) (w : m ≡ leads v e) where
     -- names are left: its places follow
     pub entity-more : (pre l x r : List ℕ) (i j n : ℕ) → length x ≡ length l → Visited pre l i (here b) j x → Visited pre x j (inside t v (k - 1) e m) n r
         → Visited pre l i (under t v k e) n r
     entity-more pre l x r i j n c h g =
         visited-as pre l r i n (here b ++ inside t v (k - 1) e m) (under t v k e)
-        (ap (λ (a : Bool). here a ++ inside t v (k - 1) e m) s ∙ ap (λ (a : ℕ). here (lists v e) ++ inside t v (k - 1) e a) w ∙ sym (visit-more k e z))
+        (ap (λ (a : Bool). here a ++ inside t v (k - 1) e m) s ∙ ap (λ (a : ℕ). here (listed v e) ++ inside t v (k - 1) e a) w ∙ sym (visit-more k e z))
         (visited-both pre l x r i j n (here b) (inside t v (k - 1) e m) c h g)
 
     pub places-room : (pre l x : List ℕ) (i j : ℕ) → Visited pre l i (here b) j x → Fits i (under t v k e) → Fits j (inside t v (k - 1) e m)
@@ -106,7 +106,7 @@ module _ (t v : List ℕ) where
         omega (
           arith,
           ap length (visit-more k e z),
-          length-append (here (lists v e)) (inside t v (k - 1) e (leads v e)),
+          length-append (here (listed v e)) (inside t v (k - 1) e (leads v e)),
           ap (λ (a : Bool). length (here a)) s,
           ap (λ (a : ℕ). length (inside t v (k - 1) e a)) w,
         )
@@ -161,7 +161,7 @@ module _ (t v : List ℕ) where
   all-room g p l x i h y =
       let f : i ≡ 0 + entryWords * length (followed t v p) = y .reach in
       let few : (e : ℕ) → leads v e ≤ placeCount = λ e. omega (arith, g .used e, g .ranged .room e) in
-      omega (arith, walk-bound (leads v) (standing (tablesOf t)) (lists v) few p, visit-bound (leads v) (standing (tablesOf t)) (lists v) few (p + 1))
+      omega (arith, walk-bound (leads v) (standing (tablesOf t)) (listed v) few p, visit-bound (leads v) (standing (tablesOf t)) (listed v) few (p + 1))
 
   pub all-done : (p n : ℕ) (l r : List ℕ) (j : ℕ) → p ≡ n → Visited [] l 0 (followed t v p) j r → Visited [] l 0 (followed t v n) j r
   all-done p n l r j h y = visited-as [] l r 0 j (followed t v p) (followed t v n) (ap (followed t v) h) y

@@ -14,7 +14,7 @@ pub struct Listed {
     pub count: u32,
 }
 
-// Refusals 1, 2, 3, 4 and 6, or 0.
+// The lowest of the refusals 1, 2, 3, 4 and 6 that applies, or 0.
 fn admit(t: &[u32], user: u32) -> u32
     ensures { λ r. ⌜ r ≡ barred (now (t .entry)) user ⌝ }
 {
@@ -37,7 +37,7 @@ fn admit(t: &[u32], user: u32) -> u32
     0
 }
 
-// The list of a user who was let in: 17 and nothing written where the room is too short.
+// The list of a user who was let in: 17 and nothing written where the room is too short. A list without entries is not walked a second time.
 fn disclose(t: &[u32], u: User, room: &mut [u32]) -> Listed
     requires { ⌜ barred (now t) (u .0) ≡ 0 ⌝ }
     ensures { λ r. ⌜ Listing (now (t .entry)) (u .0) (now (room .entry)) r (now (room .exit)) ⌝ }
@@ -46,6 +46,12 @@ fn disclose(t: &[u32], u: User, room: &mut [u32]) -> Listed
     verdicts::judge_all(t, u, &mut v);
     let mut none = [0u32; 1];
     let need = walk::visit_all(t, &v, &mut none);
+    if need == 0 {
+        return Listed {
+            answer: 0,
+            count: 0,
+        };
+    }
     let n = (need / 5) as u32;
     if room.len() < need {
         return Listed {

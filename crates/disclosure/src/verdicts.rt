@@ -11,11 +11,11 @@ ghost use Rattle.model.specs.List.Ways.{showable};
 ghost use Rattle.model.specs.Tables.Layout.{tablesOf};
 ghost use Rattle.model.specs.Tables.Words.{entityCount, placeCount};
 
-// The operation whose request a list stands for, by its number.
+// The number of show (rule 6.10).
 const SHOW: u32 = 10;
 
-// Whether show asks nothing of entity e that it does not meet: it is no device, of a level that the clearance and the screen are at least,
-// and its triples permit it.
+// Whether entity e meets all that show asks of it: an object or a container, of a level at most the clearance and at most the screen's, with
+// a triple that permits it.
 fn is_showable(t: &[u32], u: User, clearance: Level, screen: Level, e: Entity) -> bool
     requires { ⌜ Asker (now t) (u .0) (clearance .0) (screen .0) × (1 ≤ e .0) × (e .0 ≤ entityCount) ⌝ }
     ensures { λ r. ⌜ r ≡ showable (tablesOf (now (t .entry))) (u .0) (e .0) ⌝ }

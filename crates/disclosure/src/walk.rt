@@ -1,12 +1,12 @@
-// The walk: it visits an entity, then its places, which visit entities again, with one name fewer left. It says how many words the entries
-// take, and writes each that still fits.
+// The walk: one function looks at an entity, the other goes through its places and hands each back to the first, as long as names are left.
+// It says how many words the entries take, and stores them where they all fit.
 use levels::Entity;
 ghost use mathlib.Core.Path.{_≡_};
 ghost use mathlib.Core.List.{[]};
 ghost use Prim.Native.Nat.{_+_, _-_, _<_, _≤_};
 ghost use lib.ListN.{length, take};
 ghost use lib.Seq.{sets};
-ghost use Rattle.disclosure.specs.Visited.{Fits, Padded, Visited, followed, inside, under};
+ghost use Rattle.disclosure.specs.Visited.{Arrived, Fits, Padded, Visited, followed, inside, under};
 ghost use Rattle.disclosure.specs.Verdicts.{Guided, leads};
 ghost use Rattle.model.specs.List.Listing.{entry};
 ghost use Rattle.model.specs.List.Walk.{here};
@@ -24,7 +24,8 @@ fn put_entry(left: usize, names: [u32; 4], room: &mut [u32], at: usize)
     room[at + 4] = names[3];
 }
 
-// Where the next entry goes; the entry itself is stored if it is to be listed and still fits.
+// Where the next entry goes. The entry itself is stored if it is to be listed and fits; where not all entries fit, nothing is promised of the
+// room.
 fn visit_here(shown: bool, left: usize, names: [u32; 4], room: &mut [u32], at: usize) -> usize
     requires { ⌜ (left ≤ 3) × Padded names (4 - left) × Fits at (here shown) ⌝ }
     ensures { λ r. ⌜ Visited (take (4 - left) names) (now (room .entry)) at (here shown) r (now (room .exit)) ⌝ }
@@ -50,7 +51,7 @@ fn visit_entity(
     room: &mut [u32],
     at: usize,
 ) -> usize
-    requires { ⌜ Guided (now t) (now v) × (1 ≤ e .0) × (e .0 ≤ entityCount) × (left ≤ 3) × Padded names (4 - left) × Fits at (under (now t) (now v) left (e .0)) ⌝ }
+    requires { ⌜ Arrived (now t) (now v) (e .0) left names × Fits at (under (now t) (now v) left (e .0)) ⌝ }
     ensures { λ r. ⌜ Visited (take (4 - left) names) (now (room .entry)) at (under (now (t .entry)) (now (v .entry)) left (e .0)) r (now (room .exit)) ⌝ }
 {
     let w = v[e.0 as usize];
@@ -72,7 +73,7 @@ fn visit_places(
     room: &mut [u32],
     at: usize,
 ) -> usize
-    requires { ⌜ Guided (now t) (now v) × (1 ≤ e .0) × (e .0 ≤ entityCount) × (n ≡ leads (now v) (e .0)) × (0 < left) × (left ≤ 3) × Padded names (4 - left) × Fits at (inside (now t) (now v) (left - 1) (e .0) n) ⌝ }
+    requires { ⌜ Arrived (now t) (now v) (e .0) left names × (0 < left) × (n ≡ leads (now v) (e .0)) × Fits at (inside (now t) (now v) (left - 1) (e .0) n) ⌝ }
     ensures { λ r. ⌜ Visited (take (4 - left) names) (now (room .entry)) at (inside (now (t .entry)) (now (v .entry)) (left - 1) (e .0) n) r (now (room .exit)) ⌝ }
 {
     let mut i = at;

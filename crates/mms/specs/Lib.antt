@@ -1,3 +1,4 @@
--- What the public calls promise, and that nothing else satisfies it.
+-- What the public calls promise, that nothing else satisfies it, and what the list answers on S1.
 pub mod Contract
 pub mod Unique
+pub mod Cases

@@ -10,39 +10,30 @@ use Rattle.state.proofs.checked.Reads as checked-reads
 use Rattle.tables.proofs.device.Reads as device-reads
 use Rattle.tables.proofs.present.Reads as present-reads
 
--- src/lib.rt:22:9
 checked-requires : tie.Need-checked-requires
 checked-requires c κs = search needs
 
--- src/lib.rt:24:9
 returns : tie.Need-returns
 returns c = c .before .checked .ensures ∙ barred-condemned _ _ (λ q. c .if1 .taken (c .before .checked .ensures ∙ q))
 
--- src/lib.rt:27:9
 returns-2 : tie.Need-returns-2
 returns-2 c = barred-unknown _ _ (sym (c .before .before .checked .ensures) ∙ c .before .if1 .left) (λ k. omega (arith, k .low, c .if2 .taken))
 
--- src/lib.rt:30:9
 returns-3 : tie.Need-returns-3
 returns-3 c = barred-unknown _ _ (sym (c .before .before .before .checked .ensures) ∙ c .before .before .if1 .left) (λ k. omega (arith, k .high, c .if3 .taken))
 
--- src/lib.rt:32:8
 present-requires : tie.Need-present-requires
 present-requires c κs = (checked-whole _ (c .before .before .before .before .before .args .user) (sym (c .before .before .before .checked .ensures) ∙ c .before .before .if1 .left), c .before .if2 .left, c .if3 .left)
 
--- src/lib.rt:33:9
 returns-4 : tie.Need-returns-4
 returns-4 c = barred-unknown _ _ (sym (c .before .before .before .before .before .checked .ensures) ∙ c .before .before .before .before .if1 .left) (λ k. k .there (sym (c .before .present .ensures) ∙ c .if4 .taken))
 
--- src/lib.rt:35:8
 device-requires : tie.Need-device-requires
 device-requires c κs = (checked-whole _ (c .before .before .before .before .before .before .before .args .user) (sym (c .before .before .before .before .before .checked .ensures) ∙ c .before .before .before .before .if1 .left), c .before .before .before .if2 .left, c .before .before .if3 .left)
 
--- src/lib.rt:36:9
 returns-5 : tie.Need-returns-5
 returns-5 c = barred-off _ _ (sym (c .before .before .before .before .before .before .before .before .checked .ensures) ∙ c .before .before .before .before .before .before .before .if1 .left) record { low = c .before .before .before .before .before .before .if2 .left; high = c .before .before .before .before .before .if3 .left; there = λ q. c .before .before .before .if4 .left (c .before .before .before .before .present .ensures ∙ q) } (sym (c .before .before .device .ensures) ∙ c .if5 .taken)
 
--- src/lib.rt:19:1
 returns-6 : tie.Need-returns-6
 returns-6 c = barred-none _ _ (sym (c .before .before .before .before .before .before .before .before .checked .ensures) ∙ c .before .before .before .before .before .before .before .if1 .left) record { low = c .before .before .before .before .before .before .if2 .left; high = c .before .before .before .before .before .if3 .left; there = λ q. c .before .before .before .if4 .left (c .before .before .before .before .present .ensures ∙ q) } (λ q. c .if5 .left (c .before .before .device .ensures ∙ q))
 

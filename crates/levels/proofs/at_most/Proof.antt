@@ -6,11 +6,9 @@ use Rattle.levels.proofs.at_most.Reads as reads
 use Rattle.levels.proofs.at_most.Lts as lts
 use Rattle.levels.proofs.within.Reads as within-reads
 
--- src/lib.rt:48:28
 within-requires : tie.Need-within-requires
 within-requires c κs = search needs
 
--- src/lib.rt:43:1
 returns : tie.Need-returns
 unfolding atMost atMostOver rank
 returns c = rw (c .within .ensures)

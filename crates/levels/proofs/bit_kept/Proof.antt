@@ -6,15 +6,12 @@ use Rattle.levels.proofs.bit_kept.Reads as reads
 use Rattle.levels.proofs.bit_kept.Lts as lts
 use Rattle.levels.proofs.has_bit.Reads as has-bit-reads
 
--- src/lib.rt:29:6
 has-bit-requires : tie.Need-has-bit-requires
 has-bit-requires c κs = search needs
 
--- src/lib.rt:29:22
 has-bit-requires-2 : tie.Need-has-bit-requires-2
 has-bit-requires-2 c κs = search needs
 
--- src/lib.rt:25:1
 returns : tie.Need-returns
 returns c = rw (c .before .has-bit .ensures, c .has-bit2 .ensures) (or-imp _ _)
 

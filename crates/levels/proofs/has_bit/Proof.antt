@@ -6,11 +6,9 @@ use Rattle.levels.proofs.has_bit.Tie as tie
 use Rattle.levels.proofs.has_bit.Reads as reads
 use Rattle.levels.proofs.has_bit.Lts as lts
 
--- src/lib.rt:21:6
 shr-result : tie.Need-shr-result
 shr-result c = search needs
 
--- src/lib.rt:17:1
 returns : tie.Need-returns
 unfolding bit
 returns c = refl

@@ -6,11 +6,9 @@ use Rattle.levels.proofs.lower.Reads as reads
 use Rattle.levels.proofs.lower.Lts as lts
 use Rattle.levels.proofs.at_most.Reads as at-most-reads
 
--- src/lib.rt:55:5
 at-most-requires : tie.Need-at-most-requires
 at-most-requires c κs = search needs
 
--- src/lib.rt:52:1
 returns : tie.Need-returns
 unfolding lower
 returns c = rw (c .before .before .at-most .ensures)

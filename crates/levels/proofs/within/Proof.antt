@@ -8,39 +8,30 @@ use Rattle.levels.proofs.within.Reads as reads
 use Rattle.levels.proofs.within.Lts as lts
 use Rattle.levels.proofs.bit_kept.Reads as bit-kept-reads
 
--- src/lib.rt:36:5
 bit-kept-requires : tie.Need-bit-kept-requires
 bit-kept-requires c κs = search needs
 
--- src/lib.rt:37:12
 bit-kept-requires-2 : tie.Need-bit-kept-requires-2
 bit-kept-requires-2 c κs = search needs
 
--- src/lib.rt:38:16
 bit-kept-requires-3 : tie.Need-bit-kept-requires-3
 bit-kept-requires-3 c κs = search needs
 
--- src/lib.rt:39:20
 bit-kept-requires-4 : tie.Need-bit-kept-requires-4
 bit-kept-requires-4 c κs = search needs
 
--- src/lib.rt:39:41
 bit-kept-requires-5 : tie.Need-bit-kept-requires-5
 bit-kept-requires-5 c κs = search needs
 
--- src/lib.rt:39:62
 bit-kept-requires-6 : tie.Need-bit-kept-requires-6
 bit-kept-requires-6 c κs = search needs
 
--- src/lib.rt:39:83
 bit-kept-requires-7 : tie.Need-bit-kept-requires-7
 bit-kept-requires-7 c κs = search needs
 
--- src/lib.rt:39:103
 bit-kept-requires-8 : tie.Need-bit-kept-requires-8
 bit-kept-requires-8 c κs = search needs
 
--- src/lib.rt:33:1
 returns : tie.Need-returns
 unfolding subset every
 returns c = rw (c .before .before .before .before .before .before .before .bit-kept .ensures, c .before .before .before .before .before .before .bit-kept2 .ensures, c .before .before .before .before .before .bit-kept3 .ensures, c .before .before .before .before .bit-kept4 .ensures, c .before .before .before .bit-kept5 .ensures, c .before .before .bit-kept6 .ensures, c .before .bit-kept7 .ensures, c .bit-kept8 .ensures, and-true)

@@ -7,11 +7,9 @@ use Rattle.mms.proofs.check.Reads as reads
 use Rattle.mms.proofs.check.Lts as lts
 use Rattle.state.proofs.checked.Reads as checked-reads
 
--- src/lib.rt:15:9
 checked-requires : tie.Need-checked-requires
 checked-requires c κs = search needs
 
--- src/lib.rt:12:1
 returns : tie.Need-returns
 returns c = ap (λ (n : ℕ). record { no = n; number = 0 }) (c .checked .ensures)
 

@@ -8,15 +8,12 @@ use Rattle.mms.proofs.mms_check.Lts as lts
 use Rattle.mms.proofs.check.Reads as check-reads
 use Rattle.mms.proofs.packed.Reads as packed-reads
 
--- src/lib.rt:39:9
 check-requires : tie.Need-check-requires
 check-requires c κs = search needs
 
--- src/lib.rt:40:5
 packed-requires : tie.Need-packed-requires
 packed-requires c κs = search needs
 
--- src/lib.rt:35:1
 returns : tie.Need-returns
 returns c = c .packed .ensures ∙ ap exported (c .before .check .ensures)
 

@@ -8,19 +8,15 @@ use Rattle.mms.proofs.mms_step.Lts as lts
 use Rattle.mms.proofs.packed.Reads as packed-reads
 use Rattle.mms.proofs.step.Reads as step-reads
 
--- src/lib.rt:48:9
 step-requires : tie.Need-step-requires
 step-requires c κs = search needs
 
--- src/lib.rt:49:5
 packed-requires : tie.Need-packed-requires
 packed-requires c κs = search needs
 
--- src/lib.rt:44:1
 same-length : tie.Need-same-length
 same-length c = search needs
 
--- src/lib.rt:44:1
 returns : tie.Need-returns
 returns c = record { answer = c .packed .ensures ∙ ap exported (c .before .before .before .step .ensures .answer); words = c .before .before .before .step .ensures .words }
 

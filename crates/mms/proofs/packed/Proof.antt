@@ -5,15 +5,12 @@ use Rattle.mms.proofs.packed.Tie as tie
 use Rattle.mms.proofs.packed.Reads as reads
 use Rattle.mms.proofs.packed.Lts as lts
 
--- src/lib.rt:43:5
 mul-result : tie.Need-mul-result
 mul-result c = search needs
 
--- src/lib.rt:43:5
 add-result : tie.Need-add-result
 add-result c = search needs
 
--- src/lib.rt:40:1
 returns : tie.Need-returns
 returns c = refl
 

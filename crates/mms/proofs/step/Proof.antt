@@ -7,15 +7,12 @@ use Rattle.mms.proofs.step.Reads as reads
 use Rattle.mms.proofs.step.Lts as lts
 use Rattle.step.proofs.step.Reads as step-reads
 
--- src/lib.rt:23:9
 step-requires : tie.Need-step-requires
 step-requires c κs = search needs
 
--- src/lib.rt:20:1
 same-length : tie.Need-same-length
 same-length c = search needs
 
--- src/lib.rt:20:1
 returns : tie.Need-returns
 returns c = record { answer = ap (λ (n : ℕ). record { no = n; number = 0 }) (c .before .before .step .ensures .answer); words = c .before .before .step .ensures .words }
 

@@ -13,87 +13,66 @@ use Rattle.op_places.proofs.places.vacant.Reads as vacant-reads
 use Rattle.tables.proofs.count.Reads as count-reads
 use Rattle.tables.proofs.level.Reads as level-reads
 
--- src/lib.rt:17:9
 is-container-requires : tie.Need-is-container-requires
 is-container-requires c κs = search needs
 
--- src/lib.rt:18:9
 refuse-requires : tie.Need-refuse-requires
 refuse-requires c κs = create-kind _ _ _ _ (c .before .before .before .before .before .before .pre .0) (c .before .before .before .before .before .before .pre .1) _ (c .before .before .is-container .ensures) (c .before .if1 .taken)
 
--- src/lib.rt:18:9
 same-length : tie.Need-same-length
 same-length c = search needs
 
--- src/lib.rt:18:9
 returns : tie.Need-returns
 returns c = search needs
 
--- src/lib.rt:20:31
 shared-slice-read-if3 : tie.Need-shared-slice-read-if3
 shared-slice-read-if3 c = search needs
 
--- src/lib.rt:20:39
 level-requires : tie.Need-level-requires
 level-requires c κs = search needs
 
--- src/lib.rt:20:9
 at-most-requires : tie.Need-at-most-requires
 at-most-requires c κs = search needs
 
--- src/lib.rt:21:9
 refuse-requires-2 : tie.Need-refuse-requires-2
 refuse-requires-2 c κs = create-above _ _ _ _ (c .before .before .before .before .before .before .before .before .before .before .before .pre .0) (c .before .before .before .before .before .before .before .before .before .before .before .pre .1) _ (c .before .before .before .before .before .before .before .is-container .ensures) (c .before .before .before .before .before .before .if1 .left) _ _ (c .before .before .before .level .ensures) (c .before .before .at-most .ensures) (c .before .if2 .taken)
 
--- src/lib.rt:21:9
 same-length-2 : tie.Need-same-length-2
 same-length-2 c = search needs
 
--- src/lib.rt:21:9
 returns-2 : tie.Need-returns-2
 returns-2 c = search needs
 
--- src/lib.rt:23:9
 vacant-requires : tie.Need-vacant-requires
 vacant-requires c κs = search needs
 
--- src/lib.rt:24:25
 count-requires : tie.Need-count-requires
 count-requires c κs = search needs
 
--- src/lib.rt:25:9
 refuse-requires-3 : tie.Need-refuse-requires-3
 refuse-requires-3 c κs = create-full _ _ _ _ (c .before .before .before .before .before .before .before .before .before .before .before .before .before .before .before .before .pre .0) (c .before .before .before .before .before .before .before .before .before .before .before .before .before .before .before .before .pre .1) _ (c .before .before .before .before .before .before .before .before .before .before .before .before .is-container .ensures) (c .before .before .before .before .before .before .before .before .before .before .before .if1 .left) _ _ (c .before .before .before .before .before .before .before .before .level .ensures) (c .before .before .before .before .before .before .before .at-most .ensures) (c .before .before .before .before .before .before .if2 .left) _ _ (c .before .before .before .before .vacant .ensures) (c .before .before .count .ensures) (c .before .if3 .taken)
 
--- src/lib.rt:25:9
 same-length-3 : tie.Need-same-length-3
 same-length-3 c = search needs
 
--- src/lib.rt:25:9
 returns-3 : tie.Need-returns-3
 returns-3 c = search needs
 
--- src/lib.rt:27:36
 shared-slice-read-bear : tie.Need-shared-slice-read-bear
 shared-slice-read-bear c = search needs
 
--- src/lib.rt:27:49
 shared-slice-read-t33 : tie.Need-shared-slice-read-t33
 shared-slice-read-t33 c = search needs
 
--- src/lib.rt:27:5
 bear-requires : tie.Need-bear-requires
 bear-requires c κs = let r = new-in _ _ _ _ (c .before .before .before .before .before .before .before .before .before .before .before .before .before .before .before .before .before .before .pre .0) (c .before .before .before .before .before .before .before .before .before .before .before .before .before .before .before .before .before .before .pre .1) _ (c .before .before .before .before .before .before .before .before .before .before .before .before .before .before .is-container .ensures) (c .before .before .before .before .before .before .before .before .before .before .before .before .before .if1 .left) _ _ (c .before .before .before .before .before .before .before .before .before .before .level .ensures) (c .before .before .before .before .before .before .before .before .before .at-most .ensures) (c .before .before .before .before .before .before .before .before .if2 .left) _ _ (c .before .before .before .before .before .before .vacant .ensures) (c .before .before .before .before .count .ensures) (c .before .before .before .if3 .left) in search needs
 
--- src/lib.rt:28:5
 put-last-requires : tie.Need-put-last-requires
 put-last-requires c κs = (search needs, create-room _ _ _ _ (c .before .before .before .before .before .before .before .before .before .before .before .before .before .before .before .before .before .before .before .before .before .before .pre .0) (c .before .before .before .before .before .before .before .before .before .before .before .before .before .before .before .before .before .before .before .before .before .before .pre .1) _ (c .before .before .before .before .before .before .before .before .before .before .before .before .before .before .before .before .before .before .is-container .ensures) (c .before .before .before .before .before .before .before .before .before .before .before .before .before .before .before .before .before .if1 .left) _ _ (c .before .before .before .before .before .before .before .before .before .before .before .before .before .before .level .ensures) (c .before .before .before .before .before .before .before .before .before .before .before .before .before .at-most .ensures) (c .before .before .before .before .before .before .before .before .before .before .before .before .if2 .left) _ _ (c .before .before .before .before .before .before .before .before .before .before .vacant .ensures) (c .before .before .before .before .before .before .before .before .count .ensures) (c .before .before .before .before .before .before .before .if3 .left) _ (c .before .before .before .bear .ensures), create-unshown _ _ _ _ (c .before .before .before .before .before .before .before .before .before .before .before .before .before .before .before .before .before .before .before .before .before .before .pre .0) (c .before .before .before .before .before .before .before .before .before .before .before .before .before .before .before .before .before .before .before .before .before .before .pre .1) _ (c .before .before .before .before .before .before .before .before .before .before .before .before .before .before .before .before .before .before .is-container .ensures) (c .before .before .before .before .before .before .before .before .before .before .before .before .before .before .before .before .before .if1 .left) _ _ (c .before .before .before .before .before .before .before .before .before .before .before .before .before .before .level .ensures) (c .before .before .before .before .before .before .before .before .before .before .before .before .before .at-most .ensures) (c .before .before .before .before .before .before .before .before .before .before .before .before .if2 .left) _ _ (c .before .before .before .before .before .before .before .before .before .before .vacant .ensures) (c .before .before .before .before .before .before .before .before .count .ensures) (c .before .before .before .before .before .before .before .if3 .left) _ (c .before .before .before .bear .ensures))
 
--- src/lib.rt:13:1
 same-length-4 : tie.Need-same-length-4
 same-length-4 c = search needs
 
--- src/lib.rt:13:1
 returns-4 : tie.Need-returns-4
 returns-4 c = created _ _ _ _ (c .before .before .before .before .before .before .before .before .before .before .before .before .before .before .before .before .before .before .before .before .before .before .before .before .before .pre .0) (c .before .before .before .before .before .before .before .before .before .before .before .before .before .before .before .before .before .before .before .before .before .before .before .before .before .pre .1) _ (c .before .before .before .before .before .before .before .before .before .before .before .before .before .before .before .before .before .before .before .before .before .is-container .ensures) (c .before .before .before .before .before .before .before .before .before .before .before .before .before .before .before .before .before .before .before .before .if1 .left) _ _ (c .before .before .before .before .before .before .before .before .before .before .before .before .before .before .before .before .before .level .ensures) (c .before .before .before .before .before .before .before .before .before .before .before .before .before .before .before .before .at-most .ensures) (c .before .before .before .before .before .before .before .before .before .before .before .before .before .before .before .if2 .left) _ _ (c .before .before .before .before .before .before .before .before .before .before .before .before .before .vacant .ensures) (c .before .before .before .before .before .before .before .before .before .before .before .count .ensures) (c .before .before .before .before .before .before .before .before .before .before .if3 .left) _ _ (c .before .before .before .before .before .before .bear .ensures) (c .before .before .put-last .ensures)
 

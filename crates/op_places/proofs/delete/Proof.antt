@@ -14,63 +14,48 @@ use Rattle.op_places.proofs.places.on_screen.Reads as on-screen-reads
 use Rattle.tables.proofs.count.Reads as count-reads
 use Rattle.tables.proofs.type_of.Reads as type-of-reads
 
--- src/lib.rt:37:9
 is-entity-requires : tie.Need-is-entity-requires
 is-entity-requires c κs = search needs
 
--- src/lib.rt:38:9
 refuse-requires : tie.Need-refuse-requires
 refuse-requires c κs = delete-kind _ _ _ _ (c .before .before .before .before .before .before .pre .0) (c .before .before .before .before .before .before .pre .1) _ (c .before .before .is-entity .ensures) (c .before .if1 .taken)
 
--- src/lib.rt:38:9
 same-length : tie.Need-same-length
 same-length c = search needs
 
--- src/lib.rt:38:9
 returns : tie.Need-returns
 returns c = search needs
 
--- src/lib.rt:40:10
 count-requires : tie.Need-count-requires
 count-requires c κs = search needs
 
--- src/lib.rt:40:39
 on-screen-requires : tie.Need-on-screen-requires
 on-screen-requires c κs = (search needs, wellFormed-ranged _ (c .before .before .before .before .before .before .before .before .pre .0 .climbed .ready .good .0))
 
--- src/lib.rt:40:66
 type-of-requires : tie.Need-type-of-requires
 type-of-requires c κs = search needs
 
--- src/lib.rt:41:9
 refuse-requires-2 : tie.Need-refuse-requires-2
 refuse-requires-2 c κs = delete-forbidden _ _ _ _ (c .before .before .before .before .before .before .before .before .before .before .before .before .before .pre .0) (c .before .before .before .before .before .before .before .before .before .before .before .before .before .pre .1) _ (c .before .before .before .before .before .before .before .before .before .is-entity .ensures) (c .before .before .before .before .before .before .before .before .if1 .left) _ _ _ (c .before .before .before .before .before .before .count .ensures) (c .before .before .before .before .on-screen .ensures) (c .before .before .type-of .ensures) (c .before .if2 .taken)
 
--- src/lib.rt:41:9
 same-length-2 : tie.Need-same-length-2
 same-length-2 c = search needs
 
--- src/lib.rt:41:9
 returns-2 : tie.Need-returns-2
 returns-2 c = search needs
 
--- src/lib.rt:43:23
 holder-requires : tie.Need-holder-requires
 holder-requires c κs = (search needs, wellFormed-ranged _ (c .before .before .before .before .before .before .before .before .before .before .before .before .before .before .pre .0 .climbed .ready .good .0))
 
--- src/lib.rt:43:5
 leave-requires : tie.Need-leave-requires
 leave-requires c κs = search needs
 
--- src/lib.rt:44:5
 erase-requires : tie.Need-erase-requires
 erase-requires c κs = search needs
 
--- src/lib.rt:33:1
 same-length-3 : tie.Need-same-length-3
 same-length-3 c = search needs
 
--- src/lib.rt:33:1
 returns-3 : tie.Need-returns-3
 returns-3 c = deleted _ _ _ _ (c .before .before .before .before .before .before .before .before .before .before .before .before .before .before .before .before .before .before .before .before .before .before .pre .0) (c .before .before .before .before .before .before .before .before .before .before .before .before .before .before .before .before .before .before .before .before .before .before .pre .1) _ (c .before .before .before .before .before .before .before .before .before .before .before .before .before .before .before .before .before .before .is-entity .ensures) (c .before .before .before .before .before .before .before .before .before .before .before .before .before .before .before .before .before .if1 .left) _ _ _ (c .before .before .before .before .before .before .before .before .before .before .before .before .before .before .before .count .ensures) (c .before .before .before .before .before .before .before .before .before .before .before .before .before .on-screen .ensures) (c .before .before .before .before .before .before .before .before .before .before .before .type-of .ensures) (c .before .before .before .before .before .before .before .before .before .before .if2 .left) _ _ (c .before .before .before .before .before .before .leave .ensures) (c .before .before .erase .ensures)
 

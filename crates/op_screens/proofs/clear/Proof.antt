@@ -8,19 +8,15 @@ use Rattle.op_screens.proofs.clear.Lts as lts
 use Rattle.op_screens.proofs.empty.Reads as empty-reads
 use Rattle.tables.proofs.device.Reads as device-reads
 
--- src/lib.rt:70:14
 device-requires : tie.Need-device-requires
 device-requires c κs = search needs
 
--- src/lib.rt:70:5
 empty-requires : tie.Need-empty-requires
 empty-requires c κs = device-in _ _ _ _ (c .before .before .before .before .before .pre) refl _ (c .device .ensures)
 
--- src/lib.rt:66:1
 same-length : tie.Need-same-length
 same-length c = search needs
 
--- src/lib.rt:66:1
 returns : tie.Need-returns
 returns c = clear-done _ _ _ _ _ (c .before .before .before .before .before .before .before .before .pre) (c .before .before .before .device .ensures) (c .before .before .empty .ensures)
 

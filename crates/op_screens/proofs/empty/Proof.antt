@@ -20,39 +20,30 @@ Inv-loop t₀ v i₀ t i = (length t ≡ wordCount) × (i ≤ 8) × (tablesOf t 
 abbrev μ-loop : tie.MeasureT-loop
 μ-loop t₀ v i₀ t i = 8 - i
 
--- src/lib.rt:32:5
 loop-holds : tie.Need-loop-holds Inv-loop μ-loop
 loop-holds c = (omega arith, omega arith, wipe-none _ _)
 
--- src/lib.rt:33:9
 set-place-requires : tie.Need-set-place-requires Inv-loop μ-loop
 set-place-requires c κs = search needs
 
--- src/lib.rt:34:9
 set-shown-requires : tie.Need-set-shown-requires Inv-loop μ-loop
 set-shown-requires c κs = search needs
 
--- src/lib.rt:35:9
 add-i : tie.Need-add-i Inv-loop μ-loop
 add-i c = omega arith
 
--- src/lib.rt:32:5
 loop-less : tie.Need-loop-less Inv-loop μ-loop
 loop-less c = omega arith
 
--- src/lib.rt:32:5
 loop-again : tie.Need-loop-again Inv-loop μ-loop
 loop-again c = (search needs, omega arith, c .before .before .set-shown .ensures ∙ wipe-more _ _ _ _ _ (c .before .before .before .before .before .before .before .before .before .loop .inv .2) (c .before .before .before .before .before .before .set-place .ensures))
 
--- src/lib.rt:37:5
 set-count-requires : tie.Need-set-count-requires Inv-loop μ-loop
 set-count-requires c κs = search needs
 
--- src/lib.rt:27:1
 same-length : tie.Need-same-length Inv-loop μ-loop
 same-length c = search needs
 
--- src/lib.rt:27:1
 returns : tie.Need-returns Inv-loop μ-loop
 returns c = let z : c .before .before .before .before .before .loop .i ≡ 8 = omega arith in c .before .before .set-count .ensures ∙ wipe-all _ _ _ (rw z at (c .before .before .before .before .before .loop .inv .2))
 

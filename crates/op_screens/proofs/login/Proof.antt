@@ -11,51 +11,39 @@ use Rattle.state.proofs.nobody_on.Reads as nobody-on-reads
 use Rattle.tables.proofs.device.Reads as device-reads
 use Rattle.tables.proofs.set_device.Reads as set-device-reads
 
--- src/lib.rt:79:9
 is-device-requires : tie.Need-is-device-requires
 is-device-requires c κs = search needs
 
--- src/lib.rt:80:9
 refuse-requires : tie.Need-refuse-requires
 refuse-requires c κs = login-wrong _ _ _ _ (c .before .before .before .before .before .before .pre) _ (c .before .before .is-device .ensures) (not-true _ (c .before .if1 .taken))
 
--- src/lib.rt:80:9
 same-length : tie.Need-same-length
 same-length c = search needs
 
--- src/lib.rt:80:9
 returns : tie.Need-returns
 returns c = search needs
 
--- src/lib.rt:82:10
 device-requires : tie.Need-device-requires
 device-requires c κs = search needs
 
--- src/lib.rt:82:42
 nobody-on-requires : tie.Need-nobody-on-requires
 nobody-on-requires c κs = search needs
 
--- src/lib.rt:83:9
 refuse-requires-2 : tie.Need-refuse-requires-2
 refuse-requires-2 c κs = login-taken _ _ _ _ (c .before .before .before .before .before .before .before .before .before .before .before .before .pre) _ (c .before .before .before .before .before .before .before .before .is-device .ensures) (not-false _ (c .before .before .before .before .before .before .before .if1 .left)) _ (c .before .before .before .before .before .device .ensures) _ (c .before .before .nobody-on .ensures) (c .before .if2 .taken)
 
--- src/lib.rt:83:9
 same-length-2 : tie.Need-same-length-2
 same-length-2 c = search needs
 
--- src/lib.rt:83:9
 returns-2 : tie.Need-returns-2
 returns-2 c = search needs
 
--- src/lib.rt:85:5
 set-device-requires : tie.Need-set-device-requires
 set-device-requires c κs = search needs
 
--- src/lib.rt:75:1
 same-length-3 : tie.Need-same-length-3
 same-length-3 c = search needs
 
--- src/lib.rt:75:1
 returns-3 : tie.Need-returns-3
 returns-3 c = login-done _ _ _ _ (c .before .before .before .before .before .before .before .before .before .before .before .before .before .before .before .pre) _ (c .before .before .before .before .before .before .before .before .before .before .before .is-device .ensures) (not-false _ (c .before .before .before .before .before .before .before .before .before .before .if1 .left)) _ (c .before .before .before .before .before .before .before .before .device .ensures) _ (c .before .before .before .before .before .nobody-on .ensures) _ (c .before .before .before .before .if2 .left) (c .before .before .set-device .ensures)
 

@@ -10,27 +10,21 @@ use Rattle.tables.proofs.device.Reads as device-reads
 use Rattle.tables.proofs.set_current.Reads as set-current-reads
 use Rattle.tables.proofs.set_device.Reads as set-device-reads
 
--- src/lib.rt:94:14
 device-requires : tie.Need-device-requires
 device-requires c κs = search needs
 
--- src/lib.rt:94:5
 empty-requires : tie.Need-empty-requires
 empty-requires c κs = device-in _ _ _ _ (c .before .before .before .before .before .pre) refl _ (c .device .ensures)
 
--- src/lib.rt:95:5
 set-device-requires : tie.Need-set-device-requires
 set-device-requires c κs = search needs
 
--- src/lib.rt:96:5
 set-current-requires : tie.Need-set-current-requires
 set-current-requires c κs = search needs
 
--- src/lib.rt:90:1
 same-length : tie.Need-same-length
 same-length c = search needs
 
--- src/lib.rt:90:1
 returns : tie.Need-returns
 returns c = logout-done _ _ _ _ _ (c .before .before .before .before .before .before .before .before .before .before .before .before .before .before .before .before .pre) (c .before .before .before .before .before .before .before .before .before .before .before .device .ensures) _ _ (c .before .before .before .before .before .before .before .before .before .before .empty .ensures) (c .before .before .before .before .before .before .set-device .ensures) (c .before .before .set-current .ensures)
 

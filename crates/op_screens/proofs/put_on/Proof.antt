@@ -10,35 +10,27 @@ use Rattle.tables.proofs.set_count.Reads as set-count-reads
 use Rattle.tables.proofs.set_place.Reads as set-place-reads
 use Rattle.tables.proofs.set_shown.Reads as set-shown-reads
 
--- src/lib.rt:18:5
 set-shown-requires : tie.Need-set-shown-requires
 set-shown-requires c κs = search needs
 
--- src/lib.rt:20:9
 same-length : tie.Need-same-length
 same-length c = search needs
 
--- src/lib.rt:20:9
 returns : tie.Need-returns
 returns c = c .before .before .before .set-shown .ensures ∙ put-again _ _ _ _ _ _ (c .before .before .before .before .before .before .pre .1) (c .before .before .before .before .before .before .pre .2) (omega arith)
 
--- src/lib.rt:22:5
 set-place-requires : tie.Need-set-place-requires
 set-place-requires c κs = search needs
 
--- src/lib.rt:23:29
 add-set-count : tie.Need-add-set-count
 add-set-count c = search needs
 
--- src/lib.rt:23:5
 set-count-requires : tie.Need-set-count-requires
 set-count-requires c κs = search needs
 
--- src/lib.rt:14:1
 same-length-2 : tie.Need-same-length-2
 same-length-2 c = search needs
 
--- src/lib.rt:14:1
 returns-2 : tie.Need-returns-2
 returns-2 c = c .before .before .set-count .ensures ∙ rw (c .before .before .before .before .before .before .set-place .ensures, c .before .before .before .before .before .before .before .before .before .before .before .set-shown .ensures) (put-new _ _ _ _ _ _ (c .before .before .before .before .before .before .before .before .before .before .before .before .before .before .pre .1) (c .before .before .before .before .before .before .before .before .before .before .before .before .before .before .pre .2) (omega arith))
 

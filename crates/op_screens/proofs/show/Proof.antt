@@ -19,111 +19,84 @@ use Rattle.tables.proofs.count.Reads as count-reads
 use Rattle.tables.proofs.device.Reads as device-reads
 use Rattle.tables.proofs.level.Reads as level-reads
 
--- src/lib.rt:45:9
 is-entity-requires : tie.Need-is-entity-requires
 is-entity-requires c κs = search needs
 
--- src/lib.rt:46:9
 refuse-requires : tie.Need-refuse-requires
 refuse-requires c κs = show-wrong _ _ _ _ (c .before .before .before .before .before .before .pre) _ (c .before .before .is-entity .ensures) (not-true _ (c .before .if1 .taken))
 
--- src/lib.rt:46:9
 same-length : tie.Need-same-length
 same-length c = search needs
 
--- src/lib.rt:46:9
 returns : tie.Need-returns
 returns c = search needs
 
--- src/lib.rt:48:9
 device-requires : tie.Need-device-requires
 device-requires c κs = search needs
 
--- src/lib.rt:49:9
 level-requires : tie.Need-level-requires
 level-requires c κs = search needs
 
--- src/lib.rt:50:28
 clearance-requires : tie.Need-clearance-requires
 clearance-requires c κs = search needs
 
--- src/lib.rt:50:9
 at-most-requires : tie.Need-at-most-requires
 at-most-requires c κs = search needs
 
--- src/lib.rt:50:75
 level-requires-2 : tie.Need-level-requires-2
 level-requires-2 c κs = device-in _ _ _ _ (c .before .before .before .before .before .before .before .before .before .before .before .before .before .pre .0) refl _ (c .before .before .before .before .before .before .device .ensures)
 
--- src/lib.rt:50:56
 at-most-requires-2 : tie.Need-at-most-requires-2
 at-most-requires-2 c κs = search needs
 
--- src/lib.rt:51:9
 refuse-requires-2 : tie.Need-refuse-requires-2
 refuse-requires-2 c κs = show-above _ _ _ _ (c .before .before .before .before .before .before .before .before .before .before .before .before .before .before .before .before .before .pre) _ (c .before .before .before .before .before .before .before .before .before .before .before .before .before .is-entity .ensures) (not-false _ (c .before .before .before .before .before .before .before .before .before .before .before .before .if1 .left)) _ _ _ _ _ _ (c .before .before .before .before .before .before .before .before .before .before .device .ensures) (c .before .before .before .before .before .before .before .before .level .ensures) (c .before .before .before .before .before .before .clearance .ensures) (c .before .before .before .level2 .ensures) (c .before .before .before .before .before .at-most .ensures) (c .before .before .at-most2 .ensures) (c .before .if2 .taken)
 
--- src/lib.rt:51:9
 same-length-2 : tie.Need-same-length-2
 same-length-2 c = search needs
 
--- src/lib.rt:51:9
 returns-2 : tie.Need-returns-2
 returns-2 c = search needs
 
--- src/lib.rt:53:9
 count-requires : tie.Need-count-requires
 count-requires c κs = device-in _ _ _ _ (c .before .before .before .before .before .before .before .before .before .before .before .before .before .before .before .before .before .pre .0) refl _ (c .before .before .before .before .before .before .before .before .before .before .device .ensures)
 
--- src/lib.rt:54:9
 place-of-requires : tie.Need-place-of-requires
 place-of-requires c κs = (device-in _ _ _ _ (c .before .before .before .before .before .before .before .before .before .before .before .before .before .before .before .before .before .before .before .pre .0) refl _ (c .before .before .before .before .before .before .before .before .before .before .before .before .device .ensures), count-in _ _ _ (c .before .before .before .before .before .before .before .before .before .before .before .before .before .before .before .before .before .before .before .pre .0) _ _ (c .before .count .ensures))
 
--- src/lib.rt:56:9
 refuse-requires-3 : tie.Need-refuse-requires-3
 refuse-requires-3 c κs = show-full _ _ _ _ (c .before .before .before .before .before .before .before .before .before .before .before .before .before .before .before .before .before .before .before .before .before .before .pre) _ (c .before .before .before .before .before .before .before .before .before .before .before .before .before .before .before .before .before .before .is-entity .ensures) (not-false _ (c .before .before .before .before .before .before .before .before .before .before .before .before .before .before .before .before .before .if1 .left)) _ _ _ _ _ _ (c .before .before .before .before .before .before .before .before .before .before .before .before .before .before .before .device .ensures) (c .before .before .before .before .before .before .before .before .before .before .before .before .before .level .ensures) (c .before .before .before .before .before .before .before .before .before .before .before .clearance .ensures) (c .before .before .before .before .before .before .before .before .level2 .ensures) (c .before .before .before .before .before .before .before .before .before .before .at-most .ensures) (c .before .before .before .before .before .before .before .at-most2 .ensures) (c .before .before .before .before .before .before .if2 .left) _ _ (c .before .before .before .before .count .ensures) (c .before .before .place-of .ensures) (c .before .if3 .taken)
 
--- src/lib.rt:56:9
 same-length-3 : tie.Need-same-length-3
 same-length-3 c = search needs
 
--- src/lib.rt:56:9
 returns-3 : tie.Need-returns-3
 returns-3 c = search needs
 
--- src/lib.rt:58:28
 shared-slice-read-is-labelled : tie.Need-shared-slice-read-is-labelled
 shared-slice-read-is-labelled c = omega (arith, c .before .before .before .before .before .before .before .before .before .before .before .before .before .before .before .before .before .before .before .before .before .before .pre .0 .climbed .ready .request)
 
--- src/lib.rt:58:9
 is-labelled-requires : tie.Need-is-labelled-requires
 is-labelled-requires c κs = search needs
 
--- src/lib.rt:59:9
 refuse-requires-4 : tie.Need-refuse-requires-4
 refuse-requires-4 c κs = show-bare _ _ _ _ (c .before .before .before .before .before .before .before .before .before .before .before .before .before .before .before .before .before .before .before .before .before .before .before .before .before .pre) _ (c .before .before .before .before .before .before .before .before .before .before .before .before .before .before .before .before .before .before .before .before .before .is-entity .ensures) (not-false _ (c .before .before .before .before .before .before .before .before .before .before .before .before .before .before .before .before .before .before .before .before .if1 .left)) _ _ _ _ _ _ (c .before .before .before .before .before .before .before .before .before .before .before .before .before .before .before .before .before .before .device .ensures) (c .before .before .before .before .before .before .before .before .before .before .before .before .before .before .before .before .level .ensures) (c .before .before .before .before .before .before .before .before .before .before .before .before .before .before .clearance .ensures) (c .before .before .before .before .before .before .before .before .before .before .before .level2 .ensures) (c .before .before .before .before .before .before .before .before .before .before .before .before .before .at-most .ensures) (c .before .before .before .before .before .before .before .before .before .before .at-most2 .ensures) (c .before .before .before .before .before .before .before .before .before .if2 .left) _ _ (c .before .before .before .before .before .before .before .count .ensures) (c .before .before .before .before .before .place-of .ensures) (c .before .before .before .before .if3 .left) _ (c .before .before .is-labelled .ensures) (not-true _ (c .before .if4 .taken))
 
--- src/lib.rt:59:9
 same-length-4 : tie.Need-same-length-4
 same-length-4 c = search needs
 
--- src/lib.rt:59:9
 returns-4 : tie.Need-returns-4
 returns-4 c = search needs
 
--- src/lib.rt:61:21
 shared-slice-read-put-on : tie.Need-shared-slice-read-put-on
 shared-slice-read-put-on c = omega (arith, c .before .before .before .before .before .before .before .before .before .before .before .before .before .before .before .before .before .before .before .before .before .before .before .before .before .before .pre .0 .climbed .ready .request)
 
--- src/lib.rt:61:5
 put-on-requires : tie.Need-put-on-requires
 put-on-requires c κs = (device-in _ _ _ _ (c .before .before .before .before .before .before .before .before .before .before .before .before .before .before .before .before .before .before .before .before .before .before .before .before .before .before .pre .0) refl _ (c .before .before .before .before .before .before .before .before .before .before .before .before .before .before .before .before .before .before .before .device .ensures), c .before .before .before .before .before .before .before .before .count .ensures, c .before .before .before .before .before .before .place-of .ensures ∙ rw (c .before .before .before .before .before .before .before .before .count .ensures), room-in _ _ _ _ (count-in _ _ _ (c .before .before .before .before .before .before .before .before .before .before .before .before .before .before .before .before .before .before .before .before .before .before .before .before .before .before .pre .0) _ _ (c .before .before .before .before .before .before .before .before .count .ensures)) (c .before .before .before .before .before .before .place-of .ensures) (c .before .before .before .before .before .if3 .left))
 
--- src/lib.rt:41:1
 same-length-5 : tie.Need-same-length-5
 same-length-5 c = search needs
 
--- src/lib.rt:41:1
 returns-5 : tie.Need-returns-5
 returns-5 c = show-done _ _ _ _ (c .before .before .before .before .before .before .before .before .before .before .before .before .before .before .before .before .before .before .before .before .before .before .before .before .before .before .before .before .before .pre) _ (c .before .before .before .before .before .before .before .before .before .before .before .before .before .before .before .before .before .before .before .before .before .before .before .before .before .is-entity .ensures) (not-false _ (c .before .before .before .before .before .before .before .before .before .before .before .before .before .before .before .before .before .before .before .before .before .before .before .before .if1 .left)) _ _ _ _ _ _ (c .before .before .before .before .before .before .before .before .before .before .before .before .before .before .before .before .before .before .before .before .before .before .device .ensures) (c .before .before .before .before .before .before .before .before .before .before .before .before .before .before .before .before .before .before .before .before .level .ensures) (c .before .before .before .before .before .before .before .before .before .before .before .before .before .before .before .before .before .before .clearance .ensures) (c .before .before .before .before .before .before .before .before .before .before .before .before .before .before .before .level2 .ensures) (c .before .before .before .before .before .before .before .before .before .before .before .before .before .before .before .before .before .at-most .ensures) (c .before .before .before .before .before .before .before .before .before .before .before .before .before .before .at-most2 .ensures) (c .before .before .before .before .before .before .before .before .before .before .before .before .before .if2 .left) _ _ (c .before .before .before .before .before .before .before .before .before .before .before .count .ensures) (c .before .before .before .before .before .before .before .before .before .place-of .ensures) (c .before .before .before .before .before .before .before .before .if3 .left) _ (c .before .before .before .before .before .before .is-labelled .ensures) _ (not-false _ (c .before .before .before .before .before .if4 .left)) (c .before .before .put-on .ensures)
 

@@ -31,51 +31,39 @@ follow-below t = and 2 follow-kinds.ps (falls 2 follow-kinds.ps _<_ μ-follow t)
 abbrev follow-calls : ℕ → follow-lts.Claims
 follow-calls t = (count-reads.Asked, count-reads.Learnt, place-reads.Asked, place-reads.Learnt, is-bar-reads.Asked, is-bar-reads.Learnt, follow-below t, follow.Post)
 
--- src/lib.rt:40:9
 follow-returns : (t : ℕ) → follow-lts.Need-returns (follow-calls t) (follow-at t) follow.Post
 follow-returns t c = follow-end _ (c .before .before .before .args .l .0) (c .before .before .before .args .e) (c .before .before .before .args .clear) _ (c .before .before .before .pre .1 .0 .1) (c .if1 .taken)
 
--- src/lib.rt:42:13
 follow-shared-slice-read-p : (t : ℕ) → follow-lts.Need-shared-slice-read-p (follow-calls t) (follow-at t) follow.Post
 follow-shared-slice-read-p t c = search needs
 
--- src/lib.rt:44:9
 follow-returns-2 : (t : ℕ) → follow-lts.Need-returns-2 (follow-calls t) (follow-at t) follow.Post
 follow-returns-2 t c = follow-stop _ (c .before .before .before .before .before .args .l .0) (c .before .before .before .before .before .args .e .0) (c .before .before .before .before .before .args .clear) _ (c .before .before .if1 .left) (λ z. omega (arith, z .0, c .if2 .taken))
 
--- src/lib.rt:46:8
 follow-count-requires : (t : ℕ) → follow-lts.Need-count-requires (follow-calls t) (follow-at t) follow.Post
 follow-count-requires t c κs = c .before .before .before .before .before .pre .1 .0
 
--- src/lib.rt:47:9
 follow-returns-3 : (t : ℕ) → follow-lts.Need-returns-3 (follow-calls t) (follow-at t) follow.Post
 follow-returns-3 t c = follow-stop _ (c .before .before .before .before .before .before .before .args .l .0) (c .before .before .before .before .before .before .before .args .e .0) (c .before .before .before .before .before .before .before .args .clear) _ (c .before .before .before .before .if1 .left) (λ z. omega (arith, z .1, c .if3 .taken, c .before .count .ensures))
 
--- src/lib.rt:49:9
 follow-place-requires : (t : ℕ) → follow-lts.Need-place-requires (follow-calls t) (follow-at t) follow.Post
 follow-place-requires t c κs = (c .before .before .before .before .before .before .before .pre .1 .0, omega (arith, c .before .before .before .before .before .before .before .pre .1 .1 .room (c .before .before .before .before .before .before .before .args .e .0), c .if3 .left, c .before .count .ensures, c .before .before .if2 .left))
 
--- src/lib.rt:50:22
 follow-is-bar-requires : (t : ℕ) → follow-lts.Need-is-bar-requires (follow-calls t) (follow-at t) follow.Post
 follow-is-bar-requires t c κs = let r = c .before .before .before .before .before .before .before .before .pre .1 .1 in let i : getD (c .before .before .before .before .before .before .before .before .args .names .now) 0 0 - 1 < counts (tablesOf (c .before .before .before .before .before .before .before .before .args .t .now)) (c .before .before .before .before .before .before .before .before .args .e .0) = omega (arith, c .before .if3 .left, c .before .before .count .ensures, c .before .before .before .if2 .left) in let l = r .low _ _ i in let h = r .high _ _ i in (c .before .before .before .before .before .before .before .before .pre .1 .0 .0, omega (arith, c .place .ensures, l, c .before .before .before .before .before .before .before .before .pre .1 .0 .1), omega (arith, c .place .ensures, h, c .before .before .before .before .before .before .before .before .pre .1 .0 .2))
 
--- src/lib.rt:51:24
 follow-sub-follow : (t : ℕ) → follow-lts.Need-sub-follow (follow-calls t) (follow-at t) follow.Post
 follow-sub-follow t c = search needs
 
--- src/lib.rt:51:24
 follow-part-follow-start : (t : ℕ) → follow-lts.Need-part-follow-start (follow-calls t) (follow-at t) follow.Post
 follow-part-follow-start t c = search needs
 
--- src/lib.rt:51:24
 follow-part-follow-end : (t : ℕ) → follow-lts.Need-part-follow-end (follow-calls t) (follow-at t) follow.Post
 follow-part-follow-end t c = search needs
 
--- src/lib.rt:51:5
 follow-follow-requires : (t : ℕ) → follow-lts.Need-follow-requires (follow-calls t) (follow-at t) follow.Post
 follow-follow-requires t c κs = let r = c .before .before .before .before .before .before .before .before .before .before .pre .1 .1 in let i : getD (c .before .before .before .before .before .before .before .before .before .before .args .names .now) 0 0 - 1 < counts (tablesOf (c .before .before .before .before .before .before .before .before .before .before .args .t .now)) (c .before .before .before .before .before .before .before .before .before .before .args .e .0) = omega (arith, c .before .before .before .if3 .left, c .before .before .before .before .count .ensures, c .before .before .before .before .before .if2 .left) in (omega (arith, c .before .before .before .before .before .before .before .before .before .before .pre .0, c .follow-arg .given .2, pos-of-ne-zero (c .before .before .before .before .before .before .before .if1 .left)), ((c .before .before .before .before .before .before .before .before .before .before .pre .1 .0 .0, rw (c .before .before .place .ensures) (r .low _ _ i), rw (c .before .before .place .ensures) (r .high _ _ i)), r))
 
--- src/lib.rt:35:1
 follow-returns-4 : (t : ℕ) → follow-lts.Need-returns-4 (follow-calls t) (follow-at t) follow.Post
 follow-returns-4 t c = c .follow .ensures ∙ rw (c .before .before .is-bar .ensures) (follow-on _ (c .before .before .before .before .before .before .before .before .before .before .before .args .l .0) (c .before .before .before .before .before .before .before .before .before .before .before .args .e .0) (c .before .before .before .place .result .0) (c .before .before .before .before .before .before .before .before .before .before .before .args .clear) _ (c .before .before .before .before .before .before .before .before .if1 .left) (c .before .before .before .before .before .before .if2 .left) (omega (arith, c .before .before .before .before .if3 .left, c .before .before .before .before .before .count .ensures)) (c .before .before .before .place .ensures))
 

@@ -22,31 +22,24 @@ Inv-loop t e u roles key i₀ i = (i ≤ 8) × (every i (λ k. not (admits (u .0
 abbrev μ-loop : tie.MeasureT-loop
 μ-loop t e u roles key i₀ i = 8 - i
 
--- src/lib.rt:110:5
 loop-holds : tie.Need-loop-holds Inv-loop μ-loop
 loop-holds c = (omega arith, every-none _)
 
--- src/lib.rt:111:13
 shuts-requires : tie.Need-shuts-requires Inv-loop μ-loop
 shuts-requires c κs = search needs
 
--- src/lib.rt:112:13
 returns : tie.Need-returns Inv-loop μ-loop
 returns c = every-fails 8 _ _ (c .before .before .loop-test .taken) (sym (c .before .shuts .ensures) ∙ not-true _ (c .if1 .taken))
 
--- src/lib.rt:114:9
 add-i : tie.Need-add-i Inv-loop μ-loop
 add-i c = omega arith
 
--- src/lib.rt:110:5
 loop-less : tie.Need-loop-less Inv-loop μ-loop
 loop-less c = omega arith
 
--- src/lib.rt:110:5
 loop-again : tie.Need-loop-again Inv-loop μ-loop
 loop-again c = (omega arith, every-more _ _ (c .before .before .before .loop .inv .1) (sym (c .before .shuts .ensures) ∙ not-false _ (c .if1 .left)))
 
--- src/lib.rt:105:1
 returns-2 : tie.Need-returns-2 Inv-loop μ-loop
 returns-2 c = every-done _ 8 _ (c .before .loop .inv .1) (omega arith) (omega arith)
 

@@ -8,31 +8,25 @@ use Rattle.reference.proofs.is_admitted.Reads as reads
 use Rattle.reference.proofs.is_admitted.Lts as lts
 use Rattle.levels.proofs.has_bit.Reads as has-bit-reads
 
--- src/lib.rt:81:9
 returns : tie.Need-returns
 unfolding admits
 returns c = rw (ne-eqb (c .before .args .x % 65536) (c .before .args .key) (c .if1 .taken))
 
--- src/lib.rt:85:9
 returns-2 : tie.Need-returns-2
 unfolding admits
 returns-2 c = rw (eq-eqb (c .before .before .before .args .x % 65536) (c .before .before .before .args .key) (c .before .before .if1 .left), eq-eqb (c .before .before .before .args .x / 65536) (c .before .before .before .args .u .0) (c .if2 .taken))
 
--- src/lib.rt:88:9
 returns-3 : tie.Need-returns-3
 unfolding admits
 returns-3 c = rw (eq-eqb (c .before .before .before .before .args .x % 65536) (c .before .before .before .before .args .key) (c .before .before .before .if1 .left), ne-eqb (c .before .before .before .before .args .x / 65536) (c .before .before .before .before .args .u .0) (c .before .if2 .left), lt-leb 17 (c .before .before .before .before .args .x / 65536) (c .if3 .taken))
 
--- src/lib.rt:91:9
 returns-4 : tie.Need-returns-4
 unfolding admits
 returns-4 c = rw (eq-eqb (c .before .before .before .before .before .args .x % 65536) (c .before .before .before .before .before .args .key) (c .before .before .before .before .if1 .left), ne-eqb (c .before .before .before .before .before .args .x / 65536) (c .before .before .before .before .before .args .u .0) (c .before .before .if2 .left), le-leb 17 (c .before .before .before .before .before .args .x / 65536) (c .before .if3 .left), lt-leb (c .before .before .before .before .before .args .x / 65536) 24 (c .if4 .taken))
 
--- src/lib.rt:93:5
 has-bit-requires : tie.Need-has-bit-requires
 has-bit-requires c κs = search needs
 
--- src/lib.rt:77:1
 returns-5 : tie.Need-returns-5
 unfolding admits
 returns-5 c = rw (c .has-bit .ensures, eq-eqb (c .before .before .before .before .before .before .args .x % 65536) (c .before .before .before .before .before .before .args .key) (c .before .before .before .before .before .if1 .left), ne-eqb (c .before .before .before .before .before .before .args .x / 65536) (c .before .before .before .before .before .before .args .u .0) (c .before .before .before .if2 .left), le-leb 17 (c .before .before .before .before .before .before .args .x / 65536) (c .before .before .if3 .left), le-leb (c .before .before .before .before .before .before .args .x / 65536) 24 (c .before .if4 .left))

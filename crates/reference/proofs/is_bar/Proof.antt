@@ -10,24 +10,19 @@ use Rattle.levels.proofs.at_most.Reads as at-most-reads
 use Rattle.tables.proofs.level.Reads as level-reads
 use Rattle.tables.proofs.mark.Reads as mark-reads
 
--- src/lib.rt:28:8
 mark-requires : tie.Need-mark-requires
 mark-requires c κs = search needs
 
--- src/lib.rt:29:9
 returns : tie.Need-returns
 unfolding bar
 returns c = rw (← c .before .mark .ensures, eq-eqb (c .before .mark .result) 0 (c .if1 .taken))
 
--- src/lib.rt:31:22
 level-requires : tie.Need-level-requires
 level-requires c κs = search needs
 
--- src/lib.rt:31:6
 at-most-requires : tie.Need-at-most-requires
 at-most-requires c κs = search needs
 
--- src/lib.rt:24:1
 returns-2 : tie.Need-returns-2
 unfolding bar
 returns-2 c = rw (c .at-most .ensures, c .before .level .ensures, ← c .before .before .before .mark .ensures, ne-eqb (c .before .before .before .mark .result) 0 (c .before .before .if1 .left))

@@ -7,23 +7,18 @@ use Rattle.reference.proofs.is_permitted.Lts as lts
 use Rattle.reference.proofs.all_shut.Reads as all-shut-reads
 use Rattle.tables.proofs.current.Reads as current-reads
 
--- src/lib.rt:124:24
 current-requires : tie.Need-current-requires
 current-requires c κs = search needs
 
--- src/lib.rt:124:47
 mul-all-shut : tie.Need-mul-all-shut
 mul-all-shut c = search needs
 
--- src/lib.rt:124:47
 add-all-shut : tie.Need-add-all-shut
 add-all-shut c = search needs
 
--- src/lib.rt:124:6
 all-shut-requires : tie.Need-all-shut-requires
 all-shut-requires c κs = search needs
 
--- src/lib.rt:120:1
 returns : tie.Need-returns
 returns c = rw (c .all-shut .ensures, c .before .current .ensures) (permits-some _ (c .before .before .before .args .u .0) (c .before .before .before .args .op) (c .before .before .before .args .position) (c .before .before .before .args .e .0) (c .before .before .before .pre .2) (c .before .before .before .pre .3))
 

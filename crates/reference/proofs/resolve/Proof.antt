@@ -9,47 +9,36 @@ use Rattle.reference.proofs.resolve.Lts as lts
 use Rattle.reference.proofs.follow.Reads as follow-reads
 use Rattle.tables.proofs.kind.Reads as kind-reads
 
--- src/lib.rt:59:13
 shared-slice-read-n : tie.Need-shared-slice-read-n
 shared-slice-read-n c = search needs
 
--- src/lib.rt:61:9
 returns : tie.Need-returns
 returns c = resolve-stop _ (c .before .before .before .before .args .l .0) _ (c .before .before .before .before .pre .2) (λ z. omega (arith, z .low, c .if1 .taken))
 
--- src/lib.rt:64:9
 returns-2 : tie.Need-returns-2
 returns-2 c = resolve-stop _ (c .before .before .before .before .before .args .l .0) _ (c .before .before .before .before .before .pre .2) (λ z. omega (arith, z .high, c .if2 .taken))
 
--- src/lib.rt:67:8
 kind-requires : tie.Need-kind-requires
 kind-requires c κs = search needs
 
--- src/lib.rt:68:9
 returns-3 : tie.Need-returns-3
 returns-3 c = resolve-stop _ (c .before .before .before .before .before .before .before .args .l .0) _ (c .before .before .before .before .before .before .before .pre .2) (λ z. z .there (sym (c .before .kind .ensures) ∙ c .if3 .taken))
 
--- src/lib.rt:71:9
 returns-4 : tie.Need-returns-4
 returns-4 c = resolve-one _ (c .before .before .before .before .before .before .before .before .args .l .0) _ _ refl (c .if4 .taken) (record { low = c .before .before .before .before .if1 .left; high = c .before .before .before .if2 .left; there = λ z. c .before .if3 .left (c .before .before .kind .ensures ∙ z) })
 
--- src/lib.rt:73:27
 sub-follow : tie.Need-sub-follow
 sub-follow c = search needs
 
--- src/lib.rt:73:27
 part-follow-start : tie.Need-part-follow-start
 part-follow-start c = search needs
 
--- src/lib.rt:73:27
 part-follow-end : tie.Need-part-follow-end
 part-follow-end c = search needs
 
--- src/lib.rt:73:5
 follow-requires : tie.Need-follow-requires
 follow-requires c κs = search needs
 
--- src/lib.rt:55:1
 returns-5 : tie.Need-returns-5
 returns-5 c = c .follow .ensures ∙ resolve-on _ (c .before .before .before .before .before .before .before .before .before .before .args .l .0) _ _ refl (c .before .before .before .before .before .before .before .before .before .before .pre .2) (record { low = c .before .before .before .before .before .before .if1 .left; high = c .before .before .before .before .before .if2 .left; there = λ z. c .before .before .before .if3 .left (c .before .before .before .before .kind .ensures ∙ z) })
 

@@ -6,15 +6,12 @@ use Rattle.reference.proofs.shuts.Lts as lts
 use Rattle.reference.proofs.is_admitted.Reads as is-admitted-reads
 use Rattle.tables.proofs.triple.Reads as triple-reads
 
--- src/lib.rt:101:18
 triple-requires : tie.Need-triple-requires
 triple-requires c κs = search needs
 
--- src/lib.rt:101:6
 is-admitted-requires : tie.Need-is-admitted-requires
 is-admitted-requires c κs = search needs
 
--- src/lib.rt:97:1
 returns : tie.Need-returns
 returns c = rw (c .is-admitted .ensures, c .before .triple .ensures)
 

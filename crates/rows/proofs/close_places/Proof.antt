@@ -22,43 +22,33 @@ Inv-loop t₀ h k i₀ t i = (length t ≡ length t₀) × (k ≤ i) × (i ≤ 7
 abbrev μ-loop : tie.MeasureT-loop
 μ-loop t₀ h k i₀ t i = 7 - i
 
--- src/lib.rt:47:5
 loop-holds : tie.Need-loop-holds Inv-loop μ-loop
 loop-holds c = (search needs, omega arith, omega arith, closing-none _ place-row _ _ _)
 
--- src/lib.rt:48:37
 add-place : tie.Need-add-place Inv-loop μ-loop
 add-place c = omega arith
 
--- src/lib.rt:48:13
 place-requires : tie.Need-place-requires Inv-loop μ-loop
 place-requires c κs = search needs
 
--- src/lib.rt:49:9
 set-place-requires : tie.Need-set-place-requires Inv-loop μ-loop
 set-place-requires c κs = search needs
 
--- src/lib.rt:50:9
 add-i : tie.Need-add-i Inv-loop μ-loop
 add-i c = omega arith
 
--- src/lib.rt:47:5
 loop-less : tie.Need-loop-less Inv-loop μ-loop
 loop-less c = omega arith
 
--- src/lib.rt:47:5
 loop-again : tie.Need-loop-again Inv-loop μ-loop
 loop-again c = (search needs, omega arith, omega arith, closing-step _ place-row _ _ (tablesOf (c .before .before .before .before .before .before .before .before .before .args .t .now)) _ _ _ _ (c .before .before .before .before .before .before .before .loop .inv .1) (c .before .before .before .before .before .before .before .loop .inv .3) (c .before .before .before .before .place .ensures) (c .before .before .set-place .ensures))
 
--- src/lib.rt:52:5
 set-place-requires-2 : tie.Need-set-place-requires-2 Inv-loop μ-loop
 set-place-requires-2 c κs = search needs
 
--- src/lib.rt:42:1
 same-length : tie.Need-same-length Inv-loop μ-loop
 same-length c = search needs
 
--- src/lib.rt:42:1
 returns : tie.Need-returns Inv-loop μ-loop
 returns c = closing-end _ place-row _ _ (tablesOf (c .before .before .before .before .before .before .before .args .t .now)) (bounded _ .placesOut _) (c .before .before .before .before .before .before .before .pre .1) (c .before .before .before .before .before .loop .i) _ _ (omega arith) (c .before .before .before .before .before .loop .inv .3) (c .before .before .set-place2 .ensures)
 

@@ -22,43 +22,33 @@ Inv-loop t₀ e k i₀ t i = (length t ≡ length t₀) × (k ≤ i) × (i ≤ 7
 abbrev μ-loop : tie.MeasureT-loop
 μ-loop t₀ e k i₀ t i = 7 - i
 
--- src/lib.rt:61:5
 loop-holds : tie.Need-loop-holds Inv-loop μ-loop
 loop-holds c = (search needs, omega arith, omega arith, closing-none _ triple-row _ _ _)
 
--- src/lib.rt:62:38
 add-triple : tie.Need-add-triple Inv-loop μ-loop
 add-triple c = omega arith
 
--- src/lib.rt:62:13
 triple-requires : tie.Need-triple-requires Inv-loop μ-loop
 triple-requires c κs = search needs
 
--- src/lib.rt:63:9
 set-triple-requires : tie.Need-set-triple-requires Inv-loop μ-loop
 set-triple-requires c κs = search needs
 
--- src/lib.rt:64:9
 add-i : tie.Need-add-i Inv-loop μ-loop
 add-i c = omega arith
 
--- src/lib.rt:61:5
 loop-less : tie.Need-loop-less Inv-loop μ-loop
 loop-less c = omega arith
 
--- src/lib.rt:61:5
 loop-again : tie.Need-loop-again Inv-loop μ-loop
 loop-again c = (search needs, omega arith, omega arith, closing-step _ triple-row _ _ (tablesOf (c .before .before .before .before .before .before .before .before .before .args .t .now)) _ _ _ _ (c .before .before .before .before .before .before .before .loop .inv .1) (c .before .before .before .before .before .before .before .loop .inv .3) (c .before .before .before .before .triple .ensures) (c .before .before .set-triple .ensures))
 
--- src/lib.rt:66:5
 set-triple-requires-2 : tie.Need-set-triple-requires-2 Inv-loop μ-loop
 set-triple-requires-2 c κs = search needs
 
--- src/lib.rt:56:1
 same-length : tie.Need-same-length Inv-loop μ-loop
 same-length c = search needs
 
--- src/lib.rt:56:1
 returns : tie.Need-returns Inv-loop μ-loop
 returns c = closing-end _ triple-row _ _ (tablesOf (c .before .before .before .before .before .before .before .args .t .now)) (bounded _ .triplesOut _) (c .before .before .before .before .before .before .before .pre .1) (c .before .before .before .before .before .loop .i) _ _ (omega arith) (c .before .before .before .before .before .loop .inv .3) (c .before .before .set-triple2 .ensures)
 

@@ -18,31 +18,24 @@ Inv-loop t v e n i₀ i = (i ≤ n) × ((j : ℕ) → j < i → places (tablesOf
 abbrev μ-loop : tie.MeasureT-loop
 μ-loop t v e n i₀ i = n - i
 
--- src/lib.rt:17:5
 loop-holds : tie.Need-loop-holds Inv-loop μ-loop
 loop-holds c = (omega arith, λ j h. absurd (omega arith))
 
--- src/lib.rt:18:12
 place-requires : tie.Need-place-requires Inv-loop μ-loop
 place-requires c κs = search needs
 
--- src/lib.rt:19:13
 returns : tie.Need-returns Inv-loop μ-loop
 returns c = seek-here _ _ _ _ (c .before .before .before .before .loop-test .taken) (sym (c .before .before .before .place .ensures) ∙ c .if1 .taken) (c .before .before .before .before .before .loop .inv .1)
 
--- src/lib.rt:21:9
 add-i : tie.Need-add-i Inv-loop μ-loop
 add-i c = omega arith
 
--- src/lib.rt:17:5
 loop-less : tie.Need-loop-less Inv-loop μ-loop
 loop-less c = omega arith
 
--- src/lib.rt:17:5
 loop-again : tie.Need-loop-again Inv-loop μ-loop
 loop-again c = (omega arith, none-more _ _ _ (c .before .before .before .before .before .loop .inv .1) (λ z. c .if1 .left (c .before .before .before .place .ensures ∙ z)))
 
--- src/lib.rt:12:1
 returns-2 : tie.Need-returns-2 Inv-loop μ-loop
 returns-2 c = seek-none _ _ _ (λ j h. c .before .loop .inv .1 j (omega arith))
 

@@ -18,31 +18,24 @@ Inv-loop t e x i₀ i = (i ≤ 8) × ((j : ℕ) → j < i → triples (tablesOf 
 abbrev μ-loop : tie.MeasureT-loop
 μ-loop t e x i₀ i = 8 - i
 
--- src/lib.rt:32:5
 loop-holds : tie.Need-loop-holds Inv-loop μ-loop
 loop-holds c = (omega arith, λ j h. absurd (omega arith))
 
--- src/lib.rt:33:12
 triple-requires : tie.Need-triple-requires Inv-loop μ-loop
 triple-requires c κs = search needs
 
--- src/lib.rt:34:13
 returns : tie.Need-returns Inv-loop μ-loop
 returns c = seek-here _ _ 8 _ (c .before .before .loop-test .taken) (sym (c .before .triple .ensures) ∙ c .if1 .taken) (c .before .before .before .loop .inv .1)
 
--- src/lib.rt:36:9
 add-i : tie.Need-add-i Inv-loop μ-loop
 add-i c = omega arith
 
--- src/lib.rt:32:5
 loop-less : tie.Need-loop-less Inv-loop μ-loop
 loop-less c = omega arith
 
--- src/lib.rt:32:5
 loop-again : tie.Need-loop-again Inv-loop μ-loop
 loop-again c = (omega arith, none-more _ _ _ (c .before .before .before .loop .inv .1) (λ z. c .if1 .left (c .before .triple .ensures ∙ z)))
 
--- src/lib.rt:27:1
 returns-2 : tie.Need-returns-2 Inv-loop μ-loop
 returns-2 c = seek-none _ _ 8 (λ j h. c .before .loop .inv .1 j (omega arith))
 

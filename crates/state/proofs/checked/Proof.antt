@@ -8,16 +8,13 @@ use Rattle.state.proofs.checked.Reads as reads
 use Rattle.state.proofs.checked.Lts as lts
 use Rattle.state.proofs.judged.Reads as judged-reads
 
--- src/lib.rt:61:9
 returns : tie.Need-returns
 unfolding check
 returns c = rw (ne-eqb (length (c .before .before .args .t .now)) 2304 (c .if1 .taken))
 
--- src/lib.rt:63:5
 judged-requires : tie.Need-judged-requires
 judged-requires c κs = search needs
 
--- src/lib.rt:57:1
 returns-2 : tie.Need-returns-2
 unfolding check
 returns-2 c = rw (eq-eqb (length (c .before .before .before .args .t .now)) 2304 (c .before .if1 .left)) (c .judged .ensures)

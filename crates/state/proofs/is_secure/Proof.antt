@@ -8,19 +8,15 @@ use Rattle.state.proofs.is_secure.Lts as lts
 use Rattle.state.proofs.secure.entities_secure.Reads as entities-secure-reads
 use Rattle.state.proofs.secure.users_secure.Reads as users-secure-reads
 
--- src/lib.rt:36:9
 entities-secure-requires : tie.Need-entities-secure-requires
 entities-secure-requires c κs = search needs
 
--- src/lib.rt:37:9
 returns : tie.Need-returns
 returns c = secure-fails _ _ (c .before .entities-secure .ensures) (not-true _ (c .if1 .taken))
 
--- src/lib.rt:39:5
 users-secure-requires : tie.Need-users-secure-requires
 users-secure-requires c κs = search needs
 
--- src/lib.rt:32:1
 returns-2 : tie.Need-returns-2
 returns-2 c = secure-rest _ _ (c .before .before .entities-secure .ensures) (not-false _ (c .before .if1 .left)) _ (c .users-secure .ensures)
 

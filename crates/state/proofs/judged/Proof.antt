@@ -9,25 +9,20 @@ use Rattle.state.proofs.judged.Lts as lts
 use Rattle.state.proofs.is_secure.Reads as is-secure-reads
 use Rattle.state.proofs.well_formed.Reads as well-formed-reads
 
--- src/lib.rt:47:9
 well-formed-requires : tie.Need-well-formed-requires
 well-formed-requires c κs = search needs
 
--- src/lib.rt:48:9
 returns : tie.Need-returns
 unfolding judge
 returns c = rw (sym (c .before .well-formed .ensures) ∙ not-true _ (c .if1 .taken))
 
--- src/lib.rt:50:9
 is-secure-requires : tie.Need-is-secure-requires
 is-secure-requires c κs = search needs
 
--- src/lib.rt:51:9
 returns-2 : tie.Need-returns-2
 unfolding judge
 returns-2 c = rw (sym (c .before .before .before .well-formed .ensures) ∙ not-false _ (c .before .before .if1 .left), sym (c .before .is-secure .ensures) ∙ not-true _ (c .if2 .taken))
 
--- src/lib.rt:43:1
 returns-3 : tie.Need-returns-3
 unfolding judge
 returns-3 c = rw (sym (c .before .before .before .well-formed .ensures) ∙ not-false _ (c .before .before .if1 .left), sym (c .before .is-secure .ensures) ∙ not-false _ (c .if2 .left))

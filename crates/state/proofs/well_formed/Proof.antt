@@ -13,35 +13,27 @@ use Rattle.state.proofs.tree.tree_fine.Reads as tree-fine-reads
 use Rattle.state.proofs.users.devices_fine.Reads as devices-fine-reads
 use Rattle.state.proofs.users.users_fine.Reads as users-fine-reads
 
--- src/lib.rt:19:9
 users-fine-requires : tie.Need-users-fine-requires
 users-fine-requires c κs = search needs
 
--- src/lib.rt:20:9
 returns : tie.Need-returns
 returns c = users-fail (tablesOf _) (bounded _) _ (c .before .users-fine .ensures) (not-true _ (c .if1 .taken))
 
--- src/lib.rt:22:9
 devices-fine-requires : tie.Need-devices-fine-requires
 devices-fine-requires c κs = search needs
 
--- src/lib.rt:23:9
 returns-2 : tie.Need-returns-2
 returns-2 c = devices-fail (tablesOf _) (bounded _) _ (c .before .before .before .users-fine .ensures) (not-false _ (c .before .before .if1 .left)) _ (c .before .devices-fine .ensures) (not-true _ (c .if2 .taken))
 
--- src/lib.rt:25:9
 entities-fine-requires : tie.Need-entities-fine-requires
 entities-fine-requires c κs = search needs
 
--- src/lib.rt:26:9
 returns-3 : tie.Need-returns-3
 returns-3 c = entities-fail (tablesOf _) (bounded _) _ (c .before .before .before .before .before .users-fine .ensures) (not-false _ (c .before .before .before .before .if1 .left)) _ (c .before .before .before .devices-fine .ensures) (not-false _ (c .before .before .if2 .left)) _ (c .before .entities-fine .ensures) (not-true _ (c .if3 .taken))
 
--- src/lib.rt:28:5
 tree-fine-requires : tie.Need-tree-fine-requires
 tree-fine-requires c κs = (c .before .before .before .before .before .before .before .pre, sym (c .before .entities-fine .ensures) ∙ not-false _ (c .if3 .left))
 
--- src/lib.rt:15:1
 returns-4 : tie.Need-returns-4
 returns-4 c = tree-left (tablesOf _) (bounded _) _ (c .before .before .before .before .before .before .users-fine .ensures) (not-false _ (c .before .before .before .before .before .if1 .left)) _ (c .before .before .before .before .devices-fine .ensures) (not-false _ (c .before .before .before .if2 .left)) _ (c .before .before .entities-fine .ensures) (not-false _ (c .before .if3 .left)) _ (c .tree-fine .ensures)
 

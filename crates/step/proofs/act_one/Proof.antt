@@ -18,151 +18,114 @@ use Rattle.op_words.proofs.level.Reads as level-reads
 use Rattle.op_words.proofs.mark.Reads as mark-reads
 use Rattle.op_words.proofs.release.Reads as release-reads
 
--- src/lib.rt:21:14
 create-requires : tie.Need-create-requires
 create-requires c κs = (taking toCreate _ _ _ _ (c .before .before .before .before .pre .0) (c .before .before .before .before .pre .1) (c .before .match .keys1), c .before .before .before .before .pre .3)
 
--- src/lib.rt:22:14
 delete-requires : tie.Need-delete-requires
 delete-requires c κs = (taking toDelete _ _ _ _ (c .before .before .before .before .pre .0) (c .before .before .before .before .pre .1) (c .before .match .keys2), c .before .before .before .before .pre .3)
 
--- src/lib.rt:23:14
 edit-requires : tie.Need-edit-requires
 edit-requires c κs = (taking toEdit _ _ _ _ (c .before .before .before .before .pre .0) (c .before .before .before .before .pre .1) (c .before .match .keys3), c .before .before .before .before .pre .3)
 
--- src/lib.rt:24:14
 level-requires : tie.Need-level-requires
 level-requires c κs = (taking toLevel _ _ _ _ (c .before .before .before .before .pre .0) (c .before .before .before .before .pre .1) (c .before .match .keys4), c .before .before .before .before .pre .3)
 
--- src/lib.rt:25:14
 mark-requires : tie.Need-mark-requires
 mark-requires c κs = (taking toMark _ _ _ _ (c .before .before .before .before .pre .0) (c .before .before .before .before .pre .1) (c .before .match .keys5), c .before .before .before .before .pre .3)
 
--- src/lib.rt:26:14
 grant-requires : tie.Need-grant-requires
 grant-requires c κs = (taking toGrant _ _ _ _ (c .before .before .before .before .pre .0) (c .before .before .before .before .pre .1) (c .before .match .keys6), c .before .before .before .before .pre .3)
 
--- src/lib.rt:27:14
 revoke-requires : tie.Need-revoke-requires
 revoke-requires c κs = (taking toRevoke _ _ _ _ (c .before .before .before .before .pre .0) (c .before .before .before .before .pre .1) (c .before .match .keys7), c .before .before .before .before .pre .3)
 
--- src/lib.rt:28:15
 show-requires : tie.Need-show-requires
 show-requires c κs = (taking toShow _ _ _ _ (c .before .before .before .before .pre .0) (c .before .before .before .before .pre .1) (c .before .match .keys8), c .before .before .before .before .pre .3)
 
--- src/lib.rt:29:15
 login-requires : tie.Need-login-requires
 login-requires c κs = (taking toLogin _ _ _ _ (c .before .before .before .before .pre .0) (c .before .before .before .before .pre .1) (c .before .match .keys9), c .before .before .before .before .pre .3)
 
--- src/lib.rt:30:15
 maximum-requires : tie.Need-maximum-requires
 maximum-requires c κs = (taking toMaximum _ _ _ _ (c .before .before .before .before .pre .0) (c .before .before .before .before .pre .1) (c .before .match .keys10), c .before .before .before .before .pre .3)
 
--- src/lib.rt:31:15
 device-level-requires : tie.Need-device-level-requires
 device-level-requires c κs = (taking toDeviceLevel _ _ _ _ (c .before .before .before .before .pre .0) (c .before .before .before .before .pre .1) (c .before .match .keys11), c .before .before .before .before .pre .3)
 
--- src/lib.rt:32:15
 release-requires : tie.Need-release-requires
 release-requires c κs = (taking toRelease _ _ _ _ (c .before .before .before .before .pre .0) (c .before .before .before .before .pre .1) (c .before .match .keys12), c .before .before .before .before .pre .3)
 
--- src/lib.rt:16:1
 same-length : tie.Need-same-length
 same-length c = search needs
 
--- src/lib.rt:16:1
 returns : tie.Need-returns
 returns c = search needs
 
--- src/lib.rt:16:1
 same-length-2 : tie.Need-same-length-2
 same-length-2 c = search needs
 
--- src/lib.rt:16:1
 returns-2 : tie.Need-returns-2
 returns-2 c = search needs
 
--- src/lib.rt:16:1
 same-length-3 : tie.Need-same-length-3
 same-length-3 c = search needs
 
--- src/lib.rt:16:1
 returns-3 : tie.Need-returns-3
 returns-3 c = search needs
 
--- src/lib.rt:16:1
 same-length-4 : tie.Need-same-length-4
 same-length-4 c = search needs
 
--- src/lib.rt:16:1
 returns-4 : tie.Need-returns-4
 returns-4 c = search needs
 
--- src/lib.rt:16:1
 same-length-5 : tie.Need-same-length-5
 same-length-5 c = search needs
 
--- src/lib.rt:16:1
 returns-5 : tie.Need-returns-5
 returns-5 c = search needs
 
--- src/lib.rt:16:1
 same-length-6 : tie.Need-same-length-6
 same-length-6 c = search needs
 
--- src/lib.rt:16:1
 returns-6 : tie.Need-returns-6
 returns-6 c = search needs
 
--- src/lib.rt:16:1
 same-length-7 : tie.Need-same-length-7
 same-length-7 c = search needs
 
--- src/lib.rt:16:1
 returns-7 : tie.Need-returns-7
 returns-7 c = search needs
 
--- src/lib.rt:16:1
 same-length-8 : tie.Need-same-length-8
 same-length-8 c = search needs
 
--- src/lib.rt:16:1
 returns-8 : tie.Need-returns-8
 returns-8 c = search needs
 
--- src/lib.rt:16:1
 same-length-9 : tie.Need-same-length-9
 same-length-9 c = search needs
 
--- src/lib.rt:16:1
 returns-9 : tie.Need-returns-9
 returns-9 c = search needs
 
--- src/lib.rt:16:1
 same-length-10 : tie.Need-same-length-10
 same-length-10 c = search needs
 
--- src/lib.rt:16:1
 returns-10 : tie.Need-returns-10
 returns-10 c = search needs
 
--- src/lib.rt:16:1
 same-length-11 : tie.Need-same-length-11
 same-length-11 c = search needs
 
--- src/lib.rt:16:1
 returns-11 : tie.Need-returns-11
 returns-11 c = search needs
 
--- src/lib.rt:16:1
 same-length-12 : tie.Need-same-length-12
 same-length-12 c = search needs
 
--- src/lib.rt:16:1
 returns-12 : tie.Need-returns-12
 returns-12 c = search needs
 
--- src/lib.rt:16:1
 returns-13 : tie.Need-returns-13
 returns-13 c = absurd (none-over-one _ (c .before .before .before .pre .2) (rw (← c .before .before .before .pre .1) at (c .match .rest)))
 

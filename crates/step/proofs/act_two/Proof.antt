@@ -8,31 +8,24 @@ use Rattle.step.proofs.act_two.Lts as lts
 use Rattle.op_places.proofs.relocate.Reads as relocate-reads
 use Rattle.op_words.proofs.copy.Reads as copy-reads
 
--- src/lib.rt:43:14
 relocate-requires : tie.Need-relocate-requires
 relocate-requires c κs = (taking toMove _ _ _ _ (c .before .before .before .before .pre .0) (c .before .before .before .before .pre .1) (c .before .match .keys1), c .before .before .before .before .pre .3, c .before .before .before .before .pre .4)
 
--- src/lib.rt:44:14
 copy-requires : tie.Need-copy-requires
 copy-requires c κs = (taking toCopy _ _ _ _ (c .before .before .before .before .pre .0) (c .before .before .before .before .pre .1) (c .before .match .keys2), c .before .before .before .before .pre .3, c .before .before .before .before .pre .4)
 
--- src/lib.rt:38:1
 same-length : tie.Need-same-length
 same-length c = search needs
 
--- src/lib.rt:38:1
 returns : tie.Need-returns
 returns c = search needs
 
--- src/lib.rt:38:1
 same-length-2 : tie.Need-same-length-2
 same-length-2 c = search needs
 
--- src/lib.rt:38:1
 returns-2 : tie.Need-returns-2
 returns-2 c = search needs
 
--- src/lib.rt:38:1
 returns-3 : tie.Need-returns-3
 returns-3 c = absurd (none-over-two _ (c .before .before .before .pre .2) (rw (← c .before .before .before .pre .1) at (c .match .rest)))
 

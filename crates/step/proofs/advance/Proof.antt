@@ -9,39 +9,30 @@ use Rattle.step.proofs.advance.Lts as lts
 use Rattle.step.proofs.attend.Reads as attend-reads
 use Rattle.tables.proofs.present.Reads as present-reads
 
--- src/lib.rt:122:13
 shared-slice-read-n : tie.Need-shared-slice-read-n
 shared-slice-read-n c = search needs
 
--- src/lib.rt:124:9
 returns : tie.Need-returns
 returns c = unknown _ _ (c .before .before .before .before .pre) _ refl (λ k. omega (arith, k .low, c .if1 .taken))
 
--- src/lib.rt:127:9
 returns-2 : tie.Need-returns-2
 returns-2 c = unknown _ _ (c .before .before .before .before .before .pre) _ refl (λ k. omega (arith, k .high, c .if2 .taken))
 
--- src/lib.rt:130:8
 present-requires : tie.Need-present-requires
 present-requires c κs = search needs
 
--- src/lib.rt:131:9
 same-length : tie.Need-same-length
 same-length c = search needs
 
--- src/lib.rt:131:9
 returns-3 : tie.Need-returns-3
 returns-3 c = unknown _ _ (c .before .before .before .before .before .before .before .before .pre) _ refl (λ k. k .there (sym (c .before .present .ensures) ∙ c .if3 .taken))
 
--- src/lib.rt:133:5
 attend-requires : tie.Need-attend-requires
 attend-requires c κs = known _ _ (c .before .before .before .before .before .before .before .before .before .pre) _ refl (record { low = c .before .before .before .before .before .if1 .left; high = c .before .before .before .before .if2 .left; there = λ z. c .before .if3 .left (c .before .before .present .ensures ∙ z) })
 
--- src/lib.rt:118:1
 same-length-2 : tie.Need-same-length-2
 same-length-2 c = search needs
 
--- src/lib.rt:118:1
 returns-4 : tie.Need-returns-4
 returns-4 c = search needs
 

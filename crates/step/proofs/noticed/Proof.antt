@@ -4,11 +4,9 @@ use Rattle.step.proofs.noticed.Tie as tie
 use Rattle.step.proofs.noticed.Reads as reads
 use Rattle.step.proofs.noticed.Lts as lts
 
--- src/lib.rt:97:9
 returns : tie.Need-returns
 returns c = noticed-none _ _ (c .before .pre) (c .if1 .taken)
 
--- src/lib.rt:92:1
 returns-2 : tie.Need-returns-2
 returns-2 c = noticed-up _ _ (c .before .pre) (c .if1 .left)
 

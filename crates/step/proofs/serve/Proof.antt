@@ -17,111 +17,84 @@ use Rattle.op_words.proofs.current_roles.Reads as current-roles-reads
 use Rattle.step.proofs.serve_one.Reads as serve-one-reads
 use Rattle.step.proofs.serve_two.Reads as serve-two-reads
 
--- src/lib.rt:79:14
 serve-two-requires : tie.Need-serve-two-requires
 serve-two-requires c κs = (c .before .before .before .before .pre .0, c .before .before .before .before .pre .1, arity-named _ toMove _ (c .before .before .before .before .pre .1) (c .before .match .keys1))
 
--- src/lib.rt:80:14
 serve-two-requires-2 : tie.Need-serve-two-requires-2
 serve-two-requires-2 c κs = (c .before .before .before .before .pre .0, c .before .before .before .before .pre .1, arity-named _ toCopy _ (c .before .before .before .before .pre .1) (c .before .match .keys2))
 
--- src/lib.rt:81:15
 clear-requires : tie.Need-clear-requires
 clear-requires c κs = taking-none toClear _ _ _ _ refl (c .before .before .before .before .pre .0) (c .before .before .before .before .pre .1) (c .before .match .keys3)
 
--- src/lib.rt:82:15
 logout-requires : tie.Need-logout-requires
 logout-requires c κs = taking-none toLogout _ _ _ _ refl (c .before .before .before .before .pre .0) (c .before .before .before .before .pre .1) (c .before .match .keys4)
 
--- src/lib.rt:83:15
 current-roles-requires : tie.Need-current-roles-requires
 current-roles-requires c κs = taking-none toCurrent _ _ _ _ refl (c .before .before .before .before .pre .0) (c .before .before .before .before .pre .1) (c .before .match .keys5)
 
--- src/lib.rt:84:15
 clearance-requires : tie.Need-clearance-requires
 clearance-requires c κs = taking-none toClearance _ _ _ _ refl (c .before .before .before .before .pre .0) (c .before .before .before .before .pre .1) (c .before .match .keys6)
 
--- src/lib.rt:85:15
 authorised-roles-requires : tie.Need-authorised-roles-requires
 authorised-roles-requires c κs = taking-none toAuthorised _ _ _ _ refl (c .before .before .before .before .pre .0) (c .before .before .before .before .pre .1) (c .before .match .keys7)
 
--- src/lib.rt:86:15
 acknowledge-requires : tie.Need-acknowledge-requires
 acknowledge-requires c κs = taking-none toAcknowledge _ _ _ _ refl (c .before .before .before .before .pre .0) (c .before .before .before .before .pre .1) (c .before .match .keys8)
 
--- src/lib.rt:87:14
 serve-one-requires : tie.Need-serve-one-requires
 serve-one-requires c κs = (c .before .before .before .before .pre .0, c .before .before .before .before .pre .1, one-over _ _ (passed-lower _ _ 5 6 (lit≤ tt) (c .before .before .before .before .pre .0 .passed)) (rw (← c .before .before .before .before .pre .1) at (c .before .match .rest)))
 
--- src/lib.rt:74:1
 same-length : tie.Need-same-length
 same-length c = search needs
 
--- src/lib.rt:74:1
 returns : tie.Need-returns
 returns c = search needs
 
--- src/lib.rt:74:1
 same-length-2 : tie.Need-same-length-2
 same-length-2 c = search needs
 
--- src/lib.rt:74:1
 returns-2 : tie.Need-returns-2
 returns-2 c = search needs
 
--- src/lib.rt:74:1
 same-length-3 : tie.Need-same-length-3
 same-length-3 c = search needs
 
--- src/lib.rt:74:1
 returns-3 : tie.Need-returns-3
 returns-3 c = search needs
 
--- src/lib.rt:74:1
 same-length-4 : tie.Need-same-length-4
 same-length-4 c = search needs
 
--- src/lib.rt:74:1
 returns-4 : tie.Need-returns-4
 returns-4 c = search needs
 
--- src/lib.rt:74:1
 same-length-5 : tie.Need-same-length-5
 same-length-5 c = search needs
 
--- src/lib.rt:74:1
 returns-5 : tie.Need-returns-5
 returns-5 c = search needs
 
--- src/lib.rt:74:1
 same-length-6 : tie.Need-same-length-6
 same-length-6 c = search needs
 
--- src/lib.rt:74:1
 returns-6 : tie.Need-returns-6
 returns-6 c = search needs
 
--- src/lib.rt:74:1
 same-length-7 : tie.Need-same-length-7
 same-length-7 c = search needs
 
--- src/lib.rt:74:1
 returns-7 : tie.Need-returns-7
 returns-7 c = search needs
 
--- src/lib.rt:74:1
 same-length-8 : tie.Need-same-length-8
 same-length-8 c = search needs
 
--- src/lib.rt:74:1
 returns-8 : tie.Need-returns-8
 returns-8 c = search needs
 
--- src/lib.rt:74:1
 same-length-9 : tie.Need-same-length-9
 same-length-9 c = search needs
 
--- src/lib.rt:74:1
 returns-9 : tie.Need-returns-9
 returns-9 c = search needs
 

@@ -9,39 +9,30 @@ use Rattle.ladder.proofs.operands.one_operand.Reads as one-operand-reads
 use Rattle.ladder.proofs.refusal.refuse.Reads as refuse-reads
 use Rattle.step.proofs.act_one.Reads as act-one-reads
 
--- src/lib.rt:54:9
 one-operand-requires : tie.Need-one-operand-requires
 one-operand-requires c κs = search needs
 
--- src/lib.rt:56:21
 enum-known-o : tie.Need-enum-known-o
 enum-known-o c = search needs
 
--- src/lib.rt:56:27
 refuse-requires : tie.Need-refuse-requires
 refuse-requires c κs = one-refused _ _ _ _ (c .before .before .before .before .before .before .before .before .pre .0) (c .before .before .before .before .before .before .before .before .pre .1) (c .before .before .before .before .before .before .before .before .pre .2) _ (sym (c .before .before .before .before .one-operand .ensures) ∙ c .before .before .o .given .1)
 
--- src/lib.rt:57:23
 enum-known-o-2 : tie.Need-enum-known-o-2
 enum-known-o-2 c = search needs
 
--- src/lib.rt:57:29
 act-one-requires : tie.Need-act-one-requires
 act-one-requires c κs = (one-climbed _ _ _ _ (c .before .before .before .before .before .before .before .before .pre .0) (c .before .before .before .before .before .before .before .before .pre .1) (c .before .before .before .before .before .before .before .before .pre .2) (c .before .before .o2 .given .0 .0) (sym (c .before .before .before .before .one-operand .ensures) ∙ c .before .before .o2 .given .1), c .before .before .before .before .before .before .before .before .pre .1, c .before .before .before .before .before .before .before .before .pre .2, one-first _ _ _ _ (c .before .before .before .before .before .before .before .before .pre .0) (c .before .before .before .before .before .before .before .before .pre .1) (c .before .before .before .before .before .before .before .before .pre .2) (c .before .before .o2 .given .0 .0) (sym (c .before .before .before .before .one-operand .ensures) ∙ c .before .before .o2 .given .1))
 
--- src/lib.rt:50:1
 same-length : tie.Need-same-length
 same-length c = search needs
 
--- src/lib.rt:50:1
 returns : tie.Need-returns
 returns c = search needs
 
--- src/lib.rt:50:1
 same-length-2 : tie.Need-same-length-2
 same-length-2 c = search needs
 
--- src/lib.rt:50:1
 returns-2 : tie.Need-returns-2
 returns-2 c = search needs
 

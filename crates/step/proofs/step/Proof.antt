@@ -7,35 +7,27 @@ use Rattle.step.proofs.step.Lts as lts
 use Rattle.state.proofs.judged.Reads as judged-reads
 use Rattle.step.proofs.advance.Reads as advance-reads
 
--- src/lib.rt:141:9
 returns : tie.Need-returns
 returns c = other-length _ _ (λ z. c .if1 .taken (z .0))
 
--- src/lib.rt:144:9
 returns-2 : tie.Need-returns-2
 returns-2 c = other-length _ _ (λ z. c .if2 .taken (z .1))
 
--- src/lib.rt:146:9
 judged-requires : tie.Need-judged-requires
 judged-requires c κs = search needs
 
--- src/lib.rt:148:9
 same-length : tie.Need-same-length
 same-length c = search needs
 
--- src/lib.rt:148:9
 returns-3 : tie.Need-returns-3
 returns-3 c = judged-settled _ _ (c .before .before .before .before .if1 .left) (c .before .before .before .if2 .left) _ (c .before .judged .ensures) (c .if3 .taken)
 
--- src/lib.rt:150:5
 advance-requires : tie.Need-advance-requires
 advance-requires c κs = judged-ready _ _ (c .before .before .before .before .before .if1 .left) (c .before .before .before .before .if2 .left) _ (c .before .before .judged .ensures) (c .before .if3 .left)
 
--- src/lib.rt:137:1
 same-length-2 : tie.Need-same-length-2
 same-length-2 c = search needs
 
--- src/lib.rt:137:1
 returns-4 : tie.Need-returns-4
 returns-4 c = stepped-settled _ _ (c .before .before .before .before .before .before .before .before .if1 .left) (c .before .before .before .before .before .before .before .if2 .left) _ _ (c .before .before .advance .kept .0) (c .before .before .advance .ensures)
 

@@ -5,35 +5,27 @@ use Rattle.tables.proofs.entity_word.Tie as tie
 use Rattle.tables.proofs.entity_word.Reads as reads
 use Rattle.tables.proofs.entity_word.Lts as lts
 
--- src/lib.rt:174:13
 cast-n : tie.Need-cast-n
 cast-n c = search needs
 
--- src/lib.rt:175:14
 sub-result : tie.Need-sub-result
 sub-result c = search needs
 
--- src/lib.rt:175:13
 mul-result : tie.Need-mul-result
 mul-result c = search needs
 
--- src/lib.rt:175:7
 add-result : tie.Need-add-result
 add-result c = search needs
 
--- src/lib.rt:175:7
 add-result-2 : tie.Need-add-result-2
 add-result-2 c = search needs
 
--- src/lib.rt:175:5
 mul-result-2 : tie.Need-mul-result-2
 mul-result-2 c = search needs
 
--- src/lib.rt:175:5
 shared-slice-read-result : tie.Need-shared-slice-read-result
 shared-slice-read-result c = search needs
 
--- src/lib.rt:170:1
 returns : tie.Need-returns
 returns c = entity-single _ _ _ (c .before .before .pre .0) (c .before .before .pre .1)
 

@@ -6,19 +6,15 @@ use Rattle.tables.proofs.kind_or_zero.Reads as reads
 use Rattle.tables.proofs.kind_or_zero.Lts as lts
 use Rattle.tables.proofs.kind.Reads as kind-reads
 
--- src/lib.rt:386:9
 returns : tie.Need-returns
 returns c = entity-below _ _ _ (c .if1 .taken)
 
--- src/lib.rt:389:9
 returns-2 : tie.Need-returns-2
 returns-2 c = entity-above _ _ _ (c .if2 .taken)
 
--- src/lib.rt:391:5
 kind-requires : tie.Need-kind-requires
 kind-requires c κs = search needs
 
--- src/lib.rt:380:1
 returns-3 : tie.Need-returns-3
 returns-3 c = search needs
 

@@ -6,19 +6,15 @@ use Rattle.tables.proofs.level_or_zero.Reads as reads
 use Rattle.tables.proofs.level_or_zero.Lts as lts
 use Rattle.tables.proofs.level.Reads as level-reads
 
--- src/lib.rt:401:9
 returns : tie.Need-returns
 returns c = entity-below _ _ _ (c .if1 .taken)
 
--- src/lib.rt:404:9
 returns-2 : tie.Need-returns-2
 returns-2 c = entity-above _ _ _ (c .if2 .taken)
 
--- src/lib.rt:406:5
 level-requires : tie.Need-level-requires
 level-requires c κs = search needs
 
--- src/lib.rt:395:1
 returns-3 : tie.Need-returns-3
 returns-3 c = search needs
 

@@ -7,39 +7,30 @@ use Rattle.tables.proofs.place.Tie as tie
 use Rattle.tables.proofs.place.Reads as reads
 use Rattle.tables.proofs.place.Lts as lts
 
--- src/lib.rt:247:13
 cast-n : tie.Need-cast-n
 cast-n c = search needs
 
--- src/lib.rt:248:21
 sub-t5 : tie.Need-sub-t5
 sub-t5 c = search needs
 
--- src/lib.rt:248:20
 mul-t6 : tie.Need-mul-t6
 mul-t6 c = search needs
 
--- src/lib.rt:248:14
 add-t7 : tie.Need-add-t7
 add-t7 c = search needs
 
--- src/lib.rt:248:36
 add-t9 : tie.Need-add-t9
 add-t9 c = search needs
 
--- src/lib.rt:248:14
 add-t10 : tie.Need-add-t10
 add-t10 c = search needs
 
--- src/lib.rt:248:12
 mul-t11 : tie.Need-mul-t11
 mul-t11 c = search needs
 
--- src/lib.rt:248:12
 shared-slice-read-t13 : tie.Need-shared-slice-read-t13
 shared-slice-read-t13 c = search needs
 
--- src/lib.rt:243:1
 returns : tie.Need-returns
 returns c = entity-read _ _ (place _) _ (c .before .before .pre .0) (c .before .before .pre .1) refl
 

@@ -5,39 +5,30 @@ use Rattle.tables.proofs.set_entity_at.Tie as tie
 use Rattle.tables.proofs.set_entity_at.Reads as reads
 use Rattle.tables.proofs.set_entity_at.Lts as lts
 
--- src/lib.rt:414:13
 cast-n : tie.Need-cast-n
 cast-n c = search needs
 
--- src/lib.rt:415:14
 sub-t : tie.Need-sub-t
 sub-t c = search needs
 
--- src/lib.rt:415:13
 mul-t : tie.Need-mul-t
 mul-t c = search needs
 
--- src/lib.rt:415:7
 add-t : tie.Need-add-t
 add-t c = search needs
 
--- src/lib.rt:415:7
 add-t-2 : tie.Need-add-t-2
 add-t-2 c = search needs
 
--- src/lib.rt:415:5
 mul-t-2 : tie.Need-mul-t-2
 mul-t-2 c = search needs
 
--- src/lib.rt:415:5
 slice-write-t : tie.Need-slice-write-t
 slice-write-t c = search needs
 
--- src/lib.rt:410:1
 same-length : tie.Need-same-length
 same-length c = search needs
 
--- src/lib.rt:410:1
 returns : tie.Need-returns
 returns c = entity-store-at _ _ _ _ (c .before .pre .0) (c .before .pre .1)
 

@@ -5,39 +5,30 @@ use Rattle.tables.proofs.set_entity_word.Tie as tie
 use Rattle.tables.proofs.set_entity_word.Reads as reads
 use Rattle.tables.proofs.set_entity_word.Lts as lts
 
--- src/lib.rt:274:13
 cast-n : tie.Need-cast-n
 cast-n c = search needs
 
--- src/lib.rt:275:14
 sub-t : tie.Need-sub-t
 sub-t c = search needs
 
--- src/lib.rt:275:13
 mul-t : tie.Need-mul-t
 mul-t c = search needs
 
--- src/lib.rt:275:7
 add-t : tie.Need-add-t
 add-t c = search needs
 
--- src/lib.rt:275:7
 add-t-2 : tie.Need-add-t-2
 add-t-2 c = search needs
 
--- src/lib.rt:275:5
 mul-t-2 : tie.Need-mul-t-2
 mul-t-2 c = search needs
 
--- src/lib.rt:275:5
 slice-write-t : tie.Need-slice-write-t
 slice-write-t c = search needs
 
--- src/lib.rt:270:1
 same-length : tie.Need-same-length
 same-length c = search needs
 
--- src/lib.rt:270:1
 returns : tie.Need-returns
 returns c = entity-store _ _ _ _ (c .before .pre .0) (c .before .pre .1)
 

@@ -6,43 +6,33 @@ use Rattle.tables.proofs.set_place.Tie as tie
 use Rattle.tables.proofs.set_place.Reads as reads
 use Rattle.tables.proofs.set_place.Lts as lts
 
--- src/lib.rt:338:13
 cast-n : tie.Need-cast-n
 cast-n c = search needs
 
--- src/lib.rt:339:14
 sub-t : tie.Need-sub-t
 sub-t c = search needs
 
--- src/lib.rt:339:13
 mul-t : tie.Need-mul-t
 mul-t c = search needs
 
--- src/lib.rt:339:7
 add-t : tie.Need-add-t
 add-t c = search needs
 
--- src/lib.rt:339:29
 add-t-2 : tie.Need-add-t-2
 add-t-2 c = search needs
 
--- src/lib.rt:339:7
 add-t-3 : tie.Need-add-t-3
 add-t-3 c = search needs
 
--- src/lib.rt:339:5
 mul-t-2 : tie.Need-mul-t-2
 mul-t-2 c = search needs
 
--- src/lib.rt:339:5
 slice-write-t : tie.Need-slice-write-t
 slice-write-t c = search needs
 
--- src/lib.rt:334:1
 same-length : tie.Need-same-length
 same-length c = search needs
 
--- src/lib.rt:334:1
 returns : tie.Need-returns
 returns c = entity-set _ (c .before .pre .0 .0) _ (place _) _ (c .before .pre .0 .1) (c .before .pre .0 .2) (c .before .pre .1)
 

@@ -5,35 +5,27 @@ use Rattle.tables.proofs.set_user_word.Tie as tie
 use Rattle.tables.proofs.set_user_word.Reads as reads
 use Rattle.tables.proofs.set_user_word.Lts as lts
 
--- src/lib.rt:105:13
 cast-n : tie.Need-cast-n
 cast-n c = search needs
 
--- src/lib.rt:106:8
 sub-t : tie.Need-sub-t
 sub-t c = search needs
 
--- src/lib.rt:106:7
 mul-t : tie.Need-mul-t
 mul-t c = search needs
 
--- src/lib.rt:106:7
 add-t : tie.Need-add-t
 add-t c = search needs
 
--- src/lib.rt:106:5
 mul-t-2 : tie.Need-mul-t-2
 mul-t-2 c = search needs
 
--- src/lib.rt:106:5
 slice-write-t : tie.Need-slice-write-t
 slice-write-t c = search needs
 
--- src/lib.rt:101:1
 same-length : tie.Need-same-length
 same-length c = search needs
 
--- src/lib.rt:101:1
 returns : tie.Need-returns
 returns c = user-store _ _ _ _ (c .before .pre .0) (c .before .pre .1)
 

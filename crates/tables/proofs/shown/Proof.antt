@@ -7,39 +7,30 @@ use Rattle.tables.proofs.shown.Tie as tie
 use Rattle.tables.proofs.shown.Reads as reads
 use Rattle.tables.proofs.shown.Lts as lts
 
--- src/lib.rt:256:13
 cast-n : tie.Need-cast-n
 cast-n c = search needs
 
--- src/lib.rt:257:14
 sub-result : tie.Need-sub-result
 sub-result c = search needs
 
--- src/lib.rt:257:13
 mul-result : tie.Need-mul-result
 mul-result c = search needs
 
--- src/lib.rt:257:7
 add-result : tie.Need-add-result
 add-result c = search needs
 
--- src/lib.rt:257:29
 add-result-2 : tie.Need-add-result-2
 add-result-2 c = search needs
 
--- src/lib.rt:257:7
 add-result-3 : tie.Need-add-result-3
 add-result-3 c = search needs
 
--- src/lib.rt:257:5
 mul-result-2 : tie.Need-mul-result-2
 mul-result-2 c = search needs
 
--- src/lib.rt:257:5
 shared-slice-read-result : tie.Need-shared-slice-read-result
 shared-slice-read-result c = search needs
 
--- src/lib.rt:252:1
 returns : tie.Need-returns
 returns c = entity-read _ _ (shown _) _ (c .before .before .pre .0) (c .before .before .pre .1) refl
 

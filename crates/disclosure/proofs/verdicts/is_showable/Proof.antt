@@ -10,42 +10,33 @@ use Rattle.levels.proofs.at_most.Reads as at-most-reads
 use Rattle.reference.proofs.is_permitted.Reads as is-permitted-reads
 use Rattle.tables.proofs.level.Reads as level-reads
 
--- src/verdicts.rt:19:9
 is-entity-requires : tie.Need-is-entity-requires
 is-entity-requires c κs = search needs
 
--- src/verdicts.rt:20:9
 returns : tie.Need-returns
 unfolding showable
 returns c = rw (← c .before .is-entity .ensures, not-true (c .before .is-entity .result) (c .if1 .taken))
 
--- src/verdicts.rt:22:9
 level-requires : tie.Need-level-requires
 level-requires c κs = search needs
 
--- src/verdicts.rt:23:9
 at-most-requires : tie.Need-at-most-requires
 at-most-requires c κs = search needs
 
--- src/verdicts.rt:24:9
 returns-2 : tie.Need-returns-2
 unfolding showable
 returns-2 c = rw (← c .before .before .before .before .is-entity .ensures, not-false (c .before .before .before .before .is-entity .result) (c .before .before .before .if1 .left), ← c .before .before .before .before .before .before .pre .0 .clearance, ← c .before .before .level .ensures, ← c .before .at-most .ensures, not-true (c .before .at-most .result) (c .if2 .taken))
 
--- src/verdicts.rt:26:9
 at-most-requires-2 : tie.Need-at-most-requires-2
 at-most-requires-2 c κs = search needs
 
--- src/verdicts.rt:27:9
 returns-3 : tie.Need-returns-3
 unfolding showable
 returns-3 c = rw (← c .before .before .before .before .before .before .is-entity .ensures, not-false (c .before .before .before .before .before .before .is-entity .result) (c .before .before .before .before .before .if1 .left), ← c .before .before .before .before .before .before .before .before .pre .0 .clearance, ← c .before .before .before .before .before .before .before .before .pre .0 .screen, ← c .before .before .before .before .level .ensures, ← c .before .before .before .at-most .ensures, not-false (c .before .before .before .at-most .result) (c .before .before .if2 .left), ← c .before .at-most2 .ensures, not-true (c .before .at-most2 .result) (c .if3 .taken))
 
--- src/verdicts.rt:29:5
 is-permitted-requires : tie.Need-is-permitted-requires
 is-permitted-requires c κs = search needs
 
--- src/verdicts.rt:15:1
 returns-4 : tie.Need-returns-4
 unfolding showable
 returns-4 c = rw (← c .before .before .before .before .before .before .before .is-entity .ensures, not-false (c .before .before .before .before .before .before .before .is-entity .result) (c .before .before .before .before .before .before .if1 .left), ← c .before .before .before .before .before .before .before .before .before .pre .0 .clearance, ← c .before .before .before .before .before .before .before .before .before .pre .0 .screen, ← c .before .before .before .before .before .level .ensures, ← c .before .before .before .before .at-most .ensures, not-false (c .before .before .before .before .at-most .result) (c .before .before .before .if2 .left), ← c .before .before .at-most2 .ensures, not-false (c .before .before .at-most2 .result) (c .before .if3 .left), ← c .is-permitted .ensures)

@@ -11,23 +11,18 @@ use Rattle.disclosure.proofs.verdicts.weigh.Reads as weigh-reads
 use Rattle.reference.proofs.is_bar.Reads as is-bar-reads
 use Rattle.tables.proofs.count.Reads as count-reads
 
--- src/verdicts.rt:59:9
 is-bar-requires : tie.Need-is-bar-requires
 is-bar-requires c κs = search needs
 
--- src/verdicts.rt:60:9
 is-showable-requires : tie.Need-is-showable-requires
 is-showable-requires c κs = search needs
 
--- src/verdicts.rt:61:17
 count-requires : tie.Need-count-requires
 count-requires c κs = search needs
 
--- src/verdicts.rt:61:5
 weigh-requires : tie.Need-weigh-requires
 weigh-requires c κs = omega (arith, c .count .ensures, c .before .before .before .before .pre .0 .admitted .good .0 .entities (c .before .before .before .before .args .e .0) .filled .packed .room)
 
--- src/verdicts.rt:55:1
 returns : tie.Need-returns
 returns c = c .weigh .ensures ∙ verdict-weighed _ _ _ _ _ _ _ (c .before .before .before .before .before .pre .0 .clearance) (c .before .before .before .is-bar .ensures) (c .before .count .ensures) (c .before .before .is-showable .ensures)
 

@@ -20,59 +20,45 @@ Inv-loop t u v₀ clearance screen i₀ v i = (i ≤ 64) × Judged (tablesOf t) 
 abbrev μ-loop : tie.MeasureT-loop
 μ-loop t u v₀ clearance screen i₀ v i = 64 - i
 
--- src/verdicts.rt:60:9
 clearance-requires : tie.Need-clearance-requires Inv-loop μ-loop
 clearance-requires c κs = (c .before .pre .0 .whole, c .before .pre .0 .low, c .before .pre .0 .high)
 
--- src/verdicts.rt:61:35
 device-requires : tie.Need-device-requires Inv-loop μ-loop
 device-requires c κs = (c .before .before .pre .0 .whole, c .before .before .pre .0 .low, c .before .before .pre .0 .high)
 
--- src/verdicts.rt:61:9
 level-requires : tie.Need-level-requires Inv-loop μ-loop
 level-requires c κs = (c .before .before .before .pre .0 .whole, omega (arith, c .device .ensures, screen-in _ _ (c .before .before .before .pre .0)), omega (arith, c .device .ensures, screen-in _ _ (c .before .before .before .pre .0)))
 
--- src/verdicts.rt:63:5
 loop-holds : tie.Need-loop-holds Inv-loop μ-loop
 loop-holds c = (omega arith, c .before .before .before .before .pre .1)
 
--- src/verdicts.rt:64:67
 add-t10 : tie.Need-add-t10 Inv-loop μ-loop
 add-t10 c = omega arith
 
--- src/verdicts.rt:64:29
 judge-requires : tie.Need-judge-requires Inv-loop μ-loop
 judge-requires c κs = (record { admitted = c .before .before .before .before .before .before .pre .0; clearance = c .before .before .before .before .clearance .ensures; screen = c .before .before .level .ensures ∙ ap (levelOf (tablesOf (c .before .before .before .before .before .before .args .t .now))) (c .before .before .before .device .ensures) }, omega arith, omega arith)
 
--- src/verdicts.rt:64:11
 cast-v : tie.Need-cast-v Inv-loop μ-loop
 cast-v c = omega arith
 
--- src/verdicts.rt:64:11
 add-v : tie.Need-add-v Inv-loop μ-loop
 add-v c = omega arith
 
--- src/verdicts.rt:64:9
 mul-v : tie.Need-mul-v Inv-loop μ-loop
 mul-v c = omega arith
 
--- src/verdicts.rt:64:9
 element-write-v : tie.Need-element-write-v Inv-loop μ-loop
 element-write-v c = omega arith
 
--- src/verdicts.rt:65:9
 add-i : tie.Need-add-i Inv-loop μ-loop
 add-i c = omega arith
 
--- src/verdicts.rt:63:5
 loop-less : tie.Need-loop-less Inv-loop μ-loop
 loop-less c = omega arith
 
--- src/verdicts.rt:63:5
 loop-again : tie.Need-loop-again Inv-loop μ-loop
 loop-again c = (omega arith, judged-more _ _ _ _ _ (c .before .loop-test .taken) (c .before .before .loop .inv .1) (c .judge .ensures))
 
--- src/verdicts.rt:56:1
 returns : tie.Need-returns Inv-loop μ-loop
 returns c = let e : c .before .loop .i ≡ 64 = omega arith in subst (λ (n : ℕ). Judged (tablesOf (c .before .before .before .before .before .before .args .t .now)) (c .before .before .before .before .before .before .args .u .0) n (c .before .loop .v)) e (c .before .loop .inv .1)
 

@@ -7,27 +7,21 @@ use Rattle.disclosure.proofs.verdicts.weigh.Reads as reads
 use Rattle.disclosure.proofs.verdicts.weigh.Lts as lts
 use Rattle.disclosure.proofs.verdicts.bit.Reads as bit-reads
 
--- src/verdicts.rt:49:9
 bit-requires : tie.Need-bit-requires
 bit-requires c κs = search needs
 
--- src/verdicts.rt:49:9
 returns : tie.Need-returns
 returns c = rw (c .before .if1 .taken) (omega (arith, c .bit .ensures))
 
--- src/verdicts.rt:51:5
 mul-result : tie.Need-mul-result
 mul-result c = search needs
 
--- src/verdicts.rt:51:16
 bit-requires-2 : tie.Need-bit-requires-2
 bit-requires-2 c κs = search needs
 
--- src/verdicts.rt:51:5
 add-result : tie.Need-add-result
 add-result c = omega (arith, c .bit2 .ensures, bit-small (c .before .before .args .shown))
 
--- src/verdicts.rt:44:1
 returns-2 : tie.Need-returns-2
 returns-2 c = rw (c .before .if1 .left, c .bit2 .ensures)
 

@@ -6,7 +6,7 @@ use lib.ListN.{length, take}
 use borrow.Author.Needs.{needs}
 use Rattle.disclosure.specs.EntryLaws.{padded-more}
 use Rattle.disclosure.specs.VerdictLaws.{guided-next, guided-place}
-use Rattle.disclosure.specs.Verdicts.{leads, lists}
+use Rattle.disclosure.specs.Verdicts.{leads, listed}
 use Rattle.disclosure.specs.VisitLaws.{entity-last, entity-more, here-room, places-done, places-none, places-room, places-turn, turn-room}
 use Rattle.disclosure.specs.Visited.{Visited, inside}
 use Prim.Native.Nat.{ℕ, _<_}
@@ -59,44 +59,35 @@ visit-entity-calls t = (visit-here-reads.Asked, visit-here-reads.Learnt, visit-p
 abbrev visit-places-calls : ℕ → visit-places-lts.Claims
 visit-places-calls t = (place-reads.Asked, place-reads.Learnt, visit-entity-below t, visit-entity.Post)
 
--- src/walk.rt:57:15
 visit-entity-cast-w : (t : ℕ) → visit-entity-lts.Need-cast-w (visit-entity-calls t) (visit-entity-at t) visit-entity.Post
 visit-entity-cast-w t c = search needs
 
--- src/walk.rt:57:13
 visit-entity-mul-w : (t : ℕ) → visit-entity-lts.Need-mul-w (visit-entity-calls t) (visit-entity-at t) visit-entity.Post
 visit-entity-mul-w t c = search needs
 
--- src/walk.rt:57:13
 visit-entity-element-copy-out-w : (t : ℕ) → visit-entity-lts.Need-element-copy-out-w (visit-entity-calls t) (visit-entity-at t) visit-entity.Post
-visit-entity-element-copy-out-w t c = omega (arith, c .before .before .before .pre .1 .2)
+visit-entity-element-copy-out-w t c = omega (arith, c .before .before .before .pre .1 .0 .high)
 
--- src/walk.rt:58:9
 visit-entity-visit-here-requires : (t : ℕ) → visit-entity-lts.Need-visit-here-requires (visit-entity-calls t) (visit-entity-at t) visit-entity.Post
-unfolding lists
-visit-entity-visit-here-requires t c κs = (c .before .before .before .before .before .pre .1 .3, c .before .before .before .before .before .pre .1 .4, here-room (c .before .before .before .before .before .args .t .now) (c .before .before .before .before .before .args .v .now) (c .before .before .before .before .before .args .left) (c .before .before .before .before .before .args .e .0) _ _ refl (c .before .before .before .before .before .pre .1 .5))
+unfolding listed
+visit-entity-visit-here-requires t c κs = (c .before .before .before .before .before .pre .1 .0 .few, c .before .before .before .before .before .pre .1 .0 .padded, here-room (c .before .before .before .before .before .args .t .now) (c .before .before .before .before .before .args .v .now) (c .before .before .before .before .before .args .left) (c .before .before .before .before .before .args .e .0) _ _ refl (c .before .before .before .before .before .pre .1 .1))
 
--- src/walk.rt:60:9
 visit-entity-same-length : (t : ℕ) → visit-entity-lts.Need-same-length (visit-entity-calls t) (visit-entity-at t) visit-entity.Post
 visit-entity-same-length t c = c .before .before .before .visit-here .kept .1 .1 .1 .0
 
--- src/walk.rt:60:9
 visit-entity-returns : (t : ℕ) → visit-entity-lts.Need-returns (visit-entity-calls t) (visit-entity-at t) visit-entity.Post
-unfolding lists
+unfolding listed
 visit-entity-returns t c = entity-last _ _ (c .before .before .before .before .before .before .before .before .before .args .left) (c .before .before .before .before .before .before .before .before .before .args .e .0) _ _ _ _ _ _ (c .if1 .taken) refl (c .before .before .before .visit-here .ensures)
 
--- src/walk.rt:62:5
 visit-entity-visit-places-requires : (t : ℕ) → visit-entity-lts.Need-visit-places-requires (visit-entity-calls t) (visit-entity-at t) visit-entity.Post
-unfolding leads lists
-visit-entity-visit-places-requires t c κs = (omega (arith, c .before .before .before .before .before .before .before .before .before .before .pre .0), (c .before .before .before .before .before .before .before .before .before .before .pre .1 .0, c .before .before .before .before .before .before .before .before .before .before .pre .1 .1, c .before .before .before .before .before .before .before .before .before .before .pre .1 .2, refl, pos-of-ne-zero (c .before .if1 .left), c .before .before .before .before .before .before .before .before .before .before .pre .1 .3, c .before .before .before .before .before .before .before .before .before .before .pre .1 .4, places-room (c .before .before .before .before .before .before .before .before .before .before .args .t .now) (c .before .before .before .before .before .before .before .before .before .before .args .v .now) (c .before .before .before .before .before .before .before .before .before .before .args .left) (c .before .before .before .before .before .before .before .before .before .before .args .e .0) _ _ (c .before .if1 .left) refl refl _ _ _ _ _ (c .before .before .before .before .visit-here .ensures) (c .before .before .before .before .before .before .before .before .before .before .pre .1 .5)))
+unfolding leads listed
+visit-entity-visit-places-requires t c κs = (omega (arith, c .before .before .before .before .before .before .before .before .before .before .pre .0), (c .before .before .before .before .before .before .before .before .before .before .pre .1 .0, pos-of-ne-zero (c .before .if1 .left), refl, places-room (c .before .before .before .before .before .before .before .before .before .before .args .t .now) (c .before .before .before .before .before .before .before .before .before .before .args .v .now) (c .before .before .before .before .before .before .before .before .before .before .args .left) (c .before .before .before .before .before .before .before .before .before .before .args .e .0) _ _ (c .before .if1 .left) refl refl _ _ _ _ _ (c .before .before .before .before .visit-here .ensures) (c .before .before .before .before .before .before .before .before .before .before .pre .1 .1)))
 
--- src/walk.rt:45:1
 visit-entity-same-length-2 : (t : ℕ) → visit-entity-lts.Need-same-length-2 (visit-entity-calls t) (visit-entity-at t) visit-entity.Post
 visit-entity-same-length-2 t c = c .before .before .visit-places .kept .1 .1 .1 .1 .1 .1 .0 ∙ c .before .before .before .before .before .before .before .visit-here .kept .1 .1 .1 .0
 
--- src/walk.rt:45:1
 visit-entity-returns-2 : (t : ℕ) → visit-entity-lts.Need-returns-2 (visit-entity-calls t) (visit-entity-at t) visit-entity.Post
-unfolding leads lists
+unfolding leads listed
 visit-entity-returns-2 t c = entity-more (c .before .before .before .before .before .before .before .before .before .before .before .before .before .args .t .now) (c .before .before .before .before .before .before .before .before .before .before .before .before .before .args .v .now) (c .before .before .before .before .before .before .before .before .before .before .before .before .before .args .left) (c .before .before .before .before .before .before .before .before .before .before .before .before .before .args .e .0) _ _ (c .before .before .before .before .if1 .left) refl refl _ _ _ _ _ _ _ (c .before .before .before .before .before .before .before .visit-here .kept .1 .1 .1 .0) (c .before .before .before .before .before .before .before .visit-here .ensures) (c .before .before .visit-places .ensures)
 
 abbrev visit-places-Inv-loop : visit-places-lts.InvT-loop
@@ -105,55 +96,42 @@ visit-places-Inv-loop t v e n left names room₀ at i₀ p₀ room i p = (p ≤ 
 abbrev visit-places-μ-loop : visit-places-lts.MeasureT-loop
 visit-places-μ-loop t v e n left names room₀ at i₀ p₀ room i p = n - p
 
--- src/walk.rt:81:5
 visit-places-loop-holds : (t : ℕ) → visit-places-lts.Need-loop-holds (visit-places-calls t) (visit-places-at t) visit-places.Post visit-places-Inv-loop visit-places-μ-loop
 visit-places-loop-holds t c = (omega arith, refl, places-none (c .before .before .args .t .now) (c .before .before .args .v .now) (c .before .before .args .left - 1) (c .before .before .args .e .0) _ _ _)
 
--- src/walk.rt:82:13
 visit-places-place-requires : (t : ℕ) → visit-places-lts.Need-place-requires (visit-places-calls t) (visit-places-at t) visit-places.Post visit-places-Inv-loop visit-places-μ-loop
-visit-places-place-requires t c κs = ((c .before .before .before .before .pre .1 .0 .whole, c .before .before .before .before .pre .1 .1, c .before .before .before .before .pre .1 .2), guided-place _ _ (c .before .before .before .before .pre .1 .0) _ _ _ (c .before .before .before .before .pre .1 .3) (c .loop-test .taken))
+visit-places-place-requires t c κs = ((c .before .before .before .before .pre .1 .0 .guided .whole, c .before .before .before .before .pre .1 .0 .low, c .before .before .before .before .pre .1 .0 .high), guided-place _ _ (c .before .before .before .before .pre .1 .0 .guided) _ _ _ (c .before .before .before .before .pre .1 .2) (c .loop-test .taken))
 
--- src/walk.rt:84:28
 visit-places-add-longer : (t : ℕ) → visit-places-lts.Need-add-longer (visit-places-calls t) (visit-places-at t) visit-places.Post visit-places-Inv-loop visit-places-μ-loop
 visit-places-add-longer t c = omega arith
 
--- src/walk.rt:84:16
 visit-places-sub-longer : (t : ℕ) → visit-places-lts.Need-sub-longer (visit-places-calls t) (visit-places-at t) visit-places.Post visit-places-Inv-loop visit-places-μ-loop
-visit-places-sub-longer t c = omega (arith, c .before .before .before .before .before .pre .1 .5)
+visit-places-sub-longer t c = omega (arith, c .before .before .before .before .before .pre .1 .0 .few)
 
--- src/walk.rt:84:9
 visit-places-mul-longer : (t : ℕ) → visit-places-lts.Need-mul-longer (visit-places-calls t) (visit-places-at t) visit-places.Post visit-places-Inv-loop visit-places-μ-loop
 visit-places-mul-longer t c = omega arith
 
--- src/walk.rt:84:9
 visit-places-array-write-longer : (t : ℕ) → visit-places-lts.Need-array-write-longer (visit-places-calls t) (visit-places-at t) visit-places.Post visit-places-Inv-loop visit-places-μ-loop
-visit-places-array-write-longer t c = omega (arith, c .before .before .before .before .before .pre .1 .4, c .before .before .before .before .before .pre .1 .5)
+visit-places-array-write-longer t c = omega (arith, c .before .before .before .before .before .pre .1 .1, c .before .before .before .before .before .pre .1 .0 .few)
 
--- src/walk.rt:85:35
 visit-places-sub-visit-entity : (t : ℕ) → visit-places-lts.Need-sub-visit-entity (visit-places-calls t) (visit-places-at t) visit-places.Post visit-places-Inv-loop visit-places-μ-loop
-visit-places-sub-visit-entity t c = omega (arith, c .before .before .before .before .before .pre .1 .4)
+visit-places-sub-visit-entity t c = omega (arith, c .before .before .before .before .before .pre .1 .1)
 
--- src/walk.rt:85:9
 visit-places-visit-entity-requires : (t : ℕ) → visit-places-lts.Need-visit-entity-requires (visit-places-calls t) (visit-places-at t) visit-places.Post visit-places-Inv-loop visit-places-μ-loop
-visit-places-visit-entity-requires t c κs = let g = guided-next _ _ (c .before .before .before .before .before .before .pre .1 .0) _ _ _ (c .before .before .before .before .before .before .pre .1 .3) (c .before .before .loop-test .taken) _ (c .before .place .ensures) in (omega (arith, c .before .before .before .before .before .before .pre .0, c .before .before .before .before .before .before .pre .1 .4), (c .before .before .before .before .before .before .pre .1 .0, g .0, g .1, omega (arith, c .before .before .before .before .before .before .pre .1 .5), padded-more _ _ _ _ (omega (arith, c .before .before .before .before .before .before .pre .1 .4, c .before .before .before .before .before .before .pre .1 .5)) (c .before .before .before .before .before .before .pre .1 .6), turn-room (c .before .before .before .before .before .before .args .t .now) (c .before .before .before .before .before .before .args .v .now) (c .before .before .before .before .before .before .args .left - 1) (c .before .before .before .before .before .before .args .e .0) _ _ (c .before .place .ensures) _ _ _ _ _ _ (c .before .before .loop-test .taken) (c .before .before .before .loop .inv .2) (c .before .before .before .before .before .before .pre .1 .7)))
+visit-places-visit-entity-requires t c κs = let g = guided-next _ _ (c .before .before .before .before .before .before .pre .1 .0 .guided) _ _ _ (c .before .before .before .before .before .before .pre .1 .2) (c .before .before .loop-test .taken) _ (c .before .place .ensures) in (omega (arith, c .before .before .before .before .before .before .pre .0, c .before .before .before .before .before .before .pre .1 .1), (record { guided = c .before .before .before .before .before .before .pre .1 .0 .guided; low = g .0; high = g .1; few = omega (arith, c .before .before .before .before .before .before .pre .1 .0 .few); padded = padded-more _ _ _ _ (omega (arith, c .before .before .before .before .before .before .pre .1 .1, c .before .before .before .before .before .before .pre .1 .0 .few)) (c .before .before .before .before .before .before .pre .1 .0 .padded) }, turn-room (c .before .before .before .before .before .before .args .t .now) (c .before .before .before .before .before .before .args .v .now) (c .before .before .before .before .before .before .args .left - 1) (c .before .before .before .before .before .before .args .e .0) _ _ (c .before .place .ensures) _ _ _ _ _ _ (c .before .before .loop-test .taken) (c .before .before .before .loop .inv .2) (c .before .before .before .before .before .before .pre .1 .3)))
 
--- src/walk.rt:86:9
 visit-places-add-p : (t : ℕ) → visit-places-lts.Need-add-p (visit-places-calls t) (visit-places-at t) visit-places.Post visit-places-Inv-loop visit-places-μ-loop
 visit-places-add-p t c = omega arith
 
--- src/walk.rt:81:5
 visit-places-loop-less : (t : ℕ) → visit-places-lts.Need-loop-less (visit-places-calls t) (visit-places-at t) visit-places.Post visit-places-Inv-loop visit-places-μ-loop
 visit-places-loop-less t c = omega (arith, c .before .before .before .before .before .loop-test .taken)
 
--- src/walk.rt:81:5
 visit-places-loop-again : (t : ℕ) → visit-places-lts.Need-loop-again (visit-places-calls t) (visit-places-at t) visit-places.Post visit-places-Inv-loop visit-places-μ-loop
-visit-places-loop-again t c = (omega arith, c .before .before .visit-entity .kept .1 .1 .1 .1 .1 .0 ∙ c .before .before .before .before .before .before .loop .inv .1, places-turn (c .before .before .before .before .before .before .before .before .before .args .t .now) (c .before .before .before .before .before .before .before .before .before .args .v .now) (c .before .before .before .before .before .before .before .before .before .args .left - 1) (c .before .before .before .before .before .before .before .before .before .args .e .0) _ _ (c .before .before .before .before .place .ensures) _ _ (4 - (c .before .before .before .before .before .before .before .before .before .args .left - 1)) _ _ _ _ _ _ (c .before .before .before .before .before .before .before .before .before .pre .1 .6) (omega (arith, c .before .before .before .before .before .before .before .before .before .pre .1 .4, c .before .before .before .before .before .before .before .before .before .pre .1 .5)) (omega (arith, c .before .before .before .before .before .before .before .before .before .pre .1 .4, c .before .before .before .before .before .before .before .before .before .pre .1 .5)) (c .before .before .before .before .before .before .loop .inv .1) (c .before .before .before .before .before .before .loop .inv .2) (c .before .before .visit-entity .ensures))
+visit-places-loop-again t c = (omega arith, c .before .before .visit-entity .kept .1 .1 .1 .1 .1 .0 ∙ c .before .before .before .before .before .before .loop .inv .1, places-turn (c .before .before .before .before .before .before .before .before .before .args .t .now) (c .before .before .before .before .before .before .before .before .before .args .v .now) (c .before .before .before .before .before .before .before .before .before .args .left - 1) (c .before .before .before .before .before .before .before .before .before .args .e .0) _ _ (c .before .before .before .before .place .ensures) _ _ (4 - (c .before .before .before .before .before .before .before .before .before .args .left - 1)) _ _ _ _ _ _ (c .before .before .before .before .before .before .before .before .before .pre .1 .0 .padded) (omega (arith, c .before .before .before .before .before .before .before .before .before .pre .1 .1, c .before .before .before .before .before .before .before .before .before .pre .1 .0 .few)) (omega (arith, c .before .before .before .before .before .before .before .before .before .pre .1 .1, c .before .before .before .before .before .before .before .before .before .pre .1 .0 .few)) (c .before .before .before .before .before .before .loop .inv .1) (c .before .before .before .before .before .before .loop .inv .2) (c .before .before .visit-entity .ensures))
 
--- src/walk.rt:66:1
 visit-places-same-length : (t : ℕ) → visit-places-lts.Need-same-length (visit-places-calls t) (visit-places-at t) visit-places.Post visit-places-Inv-loop visit-places-μ-loop
 visit-places-same-length t c = c .before .loop .inv .1
 
--- src/walk.rt:66:1
 visit-places-returns : (t : ℕ) → visit-places-lts.Need-returns (visit-places-calls t) (visit-places-at t) visit-places.Post visit-places-Inv-loop visit-places-μ-loop
 visit-places-returns t c = places-done (c .before .before .before .before .args .t .now) (c .before .before .before .before .args .v .now) (c .before .before .before .before .args .left - 1) (c .before .before .before .before .args .e .0) _ _ _ _ _ _ _ (omega arith) (c .before .loop .inv .2)
 

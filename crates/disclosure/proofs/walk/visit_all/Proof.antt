@@ -19,43 +19,33 @@ Inv-loop t v room₀ i₀ e₀ room i e = (e ≤ 64) × (length room ≡ length 
 abbrev μ-loop : tie.MeasureT-loop
 μ-loop t v room₀ i₀ e₀ room i e = 64 - e
 
--- src/walk.rt:98:5
 loop-holds : tie.Need-loop-holds Inv-loop μ-loop
 loop-holds c = (omega arith, refl, all-none _ _ _)
 
--- src/walk.rt:100:20
 add-names : tie.Need-add-names Inv-loop μ-loop
 add-names c = omega arith
 
--- src/walk.rt:100:9
 array-write-names : tie.Need-array-write-names Inv-loop μ-loop
 array-write-names c = search needs
 
--- src/walk.rt:101:39
 add-t8 : tie.Need-add-t8 Inv-loop μ-loop
 add-t8 c = omega arith
 
--- src/walk.rt:101:9
 visit-entity-requires : tie.Need-visit-entity-requires Inv-loop μ-loop
-visit-entity-requires c κs = (c .before .before .before .before .before .pre, omega arith, omega arith, omega arith, padded-one _, all-room _ _ (c .before .before .before .before .before .pre) _ _ _ _ (c .before .loop-test .taken) (c .before .before .loop .inv .2))
+visit-entity-requires c κs = (record { guided = c .before .before .before .before .before .pre; low = omega arith; high = omega arith; few = omega arith; padded = padded-one _ }, all-room _ _ (c .before .before .before .before .before .pre) _ _ _ _ (c .before .loop-test .taken) (c .before .before .loop .inv .2))
 
--- src/walk.rt:102:9
 add-e : tie.Need-add-e Inv-loop μ-loop
 add-e c = omega arith
 
--- src/walk.rt:98:5
 loop-less : tie.Need-loop-less Inv-loop μ-loop
 loop-less c = omega arith
 
--- src/walk.rt:98:5
 loop-again : tie.Need-loop-again Inv-loop μ-loop
 loop-again c = (omega arith, c .before .before .visit-entity .kept .1 .1 .1 .1 .1 .0 ∙ c .before .before .before .before .before .loop .inv .1, all-turn _ _ _ _ _ _ _ _ (c .before .before .before .before .before .loop .inv .1) (c .before .before .before .before .before .loop .inv .2) (c .before .before .visit-entity .ensures))
 
--- src/walk.rt:92:1
 same-length : tie.Need-same-length Inv-loop μ-loop
 same-length c = c .before .loop .inv .1
 
--- src/walk.rt:92:1
 returns : tie.Need-returns Inv-loop μ-loop
 returns c = all-done _ _ _ _ _ _ _ (omega arith) (c .before .loop .inv .2)
 

@@ -12,15 +12,12 @@ use Rattle.ladder.proofs.form.fits_acknowledge.Reads as reads
 use Rattle.ladder.proofs.form.fits_acknowledge.Lts as lts
 use Rattle.ladder.proofs.form.takes_none.Reads as takes-none-reads
 
--- src/form.rt:144:5
 takes-none-requires : tie.Need-takes-none-requires
 takes-none-requires c κs = search needs
 
--- src/form.rt:144:22
 shared-slice-read-result : tie.Need-shared-slice-read-result
 shared-slice-read-result c = search needs
 
--- src/form.rt:140:1
 returns : tie.Need-returns
 unfolding fits lengthFits rangeAt free unused aLevel someRoles aUser aSort aFlag aSum aWho anOperation aPosition between requestOf referenceAt
 returns c = rw (c .before .takes-none .ensures) (none-form (requestOf (c .before .before .before .args .q .now)) (true) (true) (eqb (getD (c .before .before .before .args .q .now) 14 0) 0))

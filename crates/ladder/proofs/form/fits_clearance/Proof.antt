@@ -12,27 +12,21 @@ use Rattle.ladder.proofs.form.fits_clearance.Reads as reads
 use Rattle.ladder.proofs.form.fits_clearance.Lts as lts
 use Rattle.ladder.proofs.form.takes_none.Reads as takes-none-reads
 
--- src/form.rt:136:5
 takes-none-requires : tie.Need-takes-none-requires
 takes-none-requires c κs = search needs
 
--- src/form.rt:136:29
 shared-slice-read-result : tie.Need-shared-slice-read-result
 shared-slice-read-result c = search needs
 
--- src/form.rt:136:39
 shared-slice-read-result-2 : tie.Need-shared-slice-read-result-2
 shared-slice-read-result-2 c = search needs
 
--- src/form.rt:136:57
 shared-slice-read-result-3 : tie.Need-shared-slice-read-result-3
 shared-slice-read-result-3 c = search needs
 
--- src/form.rt:136:74
 shared-slice-read-result-4 : tie.Need-shared-slice-read-result-4
 shared-slice-read-result-4 c = search needs
 
--- src/form.rt:132:1
 returns : tie.Need-returns
 unfolding fits lengthFits rangeAt free unused aLevel someRoles aUser aSort aFlag aSum aWho anOperation aPosition between requestOf referenceAt
 returns c = rw (c .before .before .before .before .takes-none .ensures) (none-form (requestOf (c .before .before .before .before .before .before .args .q .now)) (leb 1 (getD (c .before .before .before .before .before .before .args .q .now) 12 0) && leb (getD (c .before .before .before .before .before .before .args .q .now) 12 0) 16) (ltb (getD (c .before .before .before .before .before .before .args .q .now) 13 0) 1024) (eqb (getD (c .before .before .before .before .before .before .args .q .now) 14 0) 0))

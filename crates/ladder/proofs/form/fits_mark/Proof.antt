@@ -11,23 +11,18 @@ use Rattle.ladder.proofs.form.fits_mark.Reads as reads
 use Rattle.ladder.proofs.form.fits_mark.Lts as lts
 use Rattle.ladder.proofs.form.takes_one.Reads as takes-one-reads
 
--- src/form.rt:96:5
 takes-one-requires : tie.Need-takes-one-requires
 takes-one-requires c κs = search needs
 
--- src/form.rt:96:22
 shared-slice-read-result : tie.Need-shared-slice-read-result
 shared-slice-read-result c = search needs
 
--- src/form.rt:96:38
 shared-slice-read-result-2 : tie.Need-shared-slice-read-result-2
 shared-slice-read-result-2 c = search needs
 
--- src/form.rt:96:53
 shared-slice-read-result-3 : tie.Need-shared-slice-read-result-3
 shared-slice-read-result-3 c = search needs
 
--- src/form.rt:92:1
 returns : tie.Need-returns
 unfolding fits lengthFits rangeAt free unused aLevel someRoles aUser aSort aFlag aSum aWho anOperation aPosition between requestOf referenceAt
 returns c = rw (c .before .before .before .takes-one .ensures) (one-form (requestOf (c .before .before .before .before .before .args .q .now)) (leb (getD (c .before .before .before .before .before .args .q .now) 12 0) 1) (eqb (getD (c .before .before .before .before .before .args .q .now) 13 0) 0) (eqb (getD (c .before .before .before .before .before .args .q .now) 14 0) 0))

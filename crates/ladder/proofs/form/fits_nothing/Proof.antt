@@ -11,23 +11,18 @@ use Rattle.ladder.proofs.form.fits_nothing.Reads as reads
 use Rattle.ladder.proofs.form.fits_nothing.Lts as lts
 use Rattle.ladder.proofs.form.takes_none.Reads as takes-none-reads
 
--- src/form.rt:120:5
 takes-none-requires : tie.Need-takes-none-requires
 takes-none-requires c κs = search needs
 
--- src/form.rt:120:23
 shared-slice-read-result : tie.Need-shared-slice-read-result
 shared-slice-read-result c = search needs
 
--- src/form.rt:120:39
 shared-slice-read-result-2 : tie.Need-shared-slice-read-result-2
 shared-slice-read-result-2 c = search needs
 
--- src/form.rt:120:54
 shared-slice-read-result-3 : tie.Need-shared-slice-read-result-3
 shared-slice-read-result-3 c = search needs
 
--- src/form.rt:116:1
 returns : tie.Need-returns
 unfolding fits lengthFits rangeAt free unused aLevel someRoles aUser aSort aFlag aSum aWho anOperation aPosition between requestOf referenceAt
 returns c = rw (c .before .before .before .takes-none .ensures) (none-form (requestOf (c .before .before .before .before .before .args .q .now)) (eqb (getD (c .before .before .before .before .before .args .q .now) 12 0) 0) (eqb (getD (c .before .before .before .before .before .args .q .now) 13 0) 0) (eqb (getD (c .before .before .before .before .before .args .q .now) 14 0) 0))

@@ -12,19 +12,15 @@ use Rattle.ladder.proofs.form.fits_value.Reads as reads
 use Rattle.ladder.proofs.form.fits_value.Lts as lts
 use Rattle.ladder.proofs.form.takes_one.Reads as takes-one-reads
 
--- src/form.rt:80:5
 takes-one-requires : tie.Need-takes-one-requires
 takes-one-requires c κs = search needs
 
--- src/form.rt:80:22
 shared-slice-read-result : tie.Need-shared-slice-read-result
 shared-slice-read-result c = search needs
 
--- src/form.rt:80:37
 shared-slice-read-result-2 : tie.Need-shared-slice-read-result-2
 shared-slice-read-result-2 c = search needs
 
--- src/form.rt:76:1
 returns : tie.Need-returns
 unfolding fits lengthFits rangeAt free unused aLevel someRoles aUser aSort aFlag aSum aWho anOperation aPosition between requestOf referenceAt
 returns c = rw (c .before .before .takes-one .ensures) (one-form (requestOf (c .before .before .before .before .args .q .now)) (true) (eqb (getD (c .before .before .before .before .args .q .now) 13 0) 0) (eqb (getD (c .before .before .before .before .args .q .now) 14 0) 0))

@@ -4,7 +4,6 @@ use Rattle.ladder.proofs.form.names_fit.Tie as tie
 use Rattle.ladder.proofs.form.names_fit.Reads as reads
 use Rattle.ladder.proofs.form.names_fit.Lts as lts
 
--- src/form.rt:13:1
 returns : tie.Need-returns
 returns c = padded-form (c .args .n) (c .args .a) (c .args .b) (c .args .c) (c .args .d)
 

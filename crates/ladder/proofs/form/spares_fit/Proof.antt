@@ -8,59 +8,45 @@ use Rattle.ladder.proofs.form.spares_fit.Reads as reads
 use Rattle.ladder.proofs.form.spares_fit.Lts as lts
 use Rattle.ladder.proofs.form.names_fit.Reads as names-fit-reads
 
--- src/form.rt:24:15
 shared-slice-read-names-fit : tie.Need-shared-slice-read-names-fit
 shared-slice-read-names-fit c = search needs
 
--- src/form.rt:24:21
 shared-slice-read-names-fit-2 : tie.Need-shared-slice-read-names-fit-2
 shared-slice-read-names-fit-2 c = search needs
 
--- src/form.rt:24:27
 shared-slice-read-names-fit-3 : tie.Need-shared-slice-read-names-fit-3
 shared-slice-read-names-fit-3 c = search needs
 
--- src/form.rt:24:33
 shared-slice-read-names-fit-4 : tie.Need-shared-slice-read-names-fit-4
 shared-slice-read-names-fit-4 c = search needs
 
--- src/form.rt:24:39
 shared-slice-read-names-fit-5 : tie.Need-shared-slice-read-names-fit-5
 shared-slice-read-names-fit-5 c = search needs
 
--- src/form.rt:24:5
 names-fit-requires : tie.Need-names-fit-requires
 names-fit-requires c κs = search needs
 
--- src/form.rt:24:58
 shared-slice-read-names-fit-6 : tie.Need-shared-slice-read-names-fit-6
 shared-slice-read-names-fit-6 c = search needs
 
--- src/form.rt:24:64
 shared-slice-read-names-fit-7 : tie.Need-shared-slice-read-names-fit-7
 shared-slice-read-names-fit-7 c = search needs
 
--- src/form.rt:24:70
 shared-slice-read-names-fit-8 : tie.Need-shared-slice-read-names-fit-8
 shared-slice-read-names-fit-8 c = search needs
 
--- src/form.rt:24:76
 shared-slice-read-names-fit-9 : tie.Need-shared-slice-read-names-fit-9
 shared-slice-read-names-fit-9 c = search needs
 
--- src/form.rt:24:83
 shared-slice-read-names-fit-10 : tie.Need-shared-slice-read-names-fit-10
 shared-slice-read-names-fit-10 c = search needs
 
--- src/form.rt:24:48
 names-fit-requires-2 : tie.Need-names-fit-requires-2
 names-fit-requires-2 c κs = search needs
 
--- src/form.rt:24:93
 shared-slice-read-result : tie.Need-shared-slice-read-result
 shared-slice-read-result c = search needs
 
--- src/form.rt:20:1
 returns : tie.Need-returns
 unfolding spareForm requestOf
 returns c = rw (c .before .before .before .before .before .before .before .names-fit .ensures, c .before .names-fit2 .ensures, padded-names (c .before .before .before .before .before .before .before .before .before .before .before .before .before .before .args .q .now) 2, padded-names (c .before .before .before .before .before .before .before .before .before .before .before .before .before .before .args .q .now) 7)

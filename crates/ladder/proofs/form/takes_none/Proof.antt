@@ -7,19 +7,15 @@ use Rattle.ladder.proofs.form.takes_none.Reads as reads
 use Rattle.ladder.proofs.form.takes_none.Lts as lts
 use Rattle.ladder.proofs.form.spares_fit.Reads as spares-fit-reads
 
--- src/form.rt:32:6
 shared-slice-read-result : tie.Need-shared-slice-read-result
 shared-slice-read-result c = search needs
 
--- src/form.rt:32:21
 shared-slice-read-result-2 : tie.Need-shared-slice-read-result-2
 shared-slice-read-result-2 c = search needs
 
--- src/form.rt:32:34
 spares-fit-requires : tie.Need-spares-fit-requires
 spares-fit-requires c κs = search needs
 
--- src/form.rt:28:1
 returns : tie.Need-returns
 unfolding noneForm requestOf referenceAt
 returns c = rw (c .spares-fit .ensures)

@@ -7,23 +7,18 @@ use Rattle.ladder.proofs.form.takes_one.Reads as reads
 use Rattle.ladder.proofs.form.takes_one.Lts as lts
 use Rattle.ladder.proofs.form.spares_fit.Reads as spares-fit-reads
 
--- src/form.rt:40:12
 shared-slice-read-result : tie.Need-shared-slice-read-result
 shared-slice-read-result c = search needs
 
--- src/form.rt:40:21
 shared-slice-read-result-2 : tie.Need-shared-slice-read-result-2
 shared-slice-read-result-2 c = search needs
 
--- src/form.rt:40:37
 shared-slice-read-result-3 : tie.Need-shared-slice-read-result-3
 shared-slice-read-result-3 c = search needs
 
--- src/form.rt:40:50
 spares-fit-requires : tie.Need-spares-fit-requires
 spares-fit-requires c κs = search needs
 
--- src/form.rt:36:1
 returns : tie.Need-returns
 unfolding oneForm requestOf referenceAt
 returns c = rw (c .spares-fit .ensures)

@@ -7,27 +7,21 @@ use Rattle.ladder.proofs.form.takes_two.Reads as reads
 use Rattle.ladder.proofs.form.takes_two.Lts as lts
 use Rattle.ladder.proofs.form.spares_fit.Reads as spares-fit-reads
 
--- src/form.rt:48:12
 shared-slice-read-result : tie.Need-shared-slice-read-result
 shared-slice-read-result c = search needs
 
--- src/form.rt:48:21
 shared-slice-read-result-2 : tie.Need-shared-slice-read-result-2
 shared-slice-read-result-2 c = search needs
 
--- src/form.rt:48:43
 shared-slice-read-result-3 : tie.Need-shared-slice-read-result-3
 shared-slice-read-result-3 c = search needs
 
--- src/form.rt:48:52
 shared-slice-read-result-4 : tie.Need-shared-slice-read-result-4
 shared-slice-read-result-4 c = search needs
 
--- src/form.rt:48:66
 spares-fit-requires : tie.Need-spares-fit-requires
 spares-fit-requires c κs = search needs
 
--- src/form.rt:44:1
 returns : tie.Need-returns
 unfolding twoForm requestOf referenceAt
 returns c = rw (c .spares-fit .ensures)

@@ -21,187 +21,146 @@ use Rattle.ladder.proofs.form.fits_show.Reads as fits-show-reads
 use Rattle.ladder.proofs.form.fits_triple.Reads as fits-triple-reads
 use Rattle.ladder.proofs.form.fits_value.Reads as fits-value-reads
 
--- src/form.rt:153:14
 fits-create-requires : tie.Need-fits-create-requires
 fits-create-requires c κs = search needs
 
--- src/form.rt:154:14
 fits-entity-requires : tie.Need-fits-entity-requires
 fits-entity-requires c κs = search needs
 
--- src/form.rt:155:14
 fits-pair-requires : tie.Need-fits-pair-requires
 fits-pair-requires c κs = search needs
 
--- src/form.rt:156:14
 fits-value-requires : tie.Need-fits-value-requires
 fits-value-requires c κs = search needs
 
--- src/form.rt:157:14
 fits-pair-requires-2 : tie.Need-fits-pair-requires-2
 fits-pair-requires-2 c κs = search needs
 
--- src/form.rt:158:14
 fits-level-requires : tie.Need-fits-level-requires
 fits-level-requires c κs = search needs
 
--- src/form.rt:159:14
 fits-mark-requires : tie.Need-fits-mark-requires
 fits-mark-requires c κs = search needs
 
--- src/form.rt:160:14
 fits-triple-requires : tie.Need-fits-triple-requires
 fits-triple-requires c κs = search needs
 
--- src/form.rt:161:14
 fits-triple-requires-2 : tie.Need-fits-triple-requires-2
 fits-triple-requires-2 c κs = search needs
 
--- src/form.rt:162:15
 fits-show-requires : tie.Need-fits-show-requires
 fits-show-requires c κs = search needs
 
--- src/form.rt:163:15
 fits-nothing-requires : tie.Need-fits-nothing-requires
 fits-nothing-requires c κs = search needs
 
--- src/form.rt:164:15
 fits-entity-requires-2 : tie.Need-fits-entity-requires-2
 fits-entity-requires-2 c κs = search needs
 
--- src/form.rt:165:15
 fits-nothing-requires-2 : tie.Need-fits-nothing-requires-2
 fits-nothing-requires-2 c κs = search needs
 
--- src/form.rt:166:15
 fits-roles-requires : tie.Need-fits-roles-requires
 fits-roles-requires c κs = search needs
 
--- src/form.rt:167:15
 fits-clearance-requires : tie.Need-fits-clearance-requires
 fits-clearance-requires c κs = search needs
 
--- src/form.rt:168:15
 fits-roles-requires-2 : tie.Need-fits-roles-requires-2
 fits-roles-requires-2 c κs = search needs
 
--- src/form.rt:169:15
 fits-level-requires-2 : tie.Need-fits-level-requires-2
 fits-level-requires-2 c κs = search needs
 
--- src/form.rt:170:15
 fits-level-requires-3 : tie.Need-fits-level-requires-3
 fits-level-requires-3 c κs = search needs
 
--- src/form.rt:171:15
 fits-entity-requires-3 : tie.Need-fits-entity-requires-3
 fits-entity-requires-3 c κs = search needs
 
--- src/form.rt:172:15
 fits-acknowledge-requires : tie.Need-fits-acknowledge-requires
 fits-acknowledge-requires c κs = search needs
 
--- src/form.rt:148:1
 returns : tie.Need-returns
 unfolding fits lengthFits rangeAt
 returns c = c .fits-create .ensures ∙ fits-named _ toCreate (c .before .before .before .pre .1 ∙ c .before .match .keys1)
 
--- src/form.rt:148:1
 returns-2 : tie.Need-returns-2
 unfolding fits lengthFits rangeAt
 returns-2 c = c .fits-entity .ensures ∙ fits-named _ toDelete (c .before .before .before .pre .1 ∙ c .before .match .keys2)
 
--- src/form.rt:148:1
 returns-3 : tie.Need-returns-3
 unfolding fits lengthFits rangeAt
 returns-3 c = c .fits-pair .ensures ∙ fits-named _ toMove (c .before .before .before .pre .1 ∙ c .before .match .keys3)
 
--- src/form.rt:148:1
 returns-4 : tie.Need-returns-4
 unfolding fits lengthFits rangeAt
 returns-4 c = c .fits-value .ensures ∙ fits-named _ toEdit (c .before .before .before .pre .1 ∙ c .before .match .keys4)
 
--- src/form.rt:148:1
 returns-5 : tie.Need-returns-5
 unfolding fits lengthFits rangeAt
 returns-5 c = c .fits-pair2 .ensures ∙ fits-named _ toCopy (c .before .before .before .pre .1 ∙ c .before .match .keys5)
 
--- src/form.rt:148:1
 returns-6 : tie.Need-returns-6
 unfolding fits lengthFits rangeAt
 returns-6 c = c .fits-level .ensures ∙ fits-named _ toLevel (c .before .before .before .pre .1 ∙ c .before .match .keys6)
 
--- src/form.rt:148:1
 returns-7 : tie.Need-returns-7
 unfolding fits lengthFits rangeAt
 returns-7 c = c .fits-mark .ensures ∙ fits-named _ toMark (c .before .before .before .pre .1 ∙ c .before .match .keys7)
 
--- src/form.rt:148:1
 returns-8 : tie.Need-returns-8
 unfolding fits lengthFits rangeAt
 returns-8 c = c .fits-triple .ensures ∙ fits-named _ toGrant (c .before .before .before .pre .1 ∙ c .before .match .keys8)
 
--- src/form.rt:148:1
 returns-9 : tie.Need-returns-9
 unfolding fits lengthFits rangeAt
 returns-9 c = c .fits-triple2 .ensures ∙ fits-named _ toRevoke (c .before .before .before .pre .1 ∙ c .before .match .keys9)
 
--- src/form.rt:148:1
 returns-10 : tie.Need-returns-10
 unfolding fits lengthFits rangeAt
 returns-10 c = c .fits-show .ensures ∙ fits-named _ toShow (c .before .before .before .pre .1 ∙ c .before .match .keys10)
 
--- src/form.rt:148:1
 returns-11 : tie.Need-returns-11
 unfolding fits lengthFits rangeAt
 returns-11 c = c .fits-nothing .ensures ∙ fits-named _ toClear (c .before .before .before .pre .1 ∙ c .before .match .keys11)
 
--- src/form.rt:148:1
 returns-12 : tie.Need-returns-12
 unfolding fits lengthFits rangeAt
 returns-12 c = c .fits-entity2 .ensures ∙ fits-named _ toLogin (c .before .before .before .pre .1 ∙ c .before .match .keys12)
 
--- src/form.rt:148:1
 returns-13 : tie.Need-returns-13
 unfolding fits lengthFits rangeAt
 returns-13 c = c .fits-nothing2 .ensures ∙ fits-named _ toLogout (c .before .before .before .pre .1 ∙ c .before .match .keys13)
 
--- src/form.rt:148:1
 returns-14 : tie.Need-returns-14
 unfolding fits lengthFits rangeAt
 returns-14 c = c .fits-roles .ensures ∙ fits-named _ toCurrent (c .before .before .before .pre .1 ∙ c .before .match .keys14)
 
--- src/form.rt:148:1
 returns-15 : tie.Need-returns-15
 unfolding fits lengthFits rangeAt
 returns-15 c = c .fits-clearance .ensures ∙ fits-named _ toClearance (c .before .before .before .pre .1 ∙ c .before .match .keys15)
 
--- src/form.rt:148:1
 returns-16 : tie.Need-returns-16
 unfolding fits lengthFits rangeAt
 returns-16 c = c .fits-roles2 .ensures ∙ fits-named _ toAuthorised (c .before .before .before .pre .1 ∙ c .before .match .keys16)
 
--- src/form.rt:148:1
 returns-17 : tie.Need-returns-17
 unfolding fits lengthFits rangeAt
 returns-17 c = c .fits-level2 .ensures ∙ fits-named _ toMaximum (c .before .before .before .pre .1 ∙ c .before .match .keys17)
 
--- src/form.rt:148:1
 returns-18 : tie.Need-returns-18
 unfolding fits lengthFits rangeAt
 returns-18 c = c .fits-level3 .ensures ∙ fits-named _ toDeviceLevel (c .before .before .before .pre .1 ∙ c .before .match .keys18)
 
--- src/form.rt:148:1
 returns-19 : tie.Need-returns-19
 unfolding fits lengthFits rangeAt
 returns-19 c = c .fits-entity3 .ensures ∙ fits-named _ toRelease (c .before .before .before .pre .1 ∙ c .before .match .keys19)
 
--- src/form.rt:148:1
 returns-20 : tie.Need-returns-20
 unfolding fits lengthFits rangeAt
 returns-20 c = c .fits-acknowledge .ensures ∙ fits-named _ toAcknowledge (c .before .before .before .pre .1 ∙ c .before .match .keys20)
 
--- src/form.rt:148:1
 returns-21 : tie.Need-returns-21
 returns-21 c = unnamed _ _ (rw (← c .before .before .pre .1) at (c .match .rest))
 

@@ -8,15 +8,12 @@ use Rattle.ladder.proofs.kinds.has_role.Lts as lts
 use Rattle.levels.proofs.has_bit.Reads as has-bit-reads
 use Rattle.tables.proofs.current.Reads as current-reads
 
--- src/kinds.rt:58:24
 current-requires : tie.Need-current-requires
 current-requires c κs = search needs
 
--- src/kinds.rt:58:5
 has-bit-requires : tie.Need-has-bit-requires
 has-bit-requires c κs = search needs
 
--- src/kinds.rt:54:1
 returns : tie.Need-returns
 unfolding hasRole
 returns c = c .has-bit .ensures ∙ rw (c .before .current .ensures)

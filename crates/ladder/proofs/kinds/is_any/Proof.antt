@@ -6,11 +6,9 @@ use Rattle.ladder.proofs.kinds.is_any.Reads as reads
 use Rattle.ladder.proofs.kinds.is_any.Lts as lts
 use Rattle.tables.proofs.kind.Reads as kind-reads
 
--- src/kinds.rt:50:10
 kind-requires : tie.Need-kind-requires
 kind-requires c κs = search needs
 
--- src/kinds.rt:46:1
 returns : tie.Need-returns
 unfolding isAny
 returns c = rw (c .kind .ensures)

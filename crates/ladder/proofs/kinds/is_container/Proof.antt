@@ -6,11 +6,9 @@ use Rattle.ladder.proofs.kinds.is_container.Reads as reads
 use Rattle.ladder.proofs.kinds.is_container.Lts as lts
 use Rattle.tables.proofs.kind.Reads as kind-reads
 
--- src/kinds.rt:26:5
 kind-requires : tie.Need-kind-requires
 kind-requires c κs = search needs
 
--- src/kinds.rt:22:1
 returns : tie.Need-returns
 unfolding isContainer
 returns c = rw (c .kind .ensures)

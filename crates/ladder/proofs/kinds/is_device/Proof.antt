@@ -6,11 +6,9 @@ use Rattle.ladder.proofs.kinds.is_device.Reads as reads
 use Rattle.ladder.proofs.kinds.is_device.Lts as lts
 use Rattle.tables.proofs.kind.Reads as kind-reads
 
--- src/kinds.rt:34:5
 kind-requires : tie.Need-kind-requires
 kind-requires c κs = search needs
 
--- src/kinds.rt:30:1
 returns : tie.Need-returns
 unfolding isDevice
 returns c = rw (c .kind .ensures)

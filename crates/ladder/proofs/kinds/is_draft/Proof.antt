@@ -7,15 +7,12 @@ use Rattle.ladder.proofs.kinds.is_draft.Lts as lts
 use Rattle.tables.proofs.kind.Reads as kind-reads
 use Rattle.tables.proofs.type_of.Reads as type-of-reads
 
--- src/kinds.rt:42:6
 kind-requires : tie.Need-kind-requires
 kind-requires c κs = search needs
 
--- src/kinds.rt:42:34
 type-of-requires : tie.Need-type-of-requires
 type-of-requires c κs = search needs
 
--- src/kinds.rt:38:1
 returns : tie.Need-returns
 unfolding isDraft
 returns c = rw (c .before .kind .ensures, c .type-of .ensures)

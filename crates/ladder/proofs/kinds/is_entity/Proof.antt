@@ -6,11 +6,9 @@ use Rattle.ladder.proofs.kinds.is_entity.Reads as reads
 use Rattle.ladder.proofs.kinds.is_entity.Lts as lts
 use Rattle.tables.proofs.kind.Reads as kind-reads
 
--- src/kinds.rt:17:9
 kind-requires : tie.Need-kind-requires
 kind-requires c κs = search needs
 
--- src/kinds.rt:13:1
 returns : tie.Need-returns
 unfolding isEntity
 returns c = rw (c .kind .ensures)

@@ -6,15 +6,12 @@ use Rattle.ladder.proofs.refusal.one_more.Tie as tie
 use Rattle.ladder.proofs.refusal.one_more.Reads as reads
 use Rattle.ladder.proofs.refusal.one_more.Lts as lts
 
--- src/refusal.rt:14:16
 add-result : tie.Need-add-result
 add-result c = search needs
 
--- src/refusal.rt:14:9
 returns : tie.Need-returns
 returns c = rw (lt-ltb (c .before .args .m) 65535 (c .if1 .taken)) (add-one (c .before .args .m))
 
--- src/refusal.rt:10:1
 returns-2 : tie.Need-returns-2
 returns-2 c = rw (le-ltb (c .before .args .m) 65535 (c .if1 .left))
 

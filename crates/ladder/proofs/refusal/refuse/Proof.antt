@@ -13,43 +13,33 @@ use Rattle.tables.proofs.set_held.Reads as set-held-reads
 use Rattle.tables.proofs.set_held_op.Reads as set-held-op-reads
 use Rattle.tables.proofs.set_missed.Reads as set-missed-reads
 
--- src/refusal.rt:24:9
 held-requires : tie.Need-held-requires
 held-requires c κs = search needs
 
--- src/refusal.rt:25:22
 missed-requires : tie.Need-missed-requires
 missed-requires c κs = search needs
 
--- src/refusal.rt:25:9
 one-more-requires : tie.Need-one-more-requires
 one-more-requires c κs = search needs
 
--- src/refusal.rt:26:5
 set-missed-requires : tie.Need-set-missed-requires
 set-missed-requires c κs = search needs
 
--- src/refusal.rt:28:9
 same-length : tie.Need-same-length
 same-length c = search needs
 
--- src/refusal.rt:28:9
 returns : tie.Need-returns
 returns c = refused-stepped _ _ _ _ _ _ (c .before .before .before .before .before .before .before .before .before .before .before .before .pre) (c .before .before .before .set-missed .ensures ∙ notice-kept _ _ _ _ _ (c .before .before .before .before .before .one-more .ensures ∙ rw (c .before .before .before .before .before .before .missed .ensures)) (λ z. c .if1 .taken (c .before .before .before .before .before .before .before .before .held .ensures ∙ z)))
 
--- src/refusal.rt:30:5
 set-held-op-requires : tie.Need-set-held-op-requires
 set-held-op-requires c κs = search needs
 
--- src/refusal.rt:31:5
 set-held-requires : tie.Need-set-held-requires
 set-held-requires c κs = search needs
 
--- src/refusal.rt:20:1
 same-length-2 : tie.Need-same-length-2
 same-length-2 c = search needs
 
--- src/refusal.rt:20:1
 returns-2 : tie.Need-returns-2
 returns-2 c = refused-stepped _ _ _ _ _ _ (c .before .before .before .before .before .before .before .before .before .before .before .before .before .before .before .before .before .before .before .before .pre) (c .before .before .set-held .ensures ∙ rw (c .before .before .before .before .before .before .set-held-op .ensures, c .before .before .before .before .before .before .before .before .before .before .before .set-missed .ensures) (notice-new _ _ _ _ _ (c .before .before .before .before .before .before .before .before .before .before .before .before .before .one-more .ensures ∙ rw (c .before .before .before .before .before .before .before .before .before .before .before .before .before .before .missed .ensures)) (sym (c .before .before .before .before .before .before .before .before .before .before .before .before .before .before .before .before .held .ensures) ∙ c .before .before .before .before .before .before .before .before .if1 .left)))
 

@@ -12,35 +12,27 @@ use Rattle.tables.proofs.set_kind.Reads as set-kind-reads
 use Rattle.tables.proofs.set_level.Reads as set-level-reads
 use Rattle.tables.proofs.set_type.Reads as set-type-reads
 
--- src/filling.rt:76:28
 sort-kind-requires : tie.Need-sort-kind-requires
 sort-kind-requires c κs = search needs
 
--- src/filling.rt:76:5
 set-kind-requires : tie.Need-set-kind-requires
 set-kind-requires c κs = search needs
 
--- src/filling.rt:77:28
 sort-type-requires : tie.Need-sort-type-requires
 sort-type-requires c κs = search needs
 
--- src/filling.rt:77:5
 set-type-requires : tie.Need-set-type-requires
 set-type-requires c κs = search needs
 
--- src/filling.rt:78:5
 set-level-requires : tie.Need-set-level-requires
 set-level-requires c κs = search needs
 
--- src/filling.rt:79:5
 copy-triples-requires : tie.Need-copy-triples-requires
 copy-triples-requires c κs = search needs
 
--- src/filling.rt:72:1
 same-length : tie.Need-same-length
 same-length c = search needs
 
--- src/filling.rt:72:1
 returns : tie.Need-returns
 returns c = bear-stores (tablesOf (c .before .before .before .before .before .before .before .before .before .before .before .before .before .before .before .before .before .before .before .args .t .now)) _ _ _ _ _ _ _ (c .before .before .before .before .before .before .before .before .before .before .before .before .before .before .before .before .sort-kind .ensures) (c .before .before .before .before .before .before .before .before .before .before .before .sort-type .ensures) _ _ _ _ (c .before .before .before .before .before .before .before .before .before .before .before .before .before .before .before .set-kind .ensures) (c .before .before .before .before .before .before .before .before .before .before .set-type .ensures) (c .before .before .before .before .before .before .set-level .ensures) (c .before .before .copy-triples .ensures)
 

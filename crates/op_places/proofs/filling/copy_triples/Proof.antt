@@ -20,35 +20,27 @@ Inv-loop t₀ e c i₀ t i = (length t ≡ length t₀) × (i ≤ 8) × (tablesO
 abbrev μ-loop : tie.MeasureT-loop
 μ-loop t₀ e c i₀ t i = 8 - i
 
--- src/filling.rt:44:5
 loop-holds : tie.Need-loop-holds Inv-loop μ-loop
 loop-holds c = (search needs, omega arith, copying-none _ _ _)
 
--- src/filling.rt:45:13
 triple-requires : tie.Need-triple-requires Inv-loop μ-loop
 triple-requires c κs = search needs
 
--- src/filling.rt:46:9
 set-triple-requires : tie.Need-set-triple-requires Inv-loop μ-loop
 set-triple-requires c κs = search needs
 
--- src/filling.rt:47:9
 add-i : tie.Need-add-i Inv-loop μ-loop
 add-i c = omega arith
 
--- src/filling.rt:44:5
 loop-less : tie.Need-loop-less Inv-loop μ-loop
 loop-less c = omega arith
 
--- src/filling.rt:44:5
 loop-again : tie.Need-loop-again Inv-loop μ-loop
 loop-again c = (search needs, omega arith, copying-step _ _ (tablesOf (c .before .before .before .before .before .before .before .before .before .args .t .now)) _ _ _ _ (c .before .before .before .before .before .before .before .loop .inv .2) (c .before .before .before .before .triple .ensures) (c .before .before .set-triple .ensures))
 
--- src/filling.rt:39:1
 same-length : tie.Need-same-length Inv-loop μ-loop
 same-length c = search needs
 
--- src/filling.rt:39:1
 returns : tie.Need-returns Inv-loop μ-loop
 returns c = c .before .loop .inv .2 ∙ copying-done _ _ _ (bounded _) (c .before .loop .i) (omega arith)
 

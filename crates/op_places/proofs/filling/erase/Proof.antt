@@ -20,31 +20,24 @@ Inv-loop t₀ e f₀ t f = (length t ≡ length t₀) × (f ≤ 32) × (tablesOf
 abbrev μ-loop : tie.MeasureT-loop
 μ-loop t₀ e f₀ t f = 32 - f
 
--- src/filling.rt:88:5
 loop-holds : tie.Need-loop-holds Inv-loop μ-loop
 loop-holds c = (search needs, omega arith, blank-none _ _)
 
--- src/filling.rt:89:9
 set-entity-at-requires : tie.Need-set-entity-at-requires Inv-loop μ-loop
 set-entity-at-requires c κs = search needs
 
--- src/filling.rt:90:9
 add-f : tie.Need-add-f Inv-loop μ-loop
 add-f c = omega arith
 
--- src/filling.rt:88:5
 loop-less : tie.Need-loop-less Inv-loop μ-loop
 loop-less c = omega arith
 
--- src/filling.rt:88:5
 loop-again : tie.Need-loop-again Inv-loop μ-loop
 loop-again c = (search needs, omega arith, blank-step _ _ (bounded _) _ _ _ (c .before .before .before .before .loop-test .taken) (c .before .before .before .before .before .loop .inv .2) (c .before .before .set-entity-at .ensures))
 
--- src/filling.rt:83:1
 same-length : tie.Need-same-length Inv-loop μ-loop
 same-length c = search needs
 
--- src/filling.rt:83:1
 returns : tie.Need-returns Inv-loop μ-loop
 returns c = c .before .loop .inv .2 ∙ blank-done _ _ (bounded _) (c .before .loop .f) (omega arith)
 

@@ -11,35 +11,27 @@ use Rattle.rows.proofs.place_of.Reads as place-of-reads
 use Rattle.tables.proofs.count.Reads as count-reads
 use Rattle.tables.proofs.set_count.Reads as set-count-reads
 
--- src/filling.rt:21:9
 returns : tie.Need-returns
 returns c = leave-none _ (c .before .before .before .pre .1) _ _ (c .before .before .before .pre .2) (c .if1 .taken)
 
--- src/filling.rt:23:9
 count-requires : tie.Need-count-requires
 count-requires c κs = let r = holder-in _ (c .before .before .before .before .pre .1) _ _ (c .before .before .before .before .pre .2) (c .before .if1 .left) in search needs
 
--- src/filling.rt:24:24
 place-of-requires : tie.Need-place-of-requires
 place-of-requires c κs = let r = holder-in _ (c .before .before .before .before .before .before .before .pre .1) _ _ (c .before .before .before .before .before .before .before .pre .2) (c .before .before .before .before .if1 .left) in (search needs, omega (arith, c .before .before .count .ensures, c .before .before .before .before .before .before .before .pre .1 .entities (c .before .before .before .before .before .before .before .args .h .0) .filled .packed .room))
 
--- src/filling.rt:24:5
 close-places-requires : tie.Need-close-places-requires
 close-places-requires c κs = let r = holder-in _ (c .before .before .before .before .before .before .before .before .pre .1) _ _ (c .before .before .before .before .before .before .before .before .pre .2) (c .before .before .before .before .before .if1 .left) in (search needs, omega (arith, place-in _ (c .before .before .before .before .before .before .before .before .pre .1) _ _ (c .before .before .before .before .before .before .before .before .pre .2) (c .before .before .before .before .before .if1 .left) _ _ (c .before .before .before .count .ensures) (c .place-of .ensures), c .before .before .before .count .ensures, c .before .before .before .before .before .before .before .before .pre .1 .entities (c .before .before .before .before .before .before .before .before .args .h .0) .filled .packed .room))
 
--- src/filling.rt:25:29
 sub-set-count : tie.Need-sub-set-count
 sub-set-count c = omega (arith, place-in _ (c .before .before .before .before .before .before .before .before .before .before .before .before .pre .1) _ _ (c .before .before .before .before .before .before .before .before .before .before .before .before .pre .2) (c .before .before .before .before .before .before .before .before .before .if1 .left) _ _ (c .before .before .before .before .before .before .before .count .ensures) (c .before .before .before .before .place-of .ensures))
 
--- src/filling.rt:25:5
 set-count-requires : tie.Need-set-count-requires
 set-count-requires c κs = let r = holder-in _ (c .before .before .before .before .before .before .before .before .before .before .before .before .pre .1) _ _ (c .before .before .before .before .before .before .before .before .before .before .before .before .pre .2) (c .before .before .before .before .before .before .before .before .before .if1 .left) in search needs
 
--- src/filling.rt:16:1
 same-length : tie.Need-same-length
 same-length c = search needs
 
--- src/filling.rt:16:1
 returns-2 : tie.Need-returns-2
 returns-2 c = leave-stores (tablesOf (c .before .before .before .before .before .before .before .before .before .before .before .before .before .before .before .args .t .now)) (c .before .before .before .before .before .before .before .before .before .before .before .before .before .before .before .pre .1) _ _ (c .before .before .before .before .before .before .before .before .before .before .before .before .before .before .before .pre .2) (c .before .before .before .before .before .before .before .before .before .before .before .before .if1 .left) _ _ (c .before .before .before .before .before .before .before .before .before .before .count .ensures) (c .before .before .before .before .before .before .before .place-of .ensures) _ _ (c .before .before .before .before .before .before .close-places .ensures) (c .before .before .set-count .ensures)
 

@@ -9,27 +9,21 @@ use Rattle.tables.proofs.count.Reads as count-reads
 use Rattle.tables.proofs.set_count.Reads as set-count-reads
 use Rattle.tables.proofs.set_place.Reads as set-place-reads
 
--- src/filling.rt:33:9
 count-requires : tie.Need-count-requires
 count-requires c κs = search needs
 
--- src/filling.rt:34:5
 set-place-requires : tie.Need-set-place-requires
 set-place-requires c κs = search needs
 
--- src/filling.rt:35:29
 add-set-count : tie.Need-add-set-count
 add-set-count c = search needs
 
--- src/filling.rt:35:5
 set-count-requires : tie.Need-set-count-requires
 set-count-requires c κs = search needs
 
--- src/filling.rt:29:1
 same-length : tie.Need-same-length
 same-length c = search needs
 
--- src/filling.rt:29:1
 returns : tie.Need-returns
 returns c = put-stores (tablesOf (c .before .before .before .before .before .before .before .before .before .before .before .args .t .now)) _ _ _ (c .before .before .before .before .before .before .before .before .count .ensures) (c .before .before .before .before .before .before .before .before .before .before .before .pre .2) _ _ (c .before .before .before .before .before .before .set-place .ensures) (c .before .before .set-count .ensures)
 

@@ -4,11 +4,9 @@ use Rattle.op_places.proofs.filling.sort_kind.Tie as tie
 use Rattle.op_places.proofs.filling.sort_kind.Reads as reads
 use Rattle.op_places.proofs.filling.sort_kind.Lts as lts
 
--- src/filling.rt:56:9
 returns : tie.Need-returns
 returns c = rw (eq-eqb _ _ (c .if1 .taken))
 
--- src/filling.rt:52:1
 returns-2 : tie.Need-returns-2
 returns-2 c = rw (ne-eqb _ _ (c .if1 .left))
 

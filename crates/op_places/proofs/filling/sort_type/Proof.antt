@@ -4,11 +4,9 @@ use Rattle.op_places.proofs.filling.sort_type.Tie as tie
 use Rattle.op_places.proofs.filling.sort_type.Reads as reads
 use Rattle.op_places.proofs.filling.sort_type.Lts as lts
 
--- src/filling.rt:66:9
 returns : tie.Need-returns
 returns c = rw (eq-eqb _ _ (c .if1 .taken))
 
--- src/filling.rt:62:1
 returns-2 : tie.Need-returns-2
 returns-2 c = rw (ne-eqb _ _ (c .if1 .left))
 

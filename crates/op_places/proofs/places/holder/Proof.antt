@@ -17,39 +17,30 @@ Inv-loop t e i₀ i = (i ≤ 64) × Unheld (tablesOf t) (e .0) i
 abbrev μ-loop : tie.MeasureT-loop
 μ-loop t e i₀ i = 64 - i
 
--- src/places.rt:34:5
 loop-holds : tie.Need-loop-holds Inv-loop μ-loop
 loop-holds c = (omega arith, λ j h. absurd (omega arith))
 
--- src/places.rt:35:35
 add-t6 : tie.Need-add-t6 Inv-loop μ-loop
 add-t6 c = omega arith
 
--- src/places.rt:35:12
 stands-in-requires : tie.Need-stands-in-requires Inv-loop μ-loop
 stands-in-requires c κs = search needs
 
--- src/places.rt:36:27
 add-t8 : tie.Need-add-t8 Inv-loop μ-loop
 add-t8 c = omega arith
 
--- src/places.rt:36:13
 returns : tie.Need-returns Inv-loop μ-loop
 returns c = parent-here (tablesOf (c .before .before .before .before .before .args .t .now)) _ _ (c .before .before .loop-test .taken) (c .before .before .before .loop .inv .1) (sym (c .before .stands-in .ensures) ∙ c .if1 .taken)
 
--- src/places.rt:38:9
 add-i : tie.Need-add-i Inv-loop μ-loop
 add-i c = omega arith
 
--- src/places.rt:34:5
 loop-less : tie.Need-loop-less Inv-loop μ-loop
 loop-less c = omega arith
 
--- src/places.rt:34:5
 loop-again : tie.Need-loop-again Inv-loop μ-loop
 loop-again c = (omega arith, unheld-more (tablesOf (c .before .before .before .before .before .args .t .now)) _ _ (c .before .before .before .loop .inv .1) (sym (c .before .stands-in .ensures) ∙ c .if1 .left))
 
--- src/places.rt:29:1
 returns-2 : tie.Need-returns-2 Inv-loop μ-loop
 returns-2 c = parent-none (tablesOf (c .before .before .before .args .t .now)) _ (c .before .loop .i) (omega arith) (c .before .loop .inv .1)
 

@@ -9,19 +9,15 @@ use Rattle.op_places.proofs.places.is_inside.Lts as lts
 use Rattle.op_places.proofs.places.inside.Reads as inside-reads
 use Rattle.tables.proofs.count.Reads as count-reads
 
--- src/places.rt:98:8
 count-requires : tie.Need-count-requires
 count-requires c κs = search needs
 
--- src/places.rt:99:9
 returns : tie.Need-returns
 returns c = inside-empty (tablesOf (c .before .before .before .before .before .args .t .now)) (c .before .before .before .before .before .pre .1) _ _ _ (c .before .before .before .count .ensures) (c .before .before .if1 .taken)
 
--- src/places.rt:101:5
 inside-requires : tie.Need-inside-requires
 inside-requires c κs = (search needs, wellFormed-ranged _ (c .before .before .before .pre .1))
 
--- src/places.rt:94:1
 returns-2 : tie.Need-returns-2
 returns-2 c = search needs
 

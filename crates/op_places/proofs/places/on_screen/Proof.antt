@@ -20,35 +20,27 @@ Inv-loop t e i₀ i = (i ≤ 64) × (every i (λ v. hides (tablesOf t) (e .0) (s
 abbrev μ-loop : tie.MeasureT-loop
 μ-loop t e i₀ i = 64 - i
 
--- src/places.rt:49:5
 loop-holds : tie.Need-loop-holds Inv-loop μ-loop
 loop-holds c = (omega arith, every-none _)
 
--- src/places.rt:50:35
 add-t6 : tie.Need-add-t6 Inv-loop μ-loop
 add-t6 c = omega arith
 
--- src/places.rt:50:12
 stands-in-requires : tie.Need-stands-in-requires Inv-loop μ-loop
 stands-in-requires c κs = search needs
 
--- src/places.rt:51:13
 returns : tie.Need-returns Inv-loop μ-loop
 returns c = shown-here (tablesOf (c .before .before .before .before .before .args .t .now)) _ _ (c .before .before .loop-test .taken) (sym (c .before .stands-in .ensures) ∙ c .if1 .taken)
 
--- src/places.rt:53:9
 add-i : tie.Need-add-i Inv-loop μ-loop
 add-i c = omega arith
 
--- src/places.rt:49:5
 loop-less : tie.Need-loop-less Inv-loop μ-loop
 loop-less c = omega arith
 
--- src/places.rt:49:5
 loop-again : tie.Need-loop-again Inv-loop μ-loop
 loop-again c = (omega arith, hidden-more (tablesOf (c .before .before .before .before .before .args .t .now)) _ _ (c .before .before .before .loop .inv .1) (sym (c .before .stands-in .ensures) ∙ c .if1 .left))
 
--- src/places.rt:44:1
 returns-2 : tie.Need-returns-2 Inv-loop μ-loop
 returns-2 c = shown-nowhere (tablesOf (c .before .before .before .args .t .now)) _ (c .before .loop .i) (omega arith) (omega arith) (c .before .loop .inv .1)
 

@@ -9,23 +9,18 @@ use Rattle.rows.proofs.place_of.Reads as place-of-reads
 use Rattle.tables.proofs.count.Reads as count-reads
 use Rattle.tables.proofs.kind.Reads as kind-reads
 
--- src/places.rt:21:8
 kind-requires : tie.Need-kind-requires
 kind-requires c κs = search needs
 
--- src/places.rt:22:9
 returns : tie.Need-returns
 returns c = rw (← c .before .kind .ensures, ne-eqb _ _ (c .if1 .taken))
 
--- src/places.rt:24:9
 count-requires : tie.Need-count-requires
 count-requires c κs = search needs
 
--- src/places.rt:25:5
 place-of-requires : tie.Need-place-of-requires
 place-of-requires c κs = (search needs, omega (arith, c .count .ensures, c .before .before .before .before .pre .1 .room (c .before .before .before .before .args .v .0)))
 
--- src/places.rt:17:1
 returns-2 : tie.Need-returns-2
 returns-2 c = rw (← c .before .before .before .kind .ensures, eq-eqb _ _ (c .before .before .if1 .left), ← c .before .count .ensures, ← c .place-of .ensures)
 

@@ -18,39 +18,30 @@ Inv-loop t i₀ i = (i ≤ 64) × ((j : ℕ) → j < i → kinds (tablesOf t) (s
 abbrev μ-loop : tie.MeasureT-loop
 μ-loop t i₀ i = 64 - i
 
--- src/places.rt:64:5
 loop-holds : tie.Need-loop-holds Inv-loop μ-loop
 loop-holds c = (omega arith, λ j h. absurd (omega arith))
 
--- src/places.rt:65:35
 add-t5 : tie.Need-add-t5 Inv-loop μ-loop
 add-t5 c = omega arith
 
--- src/places.rt:65:12
 kind-requires : tie.Need-kind-requires Inv-loop μ-loop
 kind-requires c κs = search needs
 
--- src/places.rt:66:20
 add-result : tie.Need-add-result Inv-loop μ-loop
 add-result c = omega arith
 
--- src/places.rt:66:13
 returns : tie.Need-returns Inv-loop μ-loop
 returns c = vacant-here (tablesOf (c .before .before .before .before .before .args .t .now)) _ (c .before .before .loop-test .taken) (c .before .before .before .loop .inv .1) (sym (c .before .kind .ensures) ∙ c .if1 .taken)
 
--- src/places.rt:68:9
 add-i : tie.Need-add-i Inv-loop μ-loop
 add-i c = omega arith
 
--- src/places.rt:64:5
 loop-less : tie.Need-loop-less Inv-loop μ-loop
 loop-less c = omega arith
 
--- src/places.rt:64:5
 loop-again : tie.Need-loop-again Inv-loop μ-loop
 loop-again c = (omega arith, present-more (tablesOf (c .before .before .before .before .before .args .t .now)) _ (c .before .before .before .loop .inv .1) (λ z. c .if1 .left (c .before .kind .ensures ∙ z)))
 
--- src/places.rt:59:1
 returns-2 : tie.Need-returns-2 Inv-loop μ-loop
 returns-2 c = vacant-none (tablesOf (c .before .before .before .args .t .now)) (c .before .loop .i) (omega arith) (c .before .loop .inv .1)
 

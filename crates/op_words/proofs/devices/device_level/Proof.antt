@@ -14,75 +14,57 @@ use Rattle.op_words.proofs.trial.try_level.Reads as try-level-reads
 use Rattle.tables.proofs.device.Reads as device-reads
 use Rattle.tables.proofs.level.Reads as level-reads
 
--- src/devices.rt:33:9
 is-device-requires : tie.Need-is-device-requires
 is-device-requires c κs = search needs
 
--- src/devices.rt:34:9
 refuse-requires : tie.Need-refuse-requires
 refuse-requires c κs = device-level-10 _ _ _ _ (c .before .before .before .before .before .before .pre .0) (c .before .before .before .before .before .before .pre .1) _ (c .before .before .is-device .ensures) (not-true _ (c .before .if1 .taken))
 
--- src/devices.rt:34:9
 same-length : tie.Need-same-length
 same-length c = search needs
 
--- src/devices.rt:34:9
 returns : tie.Need-returns
 returns c = search needs
 
--- src/devices.rt:36:19
 shared-slice-read-t14 : tie.Need-shared-slice-read-t14
 shared-slice-read-t14 c = search needs
 
--- src/devices.rt:37:26
 device-requires : tie.Need-device-requires
 device-requires c κs = search needs
 
--- src/devices.rt:38:25
 level-requires : tie.Need-level-requires
 level-requires c κs = search needs
 
--- src/devices.rt:38:8
 lower-requires : tie.Need-lower-requires
 lower-requires c κs = search needs
 
--- src/devices.rt:38:58
 has-role-requires : tie.Need-has-role-requires
 has-role-requires c κs = search needs
 
--- src/devices.rt:39:9
 refuse-requires-2 : tie.Need-refuse-requires-2
 refuse-requires-2 c κs = device-level-12 _ _ _ _ (c .before .before .before .before .before .before .before .before .before .before .before .before .before .before .before .before .before .pre .0) (c .before .before .before .before .before .before .before .before .before .before .before .before .before .before .before .before .before .pre .1) _ (c .before .before .before .before .before .before .before .before .before .before .before .before .before .is-device .ensures) (not-false _ (c .before .before .before .before .before .before .before .before .before .before .before .before .if1 .left)) _ refl _ (c .before .before .before .before .before .before .before .before .before .device .ensures) _ _ (c .before .before .before .before .lower .ensures ∙ rw (c .before .before .before .before .before .level .ensures)) (c .before .before .has-role .ensures) (c .before .if2 .taken)
 
--- src/devices.rt:39:9
 same-length-2 : tie.Need-same-length-2
 same-length-2 c = search needs
 
--- src/devices.rt:39:9
 returns-2 : tie.Need-returns-2
 returns-2 c = search needs
 
--- src/devices.rt:41:9
 try-level-requires : tie.Need-try-level-requires
 try-level-requires c κs = search needs
 
--- src/devices.rt:42:9
 refuse-requires-3 : tie.Need-refuse-requires-3
 refuse-requires-3 c κs = rw (c .before .before .before .before .try-level .ensures .back (not-true _ (c .before .if3 .taken))) (device-level-13 _ _ _ _ (c .before .before .before .before .before .before .before .before .before .before .before .before .before .before .before .before .before .before .before .before .before .before .pre .0) (c .before .before .before .before .before .before .before .before .before .before .before .before .before .before .before .before .before .before .before .before .before .before .pre .1) _ (c .before .before .before .before .before .before .before .before .before .before .before .before .before .before .before .before .before .before .is-device .ensures) (not-false _ (c .before .before .before .before .before .before .before .before .before .before .before .before .before .before .before .before .before .if1 .left)) _ refl _ (c .before .before .before .before .before .before .before .before .before .before .before .before .before .before .device .ensures) _ _ (c .before .before .before .before .before .before .before .before .before .lower .ensures ∙ rw (c .before .before .before .before .before .before .before .before .before .before .level .ensures)) (c .before .before .before .before .before .before .before .has-role .ensures) (c .before .before .before .before .before .before .if2 .left) _ (c .before .before .before .before .try-level .ensures .secure) (not-true _ (c .before .if3 .taken)))
 
--- src/devices.rt:42:9
 same-length-3 : tie.Need-same-length-3
 same-length-3 c = search needs
 
--- src/devices.rt:42:9
 returns-3 : tie.Need-returns-3
 returns-3 c = rw (c .before .before .before .before .before .before .before .try-level .ensures .back (not-true _ (c .before .before .before .before .if3 .taken))) at (c .before .before .refuse3 .ensures)
 
--- src/devices.rt:29:1
 same-length-4 : tie.Need-same-length-4
 same-length-4 c = search needs
 
--- src/devices.rt:29:1
 returns-4 : tie.Need-returns-4
 returns-4 c = device-level-done _ _ _ _ (c .before .before .before .before .before .before .before .before .before .before .before .before .before .before .before .before .before .before .before .before .before .pre .0) (c .before .before .before .before .before .before .before .before .before .before .before .before .before .before .before .before .before .before .before .before .before .pre .1) _ (c .before .before .before .before .before .before .before .before .before .before .before .before .before .before .before .before .before .is-device .ensures) (not-false _ (c .before .before .before .before .before .before .before .before .before .before .before .before .before .before .before .before .if1 .left)) _ refl _ (c .before .before .before .before .before .before .before .before .before .before .before .before .before .device .ensures) _ _ (c .before .before .before .before .before .before .before .before .lower .ensures ∙ rw (c .before .before .before .before .before .before .before .before .before .level .ensures)) (c .before .before .before .before .before .before .has-role .ensures) (c .before .before .before .before .before .if2 .left) _ (c .before .before .before .try-level .ensures .secure) (not-false _ (c .if3 .left)) _ (c .before .before .before .try-level .ensures .kept (not-false _ (c .if3 .left)))
 

@@ -13,71 +13,54 @@ use Rattle.levels.proofs.at_most.Reads as at-most-reads
 use Rattle.tables.proofs.level.Reads as level-reads
 use Rattle.tables.proofs.set_maximum.Reads as set-maximum-reads
 
--- src/devices.rt:13:9
 is-device-requires : tie.Need-is-device-requires
 is-device-requires c κs = search needs
 
--- src/devices.rt:14:9
 refuse-requires : tie.Need-refuse-requires
 refuse-requires c κs = maximum-10 _ _ _ _ (c .before .before .before .before .before .before .pre .0) (c .before .before .before .before .before .before .pre .1) _ (c .before .before .is-device .ensures) (not-true _ (c .before .if1 .taken))
 
--- src/devices.rt:14:9
 same-length : tie.Need-same-length
 same-length c = search needs
 
--- src/devices.rt:14:9
 returns : tie.Need-returns
 returns c = search needs
 
--- src/devices.rt:16:9
 has-role-requires : tie.Need-has-role-requires
 has-role-requires c κs = search needs
 
--- src/devices.rt:17:9
 refuse-requires-2 : tie.Need-refuse-requires-2
 refuse-requires-2 c κs = maximum-12 _ _ _ _ (c .before .before .before .before .before .before .before .before .before .pre .0) (c .before .before .before .before .before .before .before .before .before .pre .1) _ (c .before .before .before .before .before .is-device .ensures) (not-false _ (c .before .before .before .before .if1 .left)) _ (c .before .before .has-role .ensures) (not-true _ (c .before .if2 .taken))
 
--- src/devices.rt:17:9
 same-length-2 : tie.Need-same-length-2
 same-length-2 c = search needs
 
--- src/devices.rt:17:9
 returns-2 : tie.Need-returns-2
 returns-2 c = search needs
 
--- src/devices.rt:19:19
 shared-slice-read-t17 : tie.Need-shared-slice-read-t17
 shared-slice-read-t17 c = search needs
 
--- src/devices.rt:20:25
 level-requires : tie.Need-level-requires
 level-requires c κs = search needs
 
--- src/devices.rt:20:9
 at-most-requires : tie.Need-at-most-requires
 at-most-requires c κs = search needs
 
--- src/devices.rt:21:9
 refuse-requires-3 : tie.Need-refuse-requires-3
 refuse-requires-3 c κs = maximum-13 _ _ _ _ (c .before .before .before .before .before .before .before .before .before .before .before .before .before .before .pre .0) (c .before .before .before .before .before .before .before .before .before .before .before .before .before .before .pre .1) _ (c .before .before .before .before .before .before .before .before .before .before .is-device .ensures) (not-false _ (c .before .before .before .before .before .before .before .before .before .if1 .left)) _ (c .before .before .before .before .before .before .before .has-role .ensures) (not-false _ (c .before .before .before .before .before .before .if2 .left)) _ refl _ (c .before .before .at-most .ensures ∙ rw (c .before .before .before .level .ensures)) (not-true _ (c .before .if3 .taken))
 
--- src/devices.rt:21:9
 same-length-3 : tie.Need-same-length-3
 same-length-3 c = search needs
 
--- src/devices.rt:21:9
 returns-3 : tie.Need-returns-3
 returns-3 c = search needs
 
--- src/devices.rt:23:5
 set-maximum-requires : tie.Need-set-maximum-requires
 set-maximum-requires c κs = search needs
 
--- src/devices.rt:9:1
 same-length-4 : tie.Need-same-length-4
 same-length-4 c = search needs
 
--- src/devices.rt:9:1
 returns-4 : tie.Need-returns-4
 returns-4 c = maximum-done _ _ _ _ (c .before .before .before .before .before .before .before .before .before .before .before .before .before .before .before .before .before .pre .0) (c .before .before .before .before .before .before .before .before .before .before .before .before .before .before .before .before .before .pre .1) _ (c .before .before .before .before .before .before .before .before .before .before .before .before .before .is-device .ensures) (not-false _ (c .before .before .before .before .before .before .before .before .before .before .before .before .if1 .left)) _ (c .before .before .before .before .before .before .before .before .before .before .has-role .ensures) (not-false _ (c .before .before .before .before .before .before .before .before .before .if2 .left)) _ refl _ (c .before .before .before .before .before .at-most .ensures ∙ rw (c .before .before .before .before .before .before .level .ensures)) (not-false _ (c .before .before .before .before .if3 .left)) _ (c .before .before .set-maximum .ensures)
 

@@ -13,63 +13,48 @@ use Rattle.tables.proofs.level.Reads as level-reads
 use Rattle.tables.proofs.set_value.Reads as set-value-reads
 use Rattle.tables.proofs.value.Reads as value-reads
 
--- src/entities.rt:25:10
 is-entity-requires : tie.Need-is-entity-requires
 is-entity-requires c κs = search needs
 
--- src/entities.rt:25:43
 is-entity-requires-2 : tie.Need-is-entity-requires-2
 is-entity-requires-2 c κs = search needs
 
--- src/entities.rt:26:9
 refuse-requires : tie.Need-refuse-requires
 refuse-requires c κs = copy-10 _ _ _ _ _ (c .before .before .before .before .before .before .before .before .pre .0) (c .before .before .before .before .before .before .before .before .pre .1) (c .before .before .before .before .before .before .before .before .pre .2) _ _ (c .before .before .before .before .is-entity .ensures) (c .before .before .is-entity2 .ensures) (not-true _ (c .before .if1 .taken))
 
--- src/entities.rt:26:9
 same-length : tie.Need-same-length
 same-length c = search needs
 
--- src/entities.rt:26:9
 returns : tie.Need-returns
 returns c = search needs
 
--- src/entities.rt:28:25
 level-requires : tie.Need-level-requires
 level-requires c κs = search needs
 
--- src/entities.rt:28:46
 level-requires-2 : tie.Need-level-requires-2
 level-requires-2 c κs = search needs
 
--- src/entities.rt:28:9
 at-most-requires : tie.Need-at-most-requires
 at-most-requires c κs = search needs
 
--- src/entities.rt:29:9
 refuse-requires-2 : tie.Need-refuse-requires-2
 refuse-requires-2 c κs = copy-13 _ _ _ _ _ (c .before .before .before .before .before .before .before .before .before .before .before .before .before .before .pre .0) (c .before .before .before .before .before .before .before .before .before .before .before .before .before .before .pre .1) (c .before .before .before .before .before .before .before .before .before .before .before .before .before .before .pre .2) _ _ (c .before .before .before .before .before .before .before .before .before .before .is-entity .ensures) (c .before .before .before .before .before .before .before .before .is-entity2 .ensures) (not-false _ (c .before .before .before .before .before .before .before .if1 .left)) _ (c .before .before .at-most .ensures ∙ rw (c .before .before .before .before .before .level .ensures, c .before .before .before .level2 .ensures)) (not-true _ (c .before .if2 .taken))
 
--- src/entities.rt:29:9
 same-length-2 : tie.Need-same-length-2
 same-length-2 c = search needs
 
--- src/entities.rt:29:9
 returns-2 : tie.Need-returns-2
 returns-2 c = search needs
 
--- src/entities.rt:31:9
 value-requires : tie.Need-value-requires
 value-requires c κs = search needs
 
--- src/entities.rt:32:5
 set-value-requires : tie.Need-set-value-requires
 set-value-requires c κs = search needs
 
--- src/entities.rt:21:1
 same-length-3 : tie.Need-same-length-3
 same-length-3 c = search needs
 
--- src/entities.rt:21:1
 returns-3 : tie.Need-returns-3
 returns-3 c = copy-done _ _ _ _ _ (c .before .before .before .before .before .before .before .before .before .before .before .before .before .before .before .before .before .before .before .pre .0) (c .before .before .before .before .before .before .before .before .before .before .before .before .before .before .before .before .before .before .before .pre .1) (c .before .before .before .before .before .before .before .before .before .before .before .before .before .before .before .before .before .before .before .pre .2) _ _ (c .before .before .before .before .before .before .before .before .before .before .before .before .before .before .before .is-entity .ensures) (c .before .before .before .before .before .before .before .before .before .before .before .before .before .is-entity2 .ensures) (not-false _ (c .before .before .before .before .before .before .before .before .before .before .before .before .if1 .left)) _ (c .before .before .before .before .before .before .before .at-most .ensures ∙ rw (c .before .before .before .before .before .before .before .before .before .before .level .ensures, c .before .before .before .before .before .before .before .before .level2 .ensures)) (not-false _ (c .before .before .before .before .before .before .if2 .left)) _ (c .before .before .before .before .value .ensures) _ (c .before .before .set-value .ensures)
 

@@ -9,35 +9,27 @@ use Rattle.ladder.proofs.kinds.is_entity.Reads as is-entity-reads
 use Rattle.ladder.proofs.refusal.refuse.Reads as refuse-reads
 use Rattle.tables.proofs.set_value.Reads as set-value-reads
 
--- src/entities.rt:13:9
 is-entity-requires : tie.Need-is-entity-requires
 is-entity-requires c κs = search needs
 
--- src/entities.rt:14:9
 refuse-requires : tie.Need-refuse-requires
 refuse-requires c κs = edit-10 _ _ _ _ (c .before .before .before .before .before .before .pre .0) (c .before .before .before .before .before .before .pre .1) _ (c .before .before .is-entity .ensures) (not-true _ (c .before .if1 .taken))
 
--- src/entities.rt:14:9
 same-length : tie.Need-same-length
 same-length c = search needs
 
--- src/entities.rt:14:9
 returns : tie.Need-returns
 returns c = search needs
 
--- src/entities.rt:16:29
 shared-slice-read-set-value : tie.Need-shared-slice-read-set-value
 shared-slice-read-set-value c = search needs
 
--- src/entities.rt:16:5
 set-value-requires : tie.Need-set-value-requires
 set-value-requires c κs = search needs
 
--- src/entities.rt:9:1
 same-length-2 : tie.Need-same-length-2
 same-length-2 c = search needs
 
--- src/entities.rt:9:1
 returns-2 : tie.Need-returns-2
 returns-2 c = edit-done _ _ _ _ (c .before .before .before .before .before .before .before .before .before .before .pre .0) (c .before .before .before .before .before .before .before .before .before .before .pre .1) _ (c .before .before .before .before .before .before .is-entity .ensures) (not-false _ (c .before .before .before .before .before .if1 .left)) _ (c .before .before .set-value .ensures)
 

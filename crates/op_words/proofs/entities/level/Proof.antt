@@ -13,71 +13,54 @@ use Rattle.levels.proofs.lower.Reads as lower-reads
 use Rattle.op_words.proofs.trial.try_level.Reads as try-level-reads
 use Rattle.tables.proofs.level.Reads as level-reads
 
--- src/entities.rt:41:9
 is-entity-requires : tie.Need-is-entity-requires
 is-entity-requires c κs = search needs
 
--- src/entities.rt:42:9
 refuse-requires : tie.Need-refuse-requires
 refuse-requires c κs = level-10 _ _ _ _ (c .before .before .before .before .before .before .pre .0) (c .before .before .before .before .before .before .pre .1) _ (c .before .before .is-entity .ensures) (not-true _ (c .before .if1 .taken))
 
--- src/entities.rt:42:9
 same-length : tie.Need-same-length
 same-length c = search needs
 
--- src/entities.rt:42:9
 returns : tie.Need-returns
 returns c = search needs
 
--- src/entities.rt:44:19
 shared-slice-read-t13 : tie.Need-shared-slice-read-t13
 shared-slice-read-t13 c = search needs
 
--- src/entities.rt:45:25
 level-requires : tie.Need-level-requires
 level-requires c κs = search needs
 
--- src/entities.rt:45:8
 lower-requires : tie.Need-lower-requires
 lower-requires c κs = search needs
 
--- src/entities.rt:45:49
 has-role-requires : tie.Need-has-role-requires
 has-role-requires c κs = search needs
 
--- src/entities.rt:46:9
 refuse-requires-2 : tie.Need-refuse-requires-2
 refuse-requires-2 c κs = level-12 _ _ _ _ (c .before .before .before .before .before .before .before .before .before .before .before .before .before .pre .0) (c .before .before .before .before .before .before .before .before .before .before .before .before .before .pre .1) _ (c .before .before .before .before .before .before .before .before .before .is-entity .ensures) (not-false _ (c .before .before .before .before .before .before .before .before .if1 .left)) _ refl _ _ (c .before .before .before .before .lower .ensures ∙ rw (c .before .before .before .before .before .level .ensures)) (c .before .before .has-role .ensures) (c .before .if2 .taken)
 
--- src/entities.rt:46:9
 same-length-2 : tie.Need-same-length-2
 same-length-2 c = search needs
 
--- src/entities.rt:46:9
 returns-2 : tie.Need-returns-2
 returns-2 c = search needs
 
--- src/entities.rt:48:9
 try-level-requires : tie.Need-try-level-requires
 try-level-requires c κs = search needs
 
--- src/entities.rt:49:9
 refuse-requires-3 : tie.Need-refuse-requires-3
 refuse-requires-3 c κs = rw (c .before .before .before .before .try-level .ensures .back (not-true _ (c .before .if3 .taken))) (level-13 _ _ _ _ (c .before .before .before .before .before .before .before .before .before .before .before .before .before .before .before .before .before .before .pre .0) (c .before .before .before .before .before .before .before .before .before .before .before .before .before .before .before .before .before .before .pre .1) _ (c .before .before .before .before .before .before .before .before .before .before .before .before .before .before .is-entity .ensures) (not-false _ (c .before .before .before .before .before .before .before .before .before .before .before .before .before .if1 .left)) _ refl _ _ (c .before .before .before .before .before .before .before .before .before .lower .ensures ∙ rw (c .before .before .before .before .before .before .before .before .before .before .level .ensures)) (c .before .before .before .before .before .before .before .has-role .ensures) (c .before .before .before .before .before .before .if2 .left) _ (c .before .before .before .before .try-level .ensures .secure) (not-true _ (c .before .if3 .taken)))
 
--- src/entities.rt:49:9
 same-length-3 : tie.Need-same-length-3
 same-length-3 c = search needs
 
--- src/entities.rt:49:9
 returns-3 : tie.Need-returns-3
 returns-3 c = rw (c .before .before .before .before .before .before .before .try-level .ensures .back (not-true _ (c .before .before .before .before .if3 .taken))) at (c .before .before .refuse3 .ensures)
 
--- src/entities.rt:37:1
 same-length-4 : tie.Need-same-length-4
 same-length-4 c = search needs
 
--- src/entities.rt:37:1
 returns-4 : tie.Need-returns-4
 returns-4 c = level-done _ _ _ _ (c .before .before .before .before .before .before .before .before .before .before .before .before .before .before .before .before .before .pre .0) (c .before .before .before .before .before .before .before .before .before .before .before .before .before .before .before .before .before .pre .1) _ (c .before .before .before .before .before .before .before .before .before .before .before .before .before .is-entity .ensures) (not-false _ (c .before .before .before .before .before .before .before .before .before .before .before .before .if1 .left)) _ refl _ _ (c .before .before .before .before .before .before .before .before .lower .ensures ∙ rw (c .before .before .before .before .before .before .before .before .before .level .ensures)) (c .before .before .before .before .before .before .has-role .ensures) (c .before .before .before .before .before .if2 .left) _ (c .before .before .before .try-level .ensures .secure) (not-false _ (c .if3 .left)) _ (c .before .before .before .try-level .ensures .kept (not-false _ (c .if3 .left)))
 

@@ -9,35 +9,27 @@ use Rattle.ladder.proofs.kinds.is_container.Reads as is-container-reads
 use Rattle.ladder.proofs.refusal.refuse.Reads as refuse-reads
 use Rattle.tables.proofs.set_mark.Reads as set-mark-reads
 
--- src/entities.rt:59:9
 is-container-requires : tie.Need-is-container-requires
 is-container-requires c κs = search needs
 
--- src/entities.rt:60:9
 refuse-requires : tie.Need-refuse-requires
 refuse-requires c κs = mark-10 _ _ _ _ (c .before .before .before .before .before .before .pre .0) (c .before .before .before .before .before .before .pre .1) _ (c .before .before .is-container .ensures) (not-true _ (c .before .if1 .taken))
 
--- src/entities.rt:60:9
 same-length : tie.Need-same-length
 same-length c = search needs
 
--- src/entities.rt:60:9
 returns : tie.Need-returns
 returns c = search needs
 
--- src/entities.rt:62:28
 shared-slice-read-set-mark : tie.Need-shared-slice-read-set-mark
 shared-slice-read-set-mark c = search needs
 
--- src/entities.rt:62:5
 set-mark-requires : tie.Need-set-mark-requires
 set-mark-requires c κs = search needs
 
--- src/entities.rt:55:1
 same-length-2 : tie.Need-same-length-2
 same-length-2 c = search needs
 
--- src/entities.rt:55:1
 returns-2 : tie.Need-returns-2
 returns-2 c = mark-done _ _ _ _ (c .before .before .before .before .before .before .before .before .before .before .pre .0) (c .before .before .before .before .before .before .before .before .before .before .pre .1) _ (c .before .before .before .before .before .before .is-container .ensures) (not-false _ (c .before .before .before .before .before .if1 .left)) _ (c .before .before .set-mark .ensures)
 

@@ -15,51 +15,39 @@ use Rattle.ladder.proofs.refusal.refuse.Reads as refuse-reads
 use Rattle.tables.proofs.set_releaser.Reads as set-releaser-reads
 use Rattle.tables.proofs.set_type.Reads as set-type-reads
 
--- src/entities.rt:71:9
 is-draft-requires : tie.Need-is-draft-requires
 is-draft-requires c κs = search needs
 
--- src/entities.rt:72:9
 refuse-requires : tie.Need-refuse-requires
 refuse-requires c κs = release-10 _ _ _ _ (c .before .before .before .before .before .before .pre .0) (c .before .before .before .before .before .before .pre .1) _ (c .before .before .is-draft .ensures) (not-true _ (c .before .if1 .taken))
 
--- src/entities.rt:72:9
 same-length : tie.Need-same-length
 same-length c = search needs
 
--- src/entities.rt:72:9
 returns : tie.Need-returns
 returns c = search needs
 
--- src/entities.rt:74:9
 has-role-requires : tie.Need-has-role-requires
 has-role-requires c κs = search needs
 
--- src/entities.rt:75:9
 refuse-requires-2 : tie.Need-refuse-requires-2
 refuse-requires-2 c κs = release-12 _ _ _ _ (c .before .before .before .before .before .before .before .before .before .pre .0) (c .before .before .before .before .before .before .before .before .before .pre .1) _ (c .before .before .before .before .before .is-draft .ensures) (not-false _ (c .before .before .before .before .if1 .left)) _ (c .before .before .has-role .ensures) (not-true _ (c .before .if2 .taken))
 
--- src/entities.rt:75:9
 same-length-2 : tie.Need-same-length-2
 same-length-2 c = search needs
 
--- src/entities.rt:75:9
 returns-2 : tie.Need-returns-2
 returns-2 c = search needs
 
--- src/entities.rt:77:5
 set-releaser-requires : tie.Need-set-releaser-requires
 set-releaser-requires c κs = search needs
 
--- src/entities.rt:78:5
 set-type-requires : tie.Need-set-type-requires
 set-type-requires c κs = search needs
 
--- src/entities.rt:67:1
 same-length-3 : tie.Need-same-length-3
 same-length-3 c = search needs
 
--- src/entities.rt:67:1
 returns-3 : tie.Need-returns-3
 returns-3 c = release-done _ _ _ _ (c .before .before .before .before .before .before .before .before .before .before .before .before .before .before .before .before .pre .0) (c .before .before .before .before .before .before .before .before .before .before .before .before .before .before .before .before .pre .1) _ (c .before .before .before .before .before .before .before .before .before .before .before .before .is-draft .ensures) (not-false _ (c .before .before .before .before .before .before .before .before .before .before .before .if1 .left)) _ (c .before .before .before .before .before .before .before .before .before .has-role .ensures) (not-false _ (c .before .before .before .before .before .before .before .before .if2 .left)) _ (c .before .before .set-type .ensures ∙ rw (c .before .before .before .before .before .before .set-releaser .ensures) (twice _ (word type 2) (word releaser _) _))
 

@@ -12,51 +12,39 @@ use Rattle.tables.proofs.set_held.Reads as set-held-reads
 use Rattle.tables.proofs.set_held_op.Reads as set-held-op-reads
 use Rattle.tables.proofs.set_missed.Reads as set-missed-reads
 
--- src/notices.rt:11:9
 held-requires : tie.Need-held-requires
 held-requires c κs = search needs
 
--- src/notices.rt:12:22
 shared-slice-read-if1 : tie.Need-shared-slice-read-if1
 shared-slice-read-if1 c = search needs
 
--- src/notices.rt:12:38
 shared-slice-read-if1-2 : tie.Need-shared-slice-read-if1-2
 shared-slice-read-if1-2 c = search needs
 
--- src/notices.rt:12:47
 missed-requires : tie.Need-missed-requires
 missed-requires c κs = search needs
 
--- src/notices.rt:13:9
 refuse-requires : tie.Need-refuse-requires
 refuse-requires c κs = acknowledge-16 _ _ _ (c .before .before .before .before .before .before .before .before .before .before .pre) _ _ _ _ refl refl (c .before .before .before .before .before .before .held .ensures) (c .before .before .missed .ensures) (c .before .if1 .taken)
 
--- src/notices.rt:13:9
 same-length : tie.Need-same-length
 same-length c = search needs
 
--- src/notices.rt:13:9
 returns : tie.Need-returns
 returns c = search needs
 
--- src/notices.rt:15:5
 set-missed-requires : tie.Need-set-missed-requires
 set-missed-requires c κs = search needs
 
--- src/notices.rt:16:5
 set-held-op-requires : tie.Need-set-held-op-requires
 set-held-op-requires c κs = search needs
 
--- src/notices.rt:17:5
 set-held-requires : tie.Need-set-held-requires
 set-held-requires c κs = search needs
 
--- src/notices.rt:7:1
 same-length-2 : tie.Need-same-length-2
 same-length-2 c = search needs
 
--- src/notices.rt:7:1
 returns-2 : tie.Need-returns-2
 returns-2 c = acknowledge-done _ _ _ (c .before .before .before .before .before .before .before .before .before .before .before .before .before .before .before .before .before .before .before .before .before .pre) _ _ _ _ refl refl (c .before .before .before .before .before .before .before .before .before .before .before .before .before .before .before .before .before .held .ensures) (c .before .before .before .before .before .before .before .before .before .before .before .before .before .missed .ensures) (c .before .before .before .before .before .before .before .before .before .before .before .before .if1 .left) _ (c .before .before .set-held .ensures ∙ rw (c .before .before .before .before .before .before .set-held-op .ensures, c .before .before .before .before .before .before .before .before .before .before .set-missed .ensures))
 

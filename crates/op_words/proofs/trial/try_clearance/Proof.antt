@@ -10,35 +10,27 @@ use Rattle.state.proofs.is_secure.Reads as is-secure-reads
 use Rattle.tables.proofs.clearance.Reads as clearance-reads
 use Rattle.tables.proofs.set_clearance.Reads as set-clearance-reads
 
--- src/trial.rt:29:9
 clearance-requires : tie.Need-clearance-requires
 clearance-requires c κs = search needs
 
--- src/trial.rt:30:5
 set-clearance-requires : tie.Need-set-clearance-requires
 set-clearance-requires c κs = search needs
 
--- src/trial.rt:31:8
 is-secure-requires : tie.Need-is-secure-requires
 is-secure-requires c κs = search needs
 
--- src/trial.rt:32:9
 same-length : tie.Need-same-length
 same-length c = search needs
 
--- src/trial.rt:32:9
 returns : tie.Need-returns
 returns c = tried-kept _ _ _ _ (c .before .is-secure .ensures) (c .if1 .taken) (c .before .before .before .before .before .set-clearance .ensures)
 
--- src/trial.rt:34:5
 set-clearance-requires-2 : tie.Need-set-clearance-requires-2
 set-clearance-requires-2 c κs = search needs
 
--- src/trial.rt:25:1
 same-length-2 : tie.Need-same-length-2
 same-length-2 c = search needs
 
--- src/trial.rt:25:1
 returns-2 : tie.Need-returns-2
 returns-2 c = tried-back _ _ _ _ _ (c .before .before .before .before .before .is-secure .ensures) (c .before .before .before .before .if1 .left) (c .before .before .before .before .before .before .before .before .before .set-clearance .ensures) (user-back _ _ _ _ clearance _ _ (c .before .before .before .before .before .before .before .before .before .before .before .before .before .before .pre .0) (c .before .before .set-clearance2 .kept .0 ∙ c .before .before .before .before .before .before .before .before .before .set-clearance .kept .0 ∙ c .before .before .before .before .before .before .before .before .before .before .before .before .before .before .pre .0) (c .before .before .before .before .before .before .before .before .before .before .before .clearance .ensures) (c .before .before .before .before .before .before .before .before .before .set-clearance .ensures) (c .before .before .set-clearance2 .ensures))
 

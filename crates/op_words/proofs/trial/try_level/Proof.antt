@@ -10,35 +10,27 @@ use Rattle.state.proofs.is_secure.Reads as is-secure-reads
 use Rattle.tables.proofs.level.Reads as level-reads
 use Rattle.tables.proofs.set_level.Reads as set-level-reads
 
--- src/trial.rt:15:9
 level-requires : tie.Need-level-requires
 level-requires c κs = search needs
 
--- src/trial.rt:16:5
 set-level-requires : tie.Need-set-level-requires
 set-level-requires c κs = search needs
 
--- src/trial.rt:17:8
 is-secure-requires : tie.Need-is-secure-requires
 is-secure-requires c κs = search needs
 
--- src/trial.rt:18:9
 same-length : tie.Need-same-length
 same-length c = search needs
 
--- src/trial.rt:18:9
 returns : tie.Need-returns
 returns c = tried-kept _ _ _ _ (c .before .is-secure .ensures) (c .if1 .taken) (c .before .before .before .before .before .set-level .ensures)
 
--- src/trial.rt:20:5
 set-level-requires-2 : tie.Need-set-level-requires-2
 set-level-requires-2 c κs = search needs
 
--- src/trial.rt:11:1
 same-length-2 : tie.Need-same-length-2
 same-length-2 c = search needs
 
--- src/trial.rt:11:1
 returns-2 : tie.Need-returns-2
 returns-2 c = tried-back _ _ _ _ _ (c .before .before .before .before .before .is-secure .ensures) (c .before .before .before .before .if1 .left) (c .before .before .before .before .before .before .before .before .before .set-level .ensures) (entity-back _ _ _ _ level _ _ (c .before .before .before .before .before .before .before .before .before .before .before .before .before .before .pre .0) (c .before .before .set-level2 .kept .0 ∙ c .before .before .before .before .before .before .before .before .before .set-level .kept .0 ∙ c .before .before .before .before .before .before .before .before .before .before .before .before .before .before .pre .0) (c .before .before .before .before .before .before .before .before .before .before .before .level .ensures) (c .before .before .before .before .before .before .before .before .before .set-level .ensures) (c .before .before .set-level2 .ensures))
 

@@ -16,79 +16,60 @@ use Rattle.tables.proofs.current.Reads as current-reads
 use Rattle.tables.proofs.present.Reads as present-reads
 use Rattle.tables.proofs.set_authorised.Reads as set-authorised-reads
 
--- src/users.rt:51:18
 shared-slice-read-if1 : tie.Need-shared-slice-read-if1
 shared-slice-read-if1 c = search needs
 
--- src/users.rt:52:8
 present-requires : tie.Need-present-requires
 present-requires c κs = let z = arguments-in toAuthorised _ _ _ (c .before .before .before .before .pre) in (c .before .before .before .before .pre .climbed .ready .whole, z .0 .0, z .0 .1)
 
--- src/users.rt:53:9
 refuse-requires : tie.Need-refuse-requires
 refuse-requires c κs = user-absent _ authorised-officers _ _ _ (c .before .before .before .before .before .before .before .pre) _ _ refl (c .before .before .present .ensures) (eq-eqb _ _ (c .before .if1 .taken))
 
--- src/users.rt:53:9
 same-length : tie.Need-same-length
 same-length c = search needs
 
--- src/users.rt:53:9
 returns : tie.Need-returns
 returns c = search needs
 
--- src/users.rt:55:9
 has-role-requires : tie.Need-has-role-requires
 has-role-requires c κs = search needs
 
--- src/users.rt:56:9
 refuse-requires-2 : tie.Need-refuse-requires-2
 refuse-requires-2 c κs = no-officer _ authorised-officers _ _ _ (c .before .before .before .before .before .before .before .before .before .before .pre) _ _ refl (c .before .before .before .before .before .present .ensures) (ne-eqb _ _ (c .before .before .before .before .if1 .left)) _ (c .before .before .has-role .ensures) (not-true _ (c .before .if2 .taken))
 
--- src/users.rt:56:9
 same-length-2 : tie.Need-same-length-2
 same-length-2 c = search needs
 
--- src/users.rt:56:9
 returns-2 : tie.Need-returns-2
 returns-2 c = search needs
 
--- src/users.rt:58:24
 current-requires : tie.Need-current-requires
 current-requires c κs = let z = arguments-in toAuthorised _ _ _ (c .before .before .before .before .before .before .before .before .before .before .pre) in (c .before .before .before .before .before .before .before .before .before .before .pre .climbed .ready .whole, z .0 .0, z .0 .1)
 
--- src/users.rt:58:47
 shared-slice-read-within : tie.Need-shared-slice-read-within
 shared-slice-read-within c = search needs
 
--- src/users.rt:58:9
 within-requires : tie.Need-within-requires
 within-requires c κs = search needs
 
--- src/users.rt:59:9
 refuse-requires-3 : tie.Need-refuse-requires-3
 refuse-requires-3 c κs = authorised-13 _ _ _ (c .before .before .before .before .before .before .before .before .before .before .before .before .before .before .before .pre) _ _ refl (c .before .before .before .before .before .before .before .before .before .before .present .ensures) (ne-eqb _ _ (c .before .before .before .before .before .before .before .before .before .if1 .left)) _ (c .before .before .before .before .before .before .before .has-role .ensures) (not-false _ (c .before .before .before .before .before .before .if2 .left)) _ refl _ (c .before .before .within .ensures ∙ rw (c .before .before .before .before .current .ensures)) (not-true _ (c .before .if3 .taken))
 
--- src/users.rt:59:9
 same-length-3 : tie.Need-same-length-3
 same-length-3 c = search needs
 
--- src/users.rt:59:9
 returns-3 : tie.Need-returns-3
 returns-3 c = search needs
 
--- src/users.rt:61:34
 shared-slice-read-set-authorised : tie.Need-shared-slice-read-set-authorised
 shared-slice-read-set-authorised c = search needs
 
--- src/users.rt:61:5
 set-authorised-requires : tie.Need-set-authorised-requires
 set-authorised-requires c κs = let z = arguments-in toAuthorised _ _ _ (c .before .before .before .before .before .before .before .before .before .before .before .before .before .before .before .before .pre) in (c .before .before .before .before .before .before .before .before .before .before .before .before .before .before .before .before .pre .climbed .ready .whole, z .0 .0, z .0 .1)
 
--- src/users.rt:47:1
 same-length-4 : tie.Need-same-length-4
 same-length-4 c = search needs
 
--- src/users.rt:47:1
 returns-4 : tie.Need-returns-4
 returns-4 c = authorised-done _ _ _ (c .before .before .before .before .before .before .before .before .before .before .before .before .before .before .before .before .before .before .before .pre) _ _ refl (c .before .before .before .before .before .before .before .before .before .before .before .before .before .before .present .ensures) (ne-eqb _ _ (c .before .before .before .before .before .before .before .before .before .before .before .before .before .if1 .left)) _ (c .before .before .before .before .before .before .before .before .before .before .before .has-role .ensures) (not-false _ (c .before .before .before .before .before .before .before .before .before .before .if2 .left)) _ refl _ (c .before .before .before .before .before .before .within .ensures ∙ rw (c .before .before .before .before .before .before .before .before .current .ensures)) (not-false _ (c .before .before .before .before .before .if3 .left)) _ (c .before .before .set-authorised .ensures)
 

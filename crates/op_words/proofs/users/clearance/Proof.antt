@@ -14,67 +14,51 @@ use Rattle.ladder.proofs.refusal.refuse.Reads as refuse-reads
 use Rattle.op_words.proofs.trial.try_clearance.Reads as try-clearance-reads
 use Rattle.tables.proofs.present.Reads as present-reads
 
--- src/users.rt:33:18
 shared-slice-read-if1 : tie.Need-shared-slice-read-if1
 shared-slice-read-if1 c = search needs
 
--- src/users.rt:34:8
 present-requires : tie.Need-present-requires
 present-requires c κs = let z = arguments-in toClearance _ _ _ (c .before .before .before .before .pre) in (c .before .before .before .before .pre .climbed .ready .whole, z .0 .0, z .0 .1)
 
--- src/users.rt:35:9
 refuse-requires : tie.Need-refuse-requires
 refuse-requires c κs = user-absent _ clearance-officers _ _ _ (c .before .before .before .before .before .before .before .pre) _ _ refl (c .before .before .present .ensures) (eq-eqb _ _ (c .before .if1 .taken))
 
--- src/users.rt:35:9
 same-length : tie.Need-same-length
 same-length c = search needs
 
--- src/users.rt:35:9
 returns : tie.Need-returns
 returns c = search needs
 
--- src/users.rt:37:9
 has-role-requires : tie.Need-has-role-requires
 has-role-requires c κs = search needs
 
--- src/users.rt:38:9
 refuse-requires-2 : tie.Need-refuse-requires-2
 refuse-requires-2 c κs = no-officer _ clearance-officers _ _ _ (c .before .before .before .before .before .before .before .before .before .before .pre) _ _ refl (c .before .before .before .before .before .present .ensures) (ne-eqb _ _ (c .before .before .before .before .if1 .left)) _ (c .before .before .has-role .ensures) (not-true _ (c .before .if2 .taken))
 
--- src/users.rt:38:9
 same-length-2 : tie.Need-same-length-2
 same-length-2 c = search needs
 
--- src/users.rt:38:9
 returns-2 : tie.Need-returns-2
 returns-2 c = search needs
 
--- src/users.rt:40:49
 shared-slice-read-t6 : tie.Need-shared-slice-read-t6
 shared-slice-read-t6 c = search needs
 
--- src/users.rt:40:9
 try-clearance-requires : tie.Need-try-clearance-requires
 try-clearance-requires c κs = let z = arguments-in toClearance _ _ _ (c .before .before .before .before .before .before .before .before .before .before .before .pre) in (c .before .before .before .before .before .before .before .before .before .before .before .pre .climbed .ready .whole, z .0 .0, z .0 .1)
 
--- src/users.rt:41:9
 refuse-requires-3 : tie.Need-refuse-requires-3
 refuse-requires-3 c κs = rw (c .before .before .before .before .try-clearance .ensures .back (not-true _ (c .before .if3 .taken))) (clearance-13 _ _ _ (c .before .before .before .before .before .before .before .before .before .before .before .before .before .before .before .before .pre) _ _ refl (c .before .before .before .before .before .before .before .before .before .before .before .present .ensures) (ne-eqb _ _ (c .before .before .before .before .before .before .before .before .before .before .if1 .left)) _ (c .before .before .before .before .before .before .before .before .has-role .ensures) (not-false _ (c .before .before .before .before .before .before .before .if2 .left)) _ refl _ (c .before .before .before .before .try-clearance .ensures .secure) (not-true _ (c .before .if3 .taken)))
 
--- src/users.rt:41:9
 same-length-3 : tie.Need-same-length-3
 same-length-3 c = search needs
 
--- src/users.rt:41:9
 returns-3 : tie.Need-returns-3
 returns-3 c = rw (c .before .before .before .before .before .before .before .try-clearance .ensures .back (not-true _ (c .before .before .before .before .if3 .taken))) at (c .before .before .refuse3 .ensures)
 
--- src/users.rt:29:1
 same-length-4 : tie.Need-same-length-4
 same-length-4 c = search needs
 
--- src/users.rt:29:1
 returns-4 : tie.Need-returns-4
 returns-4 c = clearance-done _ _ _ (c .before .before .before .before .before .before .before .before .before .before .before .before .before .before .before .pre) _ _ refl (c .before .before .before .before .before .before .before .before .before .before .present .ensures) (ne-eqb _ _ (c .before .before .before .before .before .before .before .before .before .if1 .left)) _ (c .before .before .before .before .before .before .before .has-role .ensures) (not-false _ (c .before .before .before .before .before .before .if2 .left)) _ refl _ (c .before .before .before .try-clearance .ensures .secure) (not-false _ (c .if3 .left)) _ (c .before .before .before .try-clearance .ensures .kept (not-false _ (c .if3 .left)))
 

@@ -16,83 +16,63 @@ use Rattle.tables.proofs.device.Reads as device-reads
 use Rattle.tables.proofs.present.Reads as present-reads
 use Rattle.tables.proofs.set_current.Reads as set-current-reads
 
--- src/users.rt:13:18
 shared-slice-read-b : tie.Need-shared-slice-read-b
 shared-slice-read-b c = search needs
 
--- src/users.rt:14:13
 shared-slice-read-b-2 : tie.Need-shared-slice-read-b-2
 shared-slice-read-b-2 c = search needs
 
--- src/users.rt:15:9
 present-requires : tie.Need-present-requires
 present-requires c κs = let z = arguments-in toCurrent _ _ _ (c .before .before .before .before .before .pre) in (c .before .before .before .before .before .pre .climbed .ready .whole, z .0 .0, z .0 .1)
 
--- src/users.rt:15:41
 device-requires : tie.Need-device-requires
 device-requires c κs = let z = arguments-in toCurrent _ _ _ (c .before .before .before .before .before .before .before .pre) in (c .before .before .before .before .before .before .before .pre .climbed .ready .whole, z .0 .0, z .0 .1)
 
--- src/users.rt:16:9
 refuse-requires : tie.Need-refuse-requires
 refuse-requires c κs = current-11 _ _ _ (c .before .before .before .before .before .before .before .before .before .before .before .pre) _ _ _ _ refl refl (c .before .before .before .before .before .present .ensures) (c .before .before .before .device .ensures) (c .before .if1 .taken)
 
--- src/users.rt:16:9
 same-length : tie.Need-same-length
 same-length c = search needs
 
--- src/users.rt:16:9
 returns : tie.Need-returns
 returns c = search needs
 
--- src/users.rt:18:10
 shared-slice-read-if2 : tie.Need-shared-slice-read-if2
 shared-slice-read-if2 c = search needs
 
--- src/users.rt:18:27
 has-role-requires : tie.Need-has-role-requires
 has-role-requires c κs = search needs
 
--- src/users.rt:19:9
 refuse-requires-2 : tie.Need-refuse-requires-2
 refuse-requires-2 c κs = current-12 _ _ _ (c .before .before .before .before .before .before .before .before .before .before .before .before .before .before .before .before .pre) _ _ _ _ refl refl (c .before .before .before .before .before .before .before .before .before .before .present .ensures) (c .before .before .before .before .before .before .before .before .device .ensures) (c .before .before .before .before .before .before .if1 .left) _ (c .before .before .has-role .ensures) (c .before .if2 .taken)
 
--- src/users.rt:19:9
 same-length-2 : tie.Need-same-length-2
 same-length-2 c = search needs
 
--- src/users.rt:19:9
 returns-2 : tie.Need-returns-2
 returns-2 c = search needs
 
--- src/users.rt:21:27
 authorised-requires : tie.Need-authorised-requires
 authorised-requires c κs = let z = arguments-in toCurrent _ _ _ (c .before .before .before .before .before .before .before .before .before .before .before .before .before .before .before .before .pre) in (c .before .before .before .before .before .before .before .before .before .before .before .before .before .before .before .before .pre .climbed .ready .whole, z .0 .0, z .0 .1)
 
--- src/users.rt:21:9
 within-requires : tie.Need-within-requires
 within-requires c κs = search needs
 
--- src/users.rt:22:9
 refuse-requires-3 : tie.Need-refuse-requires-3
 refuse-requires-3 c κs = current-13 _ _ _ (c .before .before .before .before .before .before .before .before .before .before .before .before .before .before .before .before .before .before .before .before .pre) _ _ _ _ refl refl (c .before .before .before .before .before .before .before .before .before .before .before .before .before .before .present .ensures) (c .before .before .before .before .before .before .before .before .before .before .before .before .device .ensures) (c .before .before .before .before .before .before .before .before .before .before .if1 .left) _ (c .before .before .before .before .before .before .has-role .ensures) (c .before .before .before .before .before .if2 .left) _ (c .before .before .within .ensures ∙ rw (c .before .before .before .authorised .ensures)) (not-true _ (c .before .if3 .taken))
 
--- src/users.rt:22:9
 same-length-3 : tie.Need-same-length-3
 same-length-3 c = search needs
 
--- src/users.rt:22:9
 returns-3 : tie.Need-returns-3
 returns-3 c = search needs
 
--- src/users.rt:24:5
 set-current-requires : tie.Need-set-current-requires
 set-current-requires c κs = let z = arguments-in toCurrent _ _ _ (c .before .before .before .before .before .before .before .before .before .before .before .before .before .before .before .before .before .before .before .before .pre) in (c .before .before .before .before .before .before .before .before .before .before .before .before .before .before .before .before .before .before .before .before .pre .climbed .ready .whole, z .0 .0, z .0 .1)
 
--- src/users.rt:9:1
 same-length-4 : tie.Need-same-length-4
 same-length-4 c = search needs
 
--- src/users.rt:9:1
 returns-4 : tie.Need-returns-4
 returns-4 c = current-done _ _ _ (c .before .before .before .before .before .before .before .before .before .before .before .before .before .before .before .before .before .before .before .before .before .before .before .pre) _ _ _ _ refl refl (c .before .before .before .before .before .before .before .before .before .before .before .before .before .before .before .before .before .present .ensures) (c .before .before .before .before .before .before .before .before .before .before .before .before .before .before .before .device .ensures) (c .before .before .before .before .before .before .before .before .before .before .before .before .before .if1 .left) _ (c .before .before .before .before .before .before .before .before .before .has-role .ensures) (c .before .before .before .before .before .before .before .before .if2 .left) _ (c .before .before .before .before .before .within .ensures ∙ rw (c .before .before .before .before .before .before .authorised .ensures)) (not-false _ (c .before .before .before .before .if3 .left)) _ (c .before .before .set-current .ensures)
 

@@ -4,7 +4,6 @@ use Rattle.state.proofs.entities.count_fine.Tie as tie
 use Rattle.state.proofs.entities.count_fine.Reads as reads
 use Rattle.state.proofs.entities.count_fine.Lts as lts
 
--- src/entities.rt:54:1
 returns : tie.Need-returns
 returns c = count-form _ _
 

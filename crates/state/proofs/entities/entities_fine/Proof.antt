@@ -20,35 +20,27 @@ Inv-loop t i₀ i = (i ≤ 64) × (every i (λ k. ownTest (tablesOf t) (suc k)) 
 abbrev μ-loop : tie.MeasureT-loop
 μ-loop t i₀ i = 64 - i
 
--- src/entities.rt:248:5
 loop-holds : tie.Need-loop-holds Inv-loop μ-loop
 loop-holds c = (omega arith, every-none _)
 
--- src/entities.rt:249:35
 add-t4 : tie.Need-add-t4 Inv-loop μ-loop
 add-t4 c = omega arith
 
--- src/entities.rt:249:13
 entity-fine-requires : tie.Need-entity-fine-requires Inv-loop μ-loop
 entity-fine-requires c κs = search needs
 
--- src/entities.rt:250:13
 returns : tie.Need-returns Inv-loop μ-loop
 returns c = each-fails _ (ownTest (tablesOf (c .before .before .before .before .before .args .t .now))) _ (c .before .before .loop-test .taken) (sym (c .before .entity-fine .ensures) ∙ not-true _ (c .if1 .taken))
 
--- src/entities.rt:252:9
 add-i : tie.Need-add-i Inv-loop μ-loop
 add-i c = omega arith
 
--- src/entities.rt:248:5
 loop-less : tie.Need-loop-less Inv-loop μ-loop
 loop-less c = omega arith
 
--- src/entities.rt:248:5
 loop-again : tie.Need-loop-again Inv-loop μ-loop
 loop-again c = (omega arith, each-more _ (ownTest (tablesOf (c .before .before .before .before .before .args .t .now))) (c .before .before .before .loop .inv .1) (sym (c .before .entity-fine .ensures) ∙ not-false _ (c .if1 .left)))
 
--- src/entities.rt:243:1
 returns-2 : tie.Need-returns-2 Inv-loop μ-loop
 returns-2 c = every-done _ _ _ (c .before .loop .inv .1) (c .before .loop .inv .0) (omega arith)
 

@@ -20,27 +20,21 @@ Inv-loop t e blank₀ f₀ blank f = (f ≤ 32) × (blank ≡ every f (λ i. eqb
 abbrev μ-loop : tie.MeasureT-loop
 μ-loop t e blank₀ f₀ blank f = 32 - f
 
--- src/entities.rt:31:5
 loop-holds : tie.Need-loop-holds Inv-loop μ-loop
 loop-holds c = (omega arith, sym (every-none _))
 
--- src/entities.rt:32:17
 word-zero-requires : tie.Need-word-zero-requires Inv-loop μ-loop
 word-zero-requires c κs = search needs
 
--- src/entities.rt:33:9
 add-f : tie.Need-add-f Inv-loop μ-loop
 add-f c = omega arith
 
--- src/entities.rt:31:5
 loop-less : tie.Need-loop-less Inv-loop μ-loop
 loop-less c = omega arith
 
--- src/entities.rt:31:5
 loop-again : tie.Need-loop-again Inv-loop μ-loop
 loop-again c = (omega arith, every-gather _ _ _ _ (c .word-zero .ensures) (c .before .before .loop .inv .1))
 
--- src/entities.rt:25:1
 returns : tie.Need-returns Inv-loop μ-loop
 unfolding entityBlank
 returns c = every-gathered _ _ _ _ (c .before .loop .inv .1) (c .before .loop .inv .0) (omega arith)

@@ -10,23 +10,18 @@ use Rattle.state.proofs.entities.entity_blank.Reads as entity-blank-rea
 use Rattle.state.proofs.entities.present_fine.Reads as present-fine-reads
 use Rattle.tables.proofs.kind.Reads as kind-reads
 
--- src/entities.rt:235:9
 kind-requires : tie.Need-kind-requires
 kind-requires c κs = search needs
 
--- src/entities.rt:237:9
 entity-blank-requires : tie.Need-entity-blank-requires
 entity-blank-requires c κs = search needs
 
--- src/entities.rt:237:9
 returns : tie.Need-returns
 returns c = c .entity-blank .ensures ∙ own-absent _ (bounded _) _ (sym (c .before .before .kind .ensures) ∙ c .before .if1 .taken)
 
--- src/entities.rt:239:5
 present-fine-requires : tie.Need-present-fine-requires
 present-fine-requires c κs = search needs
 
--- src/entities.rt:231:1
 returns-2 : tie.Need-returns-2
 returns-2 c = search needs
 

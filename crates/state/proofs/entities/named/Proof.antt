@@ -5,7 +5,6 @@ use Rattle.state.proofs.entities.named.Tie as tie
 use Rattle.state.proofs.entities.named.Reads as reads
 use Rattle.state.proofs.entities.named.Lts as lts
 
--- src/entities.rt:130:1
 returns : tie.Need-returns
 unfolding tripleTest
 returns c = refl

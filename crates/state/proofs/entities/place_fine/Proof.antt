@@ -8,23 +8,18 @@ use Rattle.tables.proofs.kind_or_zero.Reads as kind-or-zero-reads
 use Rattle.tables.proofs.place.Reads as place-reads
 use Rattle.tables.proofs.shown.Reads as shown-reads
 
--- src/entities.rt:65:9
 place-requires : tie.Need-place-requires
 place-requires c κs = search needs
 
--- src/entities.rt:67:9
 shown-requires : tie.Need-shown-requires
 shown-requires c κs = search needs
 
--- src/entities.rt:69:9
 returns : tie.Need-returns
 returns c = place-beyond _ _ _ _ _ _ (c .before .before .before .before .pre .1) (c .before .before .place .ensures) (c .before .shown .ensures) (c .if1 .taken)
 
--- src/entities.rt:71:9
 kind-or-zero-requires : tie.Need-kind-or-zero-requires
 kind-or-zero-requires c κs = search needs
 
--- src/entities.rt:61:1
 returns-2 : tie.Need-returns-2
 returns-2 c = place-within _ _ _ _ _ _ (c .before .before .before .before .before .pre .1) (c .before .before .before .place .ensures) (c .before .before .shown .ensures) (c .before .if1 .left) _ _ (c .kind-or-zero .ensures) (c .before .before .before .before .before .pre .2)
 

@@ -23,35 +23,27 @@ Inv-loop t e i x j₀ j = (j ≤ i) × (every j (λ k. not (eqb (places (tablesO
 abbrev μ-loop : tie.MeasureT-loop
 μ-loop t e i x j₀ j = i - j
 
--- src/entities.rt:103:13
 place-requires : tie.Need-place-requires Inv-loop μ-loop
 place-requires c κs = search needs
 
--- src/entities.rt:105:5
 loop-holds : tie.Need-loop-holds Inv-loop μ-loop
 loop-holds c = (omega arith, every-none _)
 
--- src/entities.rt:106:13
 place-other-requires : tie.Need-place-other-requires Inv-loop μ-loop
 place-other-requires c κs = search needs
 
--- src/entities.rt:107:13
 returns : tie.Need-returns Inv-loop μ-loop
 returns c = unlike-of _ _ _ (c .before .before .before .before .place .ensures) _ (every-fails _ _ _ (c .before .before .loop-test .taken) (sym (c .before .place-other .ensures) ∙ not-true _ (c .if1 .taken)))
 
--- src/entities.rt:109:9
 add-j : tie.Need-add-j Inv-loop μ-loop
 add-j c = omega arith
 
--- src/entities.rt:105:5
 loop-less : tie.Need-loop-less Inv-loop μ-loop
 loop-less c = omega arith
 
--- src/entities.rt:105:5
 loop-again : tie.Need-loop-again Inv-loop μ-loop
 loop-again c = (omega arith, every-more _ _ (c .before .before .before .loop .inv .1) (sym (c .before .place-other .ensures) ∙ not-false _ (c .if1 .left)))
 
--- src/entities.rt:99:1
 returns-2 : tie.Need-returns-2 Inv-loop μ-loop
 returns-2 c = unlike-of _ _ _ (c .before .before .place .ensures) _ (every-done _ _ _ (c .before .loop .inv .1) (c .before .loop .inv .0) (omega arith))
 

@@ -5,11 +5,9 @@ use Rattle.state.proofs.entities.place_other.Reads as reads
 use Rattle.state.proofs.entities.place_other.Lts as lts
 use Rattle.tables.proofs.place.Reads as place-reads
 
--- src/entities.rt:95:7
 place-requires : tie.Need-place-requires
 place-requires c κs = search needs
 
--- src/entities.rt:91:1
 returns : tie.Need-returns
 returns c = rw (c .before .place .ensures)
 

@@ -21,31 +21,24 @@ Inv-loop t e n i₀ i = (i ≤ n) × (every i (unlike (places (tablesOf t) (e .0
 abbrev μ-loop : tie.MeasureT-loop
 μ-loop t e n i₀ i = n - i
 
--- src/entities.rt:120:5
 loop-holds : tie.Need-loop-holds Inv-loop μ-loop
 loop-holds c = (omega arith, every-none _)
 
--- src/entities.rt:121:13
 place-new-requires : tie.Need-place-new-requires Inv-loop μ-loop
 place-new-requires c κs = search needs
 
--- src/entities.rt:122:13
 returns : tie.Need-returns Inv-loop μ-loop
 returns c = every-fails _ _ _ (c .before .before .loop-test .taken) (sym (c .before .place-new .ensures) ∙ not-true _ (c .if1 .taken))
 
--- src/entities.rt:124:9
 add-i : tie.Need-add-i Inv-loop μ-loop
 add-i c = omega arith
 
--- src/entities.rt:120:5
 loop-less : tie.Need-loop-less Inv-loop μ-loop
 loop-less c = omega arith
 
--- src/entities.rt:120:5
 loop-again : tie.Need-loop-again Inv-loop μ-loop
 loop-again c = (omega arith, every-more _ _ (c .before .before .before .loop .inv .1) (sym (c .before .place-new .ensures) ∙ not-false _ (c .if1 .left)))
 
--- src/entities.rt:115:1
 returns-2 : tie.Need-returns-2 Inv-loop μ-loop
 returns-2 c = every-done _ _ _ (c .before .loop .inv .1) (c .before .loop .inv .0) (omega arith)
 

@@ -24,83 +24,63 @@ use Rattle.tables.proofs.releaser.Reads as releaser-reads
 use Rattle.tables.proofs.type_of.Reads as type-of-reads
 use Rattle.tables.proofs.value.Reads as value-reads
 
--- src/entities.rt:202:9
 type-of-requires : tie.Need-type-of-requires
 type-of-requires c κs = search needs
 
--- src/entities.rt:203:9
 level-requires : tie.Need-level-requires
 level-requires c κs = search needs
 
--- src/entities.rt:204:9
 mark-requires : tie.Need-mark-requires
 mark-requires c κs = search needs
 
--- src/entities.rt:205:9
 value-requires : tie.Need-value-requires
 value-requires c κs = search needs
 
--- src/entities.rt:206:9
 releaser-requires : tie.Need-releaser-requires
 releaser-requires c κs = search needs
 
--- src/entities.rt:207:9
 maximum-requires : tie.Need-maximum-requires
 maximum-requires c κs = search needs
 
--- src/entities.rt:200:9
 shape-fine-requires : tie.Need-shape-fine-requires
 shape-fine-requires c κs = search needs
 
--- src/entities.rt:209:9
 returns : tie.Need-returns
 returns c = own-shape _ (bounded _) _ _ _ _ _ _ _ _ (c .before .before .before .before .before .before .before .before .before .pre .1) (c .before .before .before .before .before .before .before .before .before .pre .2) (c .before .before .before .before .before .before .before .type-of .ensures) (c .before .before .before .before .before .before .level .ensures) (c .before .before .before .before .before .mark .ensures) (c .before .before .before .before .value .ensures) (c .before .before .before .releaser .ensures) (c .before .before .maximum .ensures) _ (c .before .shape-fine .ensures) (not-true _ (c .if1 .taken))
 
--- src/entities.rt:211:9
 count-requires : tie.Need-count-requires
 count-requires c κs = search needs
 
--- src/entities.rt:212:9
 count-fine-requires : tie.Need-count-fine-requires
 count-fine-requires c κs = search needs
 
--- src/entities.rt:213:9
 returns-2 : tie.Need-returns-2
 returns-2 c = own-count _ (bounded _) _ _ _ _ _ _ _ _ (c .before .before .before .before .before .before .before .before .before .before .before .before .pre .1) (c .before .before .before .before .before .before .before .before .before .before .before .before .pre .2) (c .before .before .before .before .before .before .before .before .before .before .type-of .ensures) (c .before .before .before .before .before .before .before .before .before .level .ensures) (c .before .before .before .before .before .before .before .before .mark .ensures) (c .before .before .before .before .before .before .before .value .ensures) (c .before .before .before .before .before .before .releaser .ensures) (c .before .before .before .before .before .maximum .ensures) _ (c .before .before .before .before .shape-fine .ensures) (not-false _ (c .before .before .before .if1 .left)) _ (c .before .before .count .ensures) _ (c .before .count-fine .ensures) (not-true _ (c .if2 .taken))
 
--- src/entities.rt:215:9
 places-fine-requires : tie.Need-places-fine-requires
 places-fine-requires c κs = (c .before .before .before .before .before .before .before .before .before .before .before .before .pre .0, c .before .before .count .ensures, ap (λ (k : ℕ). eqb k 3) (c .before .before .before .before .before .before .before .before .before .before .before .before .pre .1))
 
--- src/entities.rt:216:9
 returns-3 : tie.Need-returns-3
 returns-3 c = own-places _ (bounded _) _ _ _ _ _ _ _ _ (c .before .before .before .before .before .before .before .before .before .before .before .before .before .before .pre .1) (c .before .before .before .before .before .before .before .before .before .before .before .before .before .before .pre .2) (c .before .before .before .before .before .before .before .before .before .before .before .before .type-of .ensures) (c .before .before .before .before .before .before .before .before .before .before .before .level .ensures) (c .before .before .before .before .before .before .before .before .before .before .mark .ensures) (c .before .before .before .before .before .before .before .before .before .value .ensures) (c .before .before .before .before .before .before .before .before .releaser .ensures) (c .before .before .before .before .before .before .before .maximum .ensures) _ (c .before .before .before .before .before .before .shape-fine .ensures) (not-false _ (c .before .before .before .before .before .if1 .left)) _ (c .before .before .before .before .count .ensures) _ (c .before .before .before .count-fine .ensures) (not-false _ (c .before .before .if2 .left)) _ (c .before .places-fine .ensures) (not-true _ (c .if3 .taken))
 
--- src/entities.rt:218:9
 places-new-requires : tie.Need-places-new-requires
 places-new-requires c κs = (c .before .before .before .before .before .before .before .before .before .before .before .before .before .before .pre .0, own-room _ (bounded _) _ _ _ _ _ _ _ _ (c .before .before .before .before .before .before .before .before .before .before .before .before .before .before .pre .1) (c .before .before .before .before .before .before .before .before .before .before .before .before .before .before .pre .2) (c .before .before .before .before .before .before .before .before .before .before .before .before .type-of .ensures) (c .before .before .before .before .before .before .before .before .before .before .before .level .ensures) (c .before .before .before .before .before .before .before .before .before .before .mark .ensures) (c .before .before .before .before .before .before .before .before .before .value .ensures) (c .before .before .before .before .before .before .before .before .releaser .ensures) (c .before .before .before .before .before .before .before .maximum .ensures) _ (c .before .before .before .before .before .before .shape-fine .ensures) (not-false _ (c .before .before .before .before .before .if1 .left)) _ (c .before .before .before .before .count .ensures) _ (c .before .before .before .count-fine .ensures) (not-false _ (c .before .before .if2 .left)))
 
--- src/entities.rt:219:9
 returns-4 : tie.Need-returns-4
 returns-4 c = own-unlike _ (bounded _) _ _ _ _ _ _ _ _ (c .before .before .before .before .before .before .before .before .before .before .before .before .before .before .before .before .pre .1) (c .before .before .before .before .before .before .before .before .before .before .before .before .before .before .before .before .pre .2) (c .before .before .before .before .before .before .before .before .before .before .before .before .before .before .type-of .ensures) (c .before .before .before .before .before .before .before .before .before .before .before .before .before .level .ensures) (c .before .before .before .before .before .before .before .before .before .before .before .before .mark .ensures) (c .before .before .before .before .before .before .before .before .before .before .before .value .ensures) (c .before .before .before .before .before .before .before .before .before .before .releaser .ensures) (c .before .before .before .before .before .before .before .before .before .maximum .ensures) _ (c .before .before .before .before .before .before .before .before .shape-fine .ensures) (not-false _ (c .before .before .before .before .before .before .before .if1 .left)) _ (c .before .before .before .before .before .before .count .ensures) _ (c .before .before .before .before .before .count-fine .ensures) (not-false _ (c .before .before .before .before .if2 .left)) _ (c .before .before .before .places-fine .ensures) (not-false _ (c .before .before .if3 .left)) _ (c .before .places-new .ensures) (not-true _ (c .if4 .taken))
 
--- src/entities.rt:221:9
 triples-fine-requires : tie.Need-triples-fine-requires
 triples-fine-requires c κs = search needs
 
--- src/entities.rt:222:9
 returns-5 : tie.Need-returns-5
 returns-5 c = own-triples _ (bounded _) _ _ _ _ _ _ _ _ (c .before .before .before .before .before .before .before .before .before .before .before .before .before .before .before .before .before .before .pre .1) (c .before .before .before .before .before .before .before .before .before .before .before .before .before .before .before .before .before .before .pre .2) (c .before .before .before .before .before .before .before .before .before .before .before .before .before .before .before .before .type-of .ensures) (c .before .before .before .before .before .before .before .before .before .before .before .before .before .before .before .level .ensures) (c .before .before .before .before .before .before .before .before .before .before .before .before .before .before .mark .ensures) (c .before .before .before .before .before .before .before .before .before .before .before .before .before .value .ensures) (c .before .before .before .before .before .before .before .before .before .before .before .before .releaser .ensures) (c .before .before .before .before .before .before .before .before .before .before .before .maximum .ensures) _ (c .before .before .before .before .before .before .before .before .before .before .shape-fine .ensures) (not-false _ (c .before .before .before .before .before .before .before .before .before .if1 .left)) _ (c .before .before .before .before .before .before .before .before .count .ensures) _ (c .before .before .before .before .before .before .before .count-fine .ensures) (not-false _ (c .before .before .before .before .before .before .if2 .left)) _ (c .before .before .before .before .before .places-fine .ensures) (not-false _ (c .before .before .before .before .if3 .left)) _ (c .before .before .before .places-new .ensures) (not-false _ (c .before .before .if4 .left)) _ (c .before .triples-fine .ensures) (not-true _ (c .if5 .taken))
 
--- src/entities.rt:225:9
 returns-6 : tie.Need-returns-6
 returns-6 c = own-quiet _ (bounded _) _ _ _ _ _ _ _ _ (c .before .before .before .before .before .before .before .before .before .before .before .before .before .before .before .before .before .before .before .pre .1) (c .before .before .before .before .before .before .before .before .before .before .before .before .before .before .before .before .before .before .before .pre .2) (c .before .before .before .before .before .before .before .before .before .before .before .before .before .before .before .before .before .type-of .ensures) (c .before .before .before .before .before .before .before .before .before .before .before .before .before .before .before .before .level .ensures) (c .before .before .before .before .before .before .before .before .before .before .before .before .before .before .before .mark .ensures) (c .before .before .before .before .before .before .before .before .before .before .before .before .before .before .value .ensures) (c .before .before .before .before .before .before .before .before .before .before .before .before .before .releaser .ensures) (c .before .before .before .before .before .before .before .before .before .before .before .before .maximum .ensures) _ (c .before .before .before .before .before .before .before .before .before .before .before .shape-fine .ensures) (not-false _ (c .before .before .before .before .before .before .before .before .before .before .if1 .left)) _ (c .before .before .before .before .before .before .before .before .before .count .ensures) _ (c .before .before .before .before .before .before .before .before .count-fine .ensures) (not-false _ (c .before .before .before .before .before .before .before .if2 .left)) _ (c .before .before .before .before .before .before .places-fine .ensures) (not-false _ (c .before .before .before .before .before .if3 .left)) _ (c .before .before .before .before .places-new .ensures) (not-false _ (c .before .before .before .if4 .left)) _ (c .before .before .triples-fine .ensures) (not-false _ (c .before .if5 .left)) (c .if6 .taken)
 
--- src/entities.rt:227:6
 nobody-on-requires : tie.Need-nobody-on-requires
 nobody-on-requires c κs = (c .before .before .before .before .before .before .before .before .before .before .before .before .before .before .before .before .before .before .before .pre .0 .0, omega arith)
 
--- src/entities.rt:196:1
 returns-7 : tie.Need-returns-7
 returns-7 c = own-shown _ (bounded _) _ _ _ _ _ _ _ _ (c .before .before .before .before .before .before .before .before .before .before .before .before .before .before .before .before .before .before .before .before .pre .1) (c .before .before .before .before .before .before .before .before .before .before .before .before .before .before .before .before .before .before .before .before .pre .2) (c .before .before .before .before .before .before .before .before .before .before .before .before .before .before .before .before .before .before .type-of .ensures) (c .before .before .before .before .before .before .before .before .before .before .before .before .before .before .before .before .before .level .ensures) (c .before .before .before .before .before .before .before .before .before .before .before .before .before .before .before .before .mark .ensures) (c .before .before .before .before .before .before .before .before .before .before .before .before .before .before .before .value .ensures) (c .before .before .before .before .before .before .before .before .before .before .before .before .before .before .releaser .ensures) (c .before .before .before .before .before .before .before .before .before .before .before .before .before .maximum .ensures) _ (c .before .before .before .before .before .before .before .before .before .before .before .before .shape-fine .ensures) (not-false _ (c .before .before .before .before .before .before .before .before .before .before .before .if1 .left)) _ (c .before .before .before .before .before .before .before .before .before .before .count .ensures) _ (c .before .before .before .before .before .before .before .before .before .count-fine .ensures) (not-false _ (c .before .before .before .before .before .before .before .before .if2 .left)) _ (c .before .before .before .before .before .before .before .places-fine .ensures) (not-false _ (c .before .before .before .before .before .before .if3 .left)) _ (c .before .before .before .before .before .places-new .ensures) (not-false _ (c .before .before .before .before .if4 .left)) _ (c .before .before .before .triples-fine .ensures) (not-false _ (c .before .before .if5 .left)) (c .before .if6 .left) _ (c .nobody-on .ensures)
 

@@ -4,7 +4,6 @@ use Rattle.state.proofs.entities.shape_fine.Tie as tie
 use Rattle.state.proofs.entities.shape_fine.Reads as reads
 use Rattle.state.proofs.entities.shape_fine.Lts as lts
 
--- src/entities.rt:39:1
 returns : tie.Need-returns
 returns c = shape-form _ _ _ _ _ _ _
 

@@ -11,39 +11,30 @@ use Rattle.state.proofs.entities.named.Reads as named-reads
 use Rattle.state.proofs.entities.triple_unlike.Reads as triple-unlike-reads
 use Rattle.tables.proofs.triple.Reads as triple-reads
 
--- src/entities.rt:167:9
 triple-requires : tie.Need-triple-requires
 triple-requires c κs = search needs
 
--- src/entities.rt:170:13
 returns : tie.Need-returns
 returns c = triple-last (triples (tablesOf (c .before .before .before .before .args .t .now)) (c .before .before .before .before .args .e .0)) _ _ (c .before .before .triple .ensures) (c .before .if1 .taken) (c .if2 .taken)
 
--- src/entities.rt:172:37
 add-triple : tie.Need-add-triple
 add-triple c = search needs
 
--- src/entities.rt:172:16
 triple-requires-2 : tie.Need-triple-requires-2
 triple-requires-2 c κs = search needs
 
--- src/entities.rt:172:9
 returns-2 : tie.Need-returns-2
 returns-2 c = triple-next (triples (tablesOf (c .before .before .before .before .before .args .t .now)) (c .before .before .before .before .before .args .e .0)) _ _ (c .before .before .before .triple .ensures) (c .before .before .if1 .taken) (c .before .if2 .left) _ (c .triple2 .ensures)
 
--- src/entities.rt:174:9
 named-requires : tie.Need-named-requires
 named-requires c κs = search needs
 
--- src/entities.rt:175:9
 returns-3 : tie.Need-returns-3
 returns-3 c = triple-unnamed (triples (tablesOf (c .before .before .before .before .before .args .t .now)) (c .before .before .before .before .before .args .e .0)) _ _ (c .before .before .before .triple .ensures) (c .before .before .if1 .left) _ (c .before .named .ensures) (not-true _ (c .if3 .taken))
 
--- src/entities.rt:177:5
 triple-unlike-requires : tie.Need-triple-unlike-requires
 triple-unlike-requires c κs = search needs
 
--- src/entities.rt:163:1
 returns-4 : tie.Need-returns-4
 returns-4 c = triple-named (triples (tablesOf (c .before .before .before .before .before .before .args .t .now)) (c .before .before .before .before .before .before .args .e .0)) _ _ (c .before .before .before .before .triple .ensures) (c .before .before .before .if1 .left) _ (c .before .before .named .ensures) (not-false _ (c .before .if3 .left)) _ (c .triple-unlike .ensures)
 

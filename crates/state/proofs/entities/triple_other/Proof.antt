@@ -5,11 +5,9 @@ use Rattle.state.proofs.entities.triple_other.Reads as reads
 use Rattle.state.proofs.entities.triple_other.Lts as lts
 use Rattle.tables.proofs.triple.Reads as triple-reads
 
--- src/entities.rt:144:7
 triple-requires : tie.Need-triple-requires
 triple-requires c κs = search needs
 
--- src/entities.rt:140:1
 returns : tie.Need-returns
 returns c = rw (c .triple .ensures)
 

@@ -21,31 +21,24 @@ Inv-loop t e n x j₀ j = (j ≤ n) × (every j (λ k. not (eqb (triples (tables
 abbrev μ-loop : tie.MeasureT-loop
 μ-loop t e n x j₀ j = n - j
 
--- src/entities.rt:153:5
 loop-holds : tie.Need-loop-holds Inv-loop μ-loop
 loop-holds c = (omega arith, every-none _)
 
--- src/entities.rt:154:13
 triple-other-requires : tie.Need-triple-other-requires Inv-loop μ-loop
 triple-other-requires c κs = search needs
 
--- src/entities.rt:155:13
 returns : tie.Need-returns Inv-loop μ-loop
 returns c = every-fails _ _ _ (c .before .before .loop-test .taken) (sym (c .before .triple-other .ensures) ∙ not-true _ (c .if1 .taken))
 
--- src/entities.rt:157:9
 add-j : tie.Need-add-j Inv-loop μ-loop
 add-j c = omega arith
 
--- src/entities.rt:153:5
 loop-less : tie.Need-loop-less Inv-loop μ-loop
 loop-less c = omega arith
 
--- src/entities.rt:153:5
 loop-again : tie.Need-loop-again Inv-loop μ-loop
 loop-again c = (omega arith, every-more _ _ (c .before .before .before .loop .inv .1) (sym (c .before .triple-other .ensures) ∙ not-false _ (c .if1 .left)))
 
--- src/entities.rt:148:1
 returns-2 : tie.Need-returns-2 Inv-loop μ-loop
 returns-2 c = every-done _ _ _ (c .before .loop .inv .1) (c .before .loop .inv .0) (omega arith)
 

@@ -5,11 +5,9 @@ use Rattle.state.proofs.entities.word_zero.Reads as reads
 use Rattle.state.proofs.entities.word_zero.Lts as lts
 use Rattle.tables.proofs.entity_at.Reads as entity-at-reads
 
--- src/entities.rt:21:5
 entity-at-requires : tie.Need-entity-at-requires
 entity-at-requires c κs = search needs
 
--- src/entities.rt:17:1
 returns : tie.Need-returns
 returns c = rw (c .entity-at .ensures)
 

@@ -5,11 +5,9 @@ use Rattle.state.proofs.secure.at_most_eight.Tie as tie
 use Rattle.state.proofs.secure.at_most_eight.Reads as reads
 use Rattle.state.proofs.secure.at_most_eight.Lts as lts
 
--- src/secure.rt:54:9
 returns : tie.Need-returns
 returns c = capped-over _ (c .if1 .taken)
 
--- src/secure.rt:50:1
 returns-2 : tie.Need-returns-2
 returns-2 c = capped-within _ (omega arith)
 

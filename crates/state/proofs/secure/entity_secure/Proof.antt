@@ -17,43 +17,33 @@ use Rattle.tables.proofs.kind.Reads as kind-reads
 use Rattle.tables.proofs.level.Reads as level-reads
 use Rattle.tables.proofs.maximum.Reads as maximum-reads
 
--- src/secure.rt:64:27
 count-requires : tie.Need-count-requires
 count-requires c κs = search needs
 
--- src/secure.rt:64:9
 at-most-eight-requires : tie.Need-at-most-eight-requires
 at-most-eight-requires c κs = search needs
 
--- src/secure.rt:65:9
 level-requires : tie.Need-level-requires
 level-requires c κs = search needs
 
--- src/secure.rt:66:13
 kind-requires : tie.Need-kind-requires
 kind-requires c κs = search needs
 
--- src/secure.rt:67:9
 places-secure-requires : tie.Need-places-secure-requires
 places-secure-requires c κs = (c .before .before .before .before .before .pre, c .before .level .ensures, (ap (λ (k : ℕ). eqb k 3) (c .kind .ensures)), omega (arith, capped-low (c .before .before .before .count .result), c .before .before .at-most-eight .ensures))
 
--- src/secure.rt:68:9
 returns : tie.Need-returns
 returns c = entity-fails _ _ _ _ _ _ (c .before .before .before .before .before .count .ensures) (c .before .before .before .before .at-most-eight .ensures) (ap (λ (k : ℕ). eqb k 3) (c .before .before .kind .ensures)) (c .before .places-secure .ensures) (not-true _ (c .if1 .taken))
 
--- src/secure.rt:71:9
 returns-2 : tie.Need-returns-2
 returns-2 c = entity-plain _ _ _ _ _ _ (c .before .before .before .before .before .before .count .ensures) (c .before .before .before .before .before .at-most-eight .ensures) (ap (λ (k : ℕ). eqb k 3) (c .before .before .before .kind .ensures)) (c .before .before .places-secure .ensures) (not-false _ (c .before .if1 .left)) (not-true _ (c .if2 .taken))
 
--- src/secure.rt:73:24
 maximum-requires : tie.Need-maximum-requires
 maximum-requires c κs = search needs
 
--- src/secure.rt:73:5
 at-most-requires : tie.Need-at-most-requires
 at-most-requires c κs = search needs
 
--- src/secure.rt:60:1
 returns-3 : tie.Need-returns-3
 returns-3 c = entity-device _ _ _ _ _ _ (c .before .before .before .before .before .before .before .before .count .ensures) (c .before .before .before .before .before .before .before .at-most-eight .ensures) (ap (λ (k : ℕ). eqb k 3) (c .before .before .before .before .before .kind .ensures)) (c .before .before .before .before .places-secure .ensures) (not-false _ (c .before .before .before .if1 .left)) (not-false _ (c .before .before .if2 .left)) _ _ _ (c .before .before .before .before .before .before .level .ensures) (c .before .maximum .ensures) (c .at-most .ensures)
 

@@ -7,15 +7,12 @@ use Rattle.state.proofs.secure.is_labelled.Reads as reads
 use Rattle.state.proofs.secure.is_labelled.Lts as lts
 use Rattle.levels.proofs.has_bit.Reads as has-bit-reads
 
--- src/secure.rt:22:6
 has-bit-requires : tie.Need-has-bit-requires
 has-bit-requires c κs = search needs
 
--- src/secure.rt:22:30
 has-bit-requires-2 : tie.Need-has-bit-requires-2
 has-bit-requires-2 c κs = search needs
 
--- src/secure.rt:19:1
 returns : tie.Need-returns
 unfolding labelled
 returns c = rw (c .before .has-bit .ensures, c .has-bit2 .ensures) (or-imp _ _)

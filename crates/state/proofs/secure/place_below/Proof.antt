@@ -7,19 +7,15 @@ use Rattle.levels.proofs.at_most.Reads as at-most-reads
 use Rattle.tables.proofs.level_or_zero.Reads as level-or-zero-reads
 use Rattle.tables.proofs.place.Reads as place-reads
 
--- src/secure.rt:96:46
 place-requires : tie.Need-place-requires
 place-requires c κs = search needs
 
--- src/secure.rt:96:21
 level-or-zero-requires : tie.Need-level-or-zero-requires
 level-or-zero-requires c κs = search needs
 
--- src/secure.rt:96:5
 at-most-requires : tie.Need-at-most-requires
 at-most-requires c κs = search needs
 
--- src/secure.rt:92:1
 returns : tie.Need-returns
 returns c = rw (c .at-most .ensures, c .before .level-or-zero .ensures, c .before .before .place .ensures)
 

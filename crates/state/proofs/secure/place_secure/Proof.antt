@@ -10,27 +10,21 @@ use Rattle.tables.proofs.level_or_zero.Reads as level-or-zero-reads
 use Rattle.tables.proofs.place.Reads as place-reads
 use Rattle.tables.proofs.shown.Reads as shown-reads
 
--- src/secure.rt:30:46
 place-requires : tie.Need-place-requires
 place-requires c κs = search needs
 
--- src/secure.rt:30:21
 level-or-zero-requires : tie.Need-level-or-zero-requires
 level-or-zero-requires c κs = search needs
 
--- src/secure.rt:30:5
 at-most-requires : tie.Need-at-most-requires
 at-most-requires c κs = search needs
 
--- src/secure.rt:31:29
 shown-requires : tie.Need-shown-requires
 shown-requires c κs = search needs
 
--- src/secure.rt:31:17
 is-labelled-requires : tie.Need-is-labelled-requires
 is-labelled-requires c κs = search needs
 
--- src/secure.rt:26:1
 returns : tie.Need-returns
 returns c = place-secure _ _ _ _ _ _ _ _ _ _ (c .before .before .before .before .place .ensures) (c .before .before .before .level-or-zero .ensures) (c .before .before .before .before .before .before .pre .1) (c .before .before .at-most .ensures) (c .before .shown .ensures) (c .is-labelled .ensures) (c .before .before .before .before .before .before .pre .2)
 

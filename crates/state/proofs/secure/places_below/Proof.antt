@@ -21,31 +21,24 @@ Inv-loop t v c n i₀ i = (i ≤ n) × (every i (λ j. atMost (tablesOf t .entit
 abbrev μ-loop : tie.MeasureT-loop
 μ-loop t v c n i₀ i = n - i
 
--- src/secure.rt:105:5
 loop-holds : tie.Need-loop-holds Inv-loop μ-loop
 loop-holds c = (omega arith, every-none _)
 
--- src/secure.rt:106:13
 place-below-requires : tie.Need-place-below-requires Inv-loop μ-loop
 place-below-requires c κs = search needs
 
--- src/secure.rt:107:13
 returns : tie.Need-returns Inv-loop μ-loop
 returns c = every-fails _ _ _ (c .before .before .loop-test .taken) (sym (c .before .place-below .ensures) ∙ not-true _ (c .if1 .taken))
 
--- src/secure.rt:109:9
 add-i : tie.Need-add-i Inv-loop μ-loop
 add-i c = omega arith
 
--- src/secure.rt:105:5
 loop-less : tie.Need-loop-less Inv-loop μ-loop
 loop-less c = omega arith
 
--- src/secure.rt:105:5
 loop-again : tie.Need-loop-again Inv-loop μ-loop
 loop-again c = (omega arith, every-more _ _ (c .before .before .before .loop .inv .1) (sym (c .before .place-below .ensures) ∙ not-false _ (c .if1 .left)))
 
--- src/secure.rt:100:1
 returns-2 : tie.Need-returns-2 Inv-loop μ-loop
 returns-2 c = every-done _ _ _ (c .before .loop .inv .1) (c .before .loop .inv .0) (omega arith)
 

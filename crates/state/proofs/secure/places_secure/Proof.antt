@@ -20,31 +20,24 @@ Inv-loop t e l s n i₀ i = (i ≤ n) × (every i (placeSecure (tablesOf t) (e .
 abbrev μ-loop : tie.MeasureT-loop
 μ-loop t e l s n i₀ i = n - i
 
--- src/secure.rt:40:5
 loop-holds : tie.Need-loop-holds Inv-loop μ-loop
 loop-holds c = (omega arith, every-none _)
 
--- src/secure.rt:41:13
 place-secure-requires : tie.Need-place-secure-requires Inv-loop μ-loop
 place-secure-requires c κs = search needs
 
--- src/secure.rt:42:13
 returns : tie.Need-returns Inv-loop μ-loop
 returns c = every-fails _ _ _ (c .before .before .loop-test .taken) (sym (c .before .place-secure .ensures) ∙ not-true _ (c .if1 .taken))
 
--- src/secure.rt:44:9
 add-i : tie.Need-add-i Inv-loop μ-loop
 add-i c = omega arith
 
--- src/secure.rt:40:5
 loop-less : tie.Need-loop-less Inv-loop μ-loop
 loop-less c = omega arith
 
--- src/secure.rt:40:5
 loop-again : tie.Need-loop-again Inv-loop μ-loop
 loop-again c = (omega arith, every-more _ _ (c .before .before .before .loop .inv .1) (sym (c .before .place-secure .ensures) ∙ not-false _ (c .if1 .left)))
 
--- src/secure.rt:35:1
 returns-2 : tie.Need-returns-2 Inv-loop μ-loop
 returns-2 c = every-done _ _ _ (c .before .loop .inv .1) (c .before .loop .inv .0) (omega arith)
 

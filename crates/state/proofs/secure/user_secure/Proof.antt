@@ -16,51 +16,39 @@ use Rattle.tables.proofs.count.Reads as count-reads
 use Rattle.tables.proofs.current.Reads as current-reads
 use Rattle.tables.proofs.device.Reads as device-reads
 
--- src/secure.rt:119:24
 current-requires : tie.Need-current-requires
 current-requires c κs = search needs
 
--- src/secure.rt:119:47
 authorised-requires : tie.Need-authorised-requires
 authorised-requires c κs = search needs
 
--- src/secure.rt:119:9
 within-requires : tie.Need-within-requires
 within-requires c κs = search needs
 
--- src/secure.rt:120:9
 returns : tie.Need-returns
 returns c = user-fails _ _ _ _ _ (c .before .before .before .current .ensures) (c .before .before .authorised .ensures) (c .before .within .ensures) (not-true _ (c .if1 .taken))
 
--- src/secure.rt:122:9
 device-requires : tie.Need-device-requires
 device-requires c κs = search needs
 
--- src/secure.rt:125:9
 returns-2 : tie.Need-returns-2
 returns-2 c = user-off _ _ _ _ _ (c .before .before .before .before .before .current .ensures) (c .before .before .before .before .authorised .ensures) (c .before .before .before .within .ensures) (not-false _ (c .before .before .if1 .left)) _ (c .before .device .ensures) (c .if2 .taken)
 
--- src/secure.rt:128:9
 returns-3 : tie.Need-returns-3
 returns-3 c = user-beyond _ _ _ _ _ (c .before .before .before .before .before .before .current .ensures) (c .before .before .before .before .before .authorised .ensures) (c .before .before .before .before .within .ensures) (not-false _ (c .before .before .before .if1 .left)) _ (c .before .before .device .ensures) (bounded _) (c .if3 .taken)
 
--- src/secure.rt:133:9
 clearance-requires : tie.Need-clearance-requires
 clearance-requires c κs = search needs
 
--- src/secure.rt:134:23
 count-requires : tie.Need-count-requires
 count-requires c κs = search needs
 
--- src/secure.rt:134:9
 at-most-eight-requires : tie.Need-at-most-eight-requires
 at-most-eight-requires c κs = search needs
 
--- src/secure.rt:130:5
 places-below-requires : tie.Need-places-below-requires
 places-below-requires c κs = ((c .before .before .before .before .before .before .before .before .before .before .before .pre .0, omega arith, omega arith), omega (arith, capped-low (c .before .count .result), c .at-most-eight .ensures))
 
--- src/secure.rt:115:1
 returns-4 : tie.Need-returns-4
 returns-4 c = user-on _ _ _ _ _ (c .before .before .before .before .before .before .before .before .before .before .current .ensures) (c .before .before .before .before .before .before .before .before .before .authorised .ensures) (c .before .before .before .before .before .before .before .before .within .ensures) (not-false _ (c .before .before .before .before .before .before .before .if1 .left)) _ (c .before .before .before .before .before .before .device .ensures) (omega arith) _ _ _ _ (c .before .before .before .clearance .ensures) (c .before .before .count .ensures) (c .before .at-most-eight .ensures) (c .places-below .ensures)
 

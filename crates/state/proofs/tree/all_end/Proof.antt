@@ -19,35 +19,27 @@ Inv-loop h i₀ i = (i ≤ 64) × (every i (λ k. up (λ x. getD h x 0) 65 (suc 
 abbrev μ-loop : tie.MeasureT-loop
 μ-loop h i₀ i = 64 - i
 
--- src/tree.rt:76:5
 loop-holds : tie.Need-loop-holds Inv-loop μ-loop
 loop-holds c = (omega arith, every-none _)
 
--- src/tree.rt:77:21
 add-ends : tie.Need-add-ends Inv-loop μ-loop
 add-ends c = omega arith
 
--- src/tree.rt:77:13
 ends-requires : tie.Need-ends-requires Inv-loop μ-loop
 ends-requires c κs = (omega arith, c .before .before .pre)
 
--- src/tree.rt:78:13
 returns : tie.Need-returns Inv-loop μ-loop
 returns c = each-fails _ (λ e. up (λ x. getD (c .before .before .before .before .args .h .now) x 0) 65 e) _ (c .before .before .loop-test .taken) (sym (c .before .ends .ensures) ∙ not-true _ (c .if1 .taken))
 
--- src/tree.rt:80:9
 add-i : tie.Need-add-i Inv-loop μ-loop
 add-i c = omega arith
 
--- src/tree.rt:76:5
 loop-less : tie.Need-loop-less Inv-loop μ-loop
 loop-less c = omega arith
 
--- src/tree.rt:76:5
 loop-again : tie.Need-loop-again Inv-loop μ-loop
 loop-again c = (omega arith, each-more _ (λ e. up (λ x. getD (c .before .before .before .before .args .h .now) x 0) 65 e) (c .before .before .before .loop .inv .1) (sym (c .before .ends .ensures) ∙ not-false _ (c .if1 .left)))
 
--- src/tree.rt:71:1
 returns-2 : tie.Need-returns-2 Inv-loop μ-loop
 returns-2 c = every-done _ _ _ (c .before .loop .inv .1) (c .before .loop .inv .0) (omega arith)
 

@@ -16,39 +16,30 @@ Inv-loop h e y₀ i₀ y i = (i ≤ 65) × (y ≤ 64) × (up (λ x. getD h x 0) 
 abbrev μ-loop : tie.MeasureT-loop
 μ-loop h e y₀ i₀ y i = 65 - i
 
--- src/tree.rt:60:5
 loop-holds : tie.Need-loop-holds Inv-loop μ-loop
 loop-holds c = (omega arith, c .pre .0, refl)
 
--- src/tree.rt:61:15
 cast-y : tie.Need-cast-y Inv-loop μ-loop
 cast-y c = search needs
 
--- src/tree.rt:61:13
 mul-y : tie.Need-mul-y Inv-loop μ-loop
 mul-y c = search needs
 
--- src/tree.rt:61:13
 element-copy-out-y : tie.Need-element-copy-out-y Inv-loop μ-loop
 element-copy-out-y c = search needs
 
--- src/tree.rt:63:13
 returns : tie.Need-returns Inv-loop μ-loop
 returns c = up-stops (λ x. getD (c .before .before .before .before .args .h .now) x 0) 65 _ _ _ (c .before .before .before .loop .inv .2) (c .before .before .loop-test .taken) (c .if1 .taken)
 
--- src/tree.rt:65:9
 add-i : tie.Need-add-i Inv-loop μ-loop
 add-i c = search needs
 
--- src/tree.rt:60:5
 loop-less : tie.Need-loop-less Inv-loop μ-loop
 loop-less c = search needs
 
--- src/tree.rt:60:5
 loop-again : tie.Need-loop-again Inv-loop μ-loop
 loop-again c = (omega arith, c .before .before .before .before .pre .1 .1 _, up-goes (λ x. getD (c .before .before .before .before .args .h .now) x 0) 65 _ _ _ (c .before .before .before .loop .inv .2) (c .before .before .loop-test .taken) (c .if1 .left))
 
--- src/tree.rt:54:1
 returns-2 : tie.Need-returns-2 Inv-loop μ-loop
 returns-2 c = up-ends (λ x. getD (c .before .before .args .h .now) x 0) 65 _ _ _ (c .before .loop .inv .2) (omega arith)
 

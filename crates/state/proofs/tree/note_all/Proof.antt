@@ -16,35 +16,27 @@ Inv-loop t h₀ i₀ h i = (i ≤ 64) × Filled (tablesOf t) (i * 8) h
 abbrev μ-loop : tie.MeasureT-loop
 μ-loop t h₀ i₀ h i = 64 - i
 
--- src/tree.rt:44:5
 loop-holds : tie.Need-loop-holds Inv-loop μ-loop
 loop-holds c = (omega arith, c .before .pre .2)
 
--- src/tree.rt:45:35
 add-t6 : tie.Need-add-t6 Inv-loop μ-loop
 add-t6 c = omega arith
 
--- src/tree.rt:45:13
 note-row-requires : tie.Need-note-row-requires Inv-loop μ-loop
 note-row-requires c κs = ((c .before .before .before .before .pre .0, omega arith, omega arith), c .before .before .before .before .pre .1, filled-next _ _ _ (c .before .before .loop .inv .1))
 
--- src/tree.rt:46:13
 returns : tie.Need-returns Inv-loop μ-loop
 returns c = stopped-in (tablesOf _) _ _ _ _ _ (c .before .note-row .ensures) (not-true _ (c .if1 .taken))
 
--- src/tree.rt:48:9
 add-i : tie.Need-add-i Inv-loop μ-loop
 add-i c = omega arith
 
--- src/tree.rt:44:5
 loop-less : tie.Need-loop-less Inv-loop μ-loop
 loop-less c = omega arith
 
--- src/tree.rt:44:5
 loop-again : tie.Need-loop-again Inv-loop μ-loop
 loop-again c = (omega arith, c .before .note-row .ensures .filled (not-false _ (c .if1 .left)))
 
--- src/tree.rt:39:1
 returns-2 : tie.Need-returns-2 Inv-loop μ-loop
 returns-2 c = went-on _ _ _ (filled-end _ _ _ (c .before .loop .inv .0) (omega arith) (c .before .loop .inv .1))
 

@@ -19,67 +19,51 @@ Inv-loop t h₀ c n i₀ h i = (i ≤ n) × (n ≤ 8) × Filled (tablesOf t) ((c
 abbrev μ-loop : tie.MeasureT-loop
 μ-loop t h₀ c n i₀ h i = n - i
 
--- src/tree.rt:22:8
 kind-requires : tie.Need-kind-requires Inv-loop μ-loop
 kind-requires c κs = search needs
 
--- src/tree.rt:23:9
 returns : tie.Need-returns Inv-loop μ-loop
 returns c = went-on _ _ _ (filled-skip (tablesOf _) (bounded _) (c .before .before .before .pre .1) _ _ _ (c .before .before .before .pre .0 .1) (c .before .kind .ensures) (c .if1 .taken) (c .before .before .before .pre .2))
 
--- src/tree.rt:25:9
 count-requires : tie.Need-count-requires Inv-loop μ-loop
 count-requires c κs = search needs
 
--- src/tree.rt:27:5
 loop-holds : tie.Need-loop-holds Inv-loop μ-loop
 loop-holds c = (omega arith, count-low (tablesOf _) (bounded _) (c .before .before .before .before .pre .1) _ _ (c .count .ensures), filled-start _ _ _ (c .before .before .before .before .pre .2))
 
--- src/tree.rt:28:17
 place-requires : tie.Need-place-requires Inv-loop μ-loop
 place-requires c κs = search needs
 
--- src/tree.rt:29:14
 cast-if2 : tie.Need-cast-if2 Inv-loop μ-loop
 cast-if2 c = search needs
 
--- src/tree.rt:29:12
 mul-if2 : tie.Need-mul-if2 Inv-loop μ-loop
 mul-if2 c = search needs
 
--- src/tree.rt:29:12
 element-copy-out-if2 : tie.Need-element-copy-out-if2 Inv-loop μ-loop
 element-copy-out-if2 c = omega (arith, slot-entity (tablesOf _) (bounded _) (c .before .before .before .before .before .before .before .pre .1) _ _ _ (slot-at (tablesOf _) (bounded _) (c .before .before .before .before .before .before .before .pre .1) _ _ _ _ _ (c .before .before .before .before .before .before .before .pre .0 .1) (c .before .before .before .before .before .kind .ensures) (c .before .before .before .before .if1 .left) (c .before .before .before .count .ensures) (c .before .loop-test .taken) (c .place .ensures)))
 
--- src/tree.rt:30:13
 returns-2 : tie.Need-returns-2 Inv-loop μ-loop
 returns-2 c = stopped _ _ _ (held-twice (tablesOf _) (bounded _) (c .before .before .before .before .before .before .before .before .before .pre .1) _ _ _ _ (slot-at (tablesOf _) (bounded _) (c .before .before .before .before .before .before .before .before .before .pre .1) _ _ _ _ _ (c .before .before .before .before .before .before .before .before .before .pre .0 .1) (c .before .before .before .before .before .before .before .kind .ensures) (c .before .before .before .before .before .before .if1 .left) (c .before .before .before .before .before .count .ensures) (c .before .before .before .loop-test .taken) (c .before .before .place .ensures)) (c .if2 .taken) (c .before .before .before .before .loop .inv .2))
 
--- src/tree.rt:32:11
 cast-h : tie.Need-cast-h Inv-loop μ-loop
 cast-h c = search needs
 
--- src/tree.rt:32:9
 mul-h : tie.Need-mul-h Inv-loop μ-loop
 mul-h c = search needs
 
--- src/tree.rt:32:9
 element-write-h : tie.Need-element-write-h Inv-loop μ-loop
 element-write-h c = omega (arith, slot-entity (tablesOf _) (bounded _) (c .before .before .before .before .before .before .before .before .before .pre .1) _ _ _ (slot-at (tablesOf _) (bounded _) (c .before .before .before .before .before .before .before .before .before .pre .1) _ _ _ _ _ (c .before .before .before .before .before .before .before .before .before .pre .0 .1) (c .before .before .before .before .before .before .before .kind .ensures) (c .before .before .before .before .before .before .if1 .left) (c .before .before .before .before .before .count .ensures) (c .before .before .before .loop-test .taken) (c .before .before .place .ensures)))
 
--- src/tree.rt:33:9
 add-i : tie.Need-add-i Inv-loop μ-loop
 add-i c = search needs
 
--- src/tree.rt:27:5
 loop-less : tie.Need-loop-less Inv-loop μ-loop
 loop-less c = search needs
 
--- src/tree.rt:27:5
 loop-again : tie.Need-loop-again Inv-loop μ-loop
 loop-again c = (omega arith, c .before .before .before .before .loop .inv .1, filled-put (tablesOf _) (bounded _) (c .before .before .before .before .before .before .before .before .before .pre .1) _ _ _ _ (slot-at (tablesOf _) (bounded _) (c .before .before .before .before .before .before .before .before .before .pre .1) _ _ _ _ _ (c .before .before .before .before .before .before .before .before .before .pre .0 .1) (c .before .before .before .before .before .before .before .kind .ensures) (c .before .before .before .before .before .before .if1 .left) (c .before .before .before .before .before .count .ensures) (c .before .before .before .loop-test .taken) (c .before .before .place .ensures)) (c .if2 .left) (c .before .before .before .before .loop .inv .2))
 
--- src/tree.rt:18:1
 returns-3 : tie.Need-returns-3 Inv-loop μ-loop
 returns-3 c = went-on _ _ _ (filled-rest (tablesOf _) (bounded _) (c .before .before .before .before .before .before .pre .1) _ _ _ _ (c .before .before .before .before .before .before .pre .0 .1) (c .before .before .count .ensures) (c .before .loop .inv .0) (omega arith) (c .before .loop .inv .2))
 

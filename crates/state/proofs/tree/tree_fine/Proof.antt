@@ -10,19 +10,15 @@ use Rattle.state.proofs.tree.tree_fine.Lts as lts
 use Rattle.state.proofs.tree.all_end.Reads as all-end-reads
 use Rattle.state.proofs.tree.note_all.Reads as note-all-reads
 
--- src/tree.rt:91:9
 note-all-requires : tie.Need-note-all-requires
 note-all-requires c κs = (c .before .before .pre .0, c .before .before .pre .1, filled-none _ _ refl)
 
--- src/tree.rt:92:9
 returns : tie.Need-returns
 returns c = tree-refused (tablesOf _) (bounded _) (c .before .before .before .before .pre .1) _ _ _ (c .before .note-all .ensures) (not-true _ (c .if1 .taken))
 
--- src/tree.rt:94:5
 all-end-requires : tie.Need-all-end-requires
 all-end-requires c κs = filled-low (tablesOf _) (bounded _) (c .before .before .before .before .before .pre .1) _ _ (c .before .before .note-all .ensures .filled (not-false _ (c .before .if1 .left)))
 
--- src/tree.rt:86:1
 returns-2 : tie.Need-returns-2
 returns-2 c = tree-ends (tablesOf _) (bounded _) (c .before .before .before .before .before .before .pre .1) _ _ (c .before .before .before .note-all .ensures) (not-false _ (c .before .before .if1 .left)) _ (c .all-end .ensures)
 

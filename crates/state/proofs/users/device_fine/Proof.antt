@@ -9,31 +9,24 @@ use Rattle.state.proofs.users.nobody_on.Reads as nobody-on-reads
 use Rattle.tables.proofs.device.Reads as device-reads
 use Rattle.tables.proofs.kind_or_zero.Reads as kind-or-zero-reads
 
--- src/users.rt:141:9
 device-requires : tie.Need-device-requires
 device-requires c κs = search needs
 
--- src/users.rt:144:9
 returns : tie.Need-returns
 returns c = on-none _ _ _ (c .before .device .ensures) (c .if1 .taken)
 
--- src/users.rt:146:8
 kind-or-zero-requires : tie.Need-kind-or-zero-requires
 kind-or-zero-requires c κs = search needs
 
--- src/users.rt:147:9
 returns-2 : tie.Need-returns-2
 returns-2 c = on-other _ _ _ (c .before .before .before .device .ensures) (c .before .before .if1 .left) _ (c .before .kind-or-zero .ensures) (c .if2 .taken)
 
--- src/users.rt:149:21
 sub-nobody-on : tie.Need-sub-nobody-on
 sub-nobody-on c = search needs
 
--- src/users.rt:149:5
 nobody-on-requires : tie.Need-nobody-on-requires
 nobody-on-requires c κs = search needs
 
--- src/users.rt:137:1
 returns-3 : tie.Need-returns-3
 returns-3 c = on-alone _ _ _ (c .before .before .before .before .before .device .ensures) (c .before .before .before .before .if1 .left) _ (c .before .before .before .kind-or-zero .ensures) (c .before .before .if2 .left) _ (omega arith) _ (c .nobody-on .ensures)
 

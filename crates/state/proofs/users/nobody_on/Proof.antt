@@ -22,35 +22,27 @@ Inv-loop t e n i₀ i = (i ≤ n) × (every i (λ k. not (eqb (devices (tablesOf
 abbrev μ-loop : tie.MeasureT-loop
 μ-loop t e n i₀ i = n - i
 
--- src/users.rt:127:5
 loop-holds : tie.Need-loop-holds Inv-loop μ-loop
 loop-holds c = (omega arith, every-none _)
 
--- src/users.rt:128:31
 add-t6 : tie.Need-add-t6 Inv-loop μ-loop
 add-t6 c = omega arith
 
--- src/users.rt:128:13
 not-on-requires : tie.Need-not-on-requires Inv-loop μ-loop
 not-on-requires c κs = search needs
 
--- src/users.rt:129:13
 returns : tie.Need-returns Inv-loop μ-loop
 returns c = each-fails _ (λ v. not (eqb (devices (tablesOf (c .before .before .before .before .before .args .t .now)) v) (c .before .before .before .before .before .args .e .0))) _ (c .before .before .loop-test .taken) (sym (c .before .not-on .ensures) ∙ not-true _ (c .if1 .taken))
 
--- src/users.rt:131:9
 add-i : tie.Need-add-i Inv-loop μ-loop
 add-i c = omega arith
 
--- src/users.rt:127:5
 loop-less : tie.Need-loop-less Inv-loop μ-loop
 loop-less c = omega arith
 
--- src/users.rt:127:5
 loop-again : tie.Need-loop-again Inv-loop μ-loop
 loop-again c = (omega arith, each-more _ (λ v. not (eqb (devices (tablesOf (c .before .before .before .before .before .args .t .now)) v) (c .before .before .before .before .before .args .e .0))) (c .before .before .before .loop .inv .1) (sym (c .before .not-on .ensures) ∙ not-false _ (c .if1 .left)))
 
--- src/users.rt:122:1
 returns-2 : tie.Need-returns-2 Inv-loop μ-loop
 returns-2 c = every-done _ _ _ (c .before .loop .inv .1) (c .before .loop .inv .0) (omega arith)
 

@@ -9,11 +9,9 @@ use Rattle.state.proofs.users.not_on.Reads as reads
 use Rattle.state.proofs.users.not_on.Lts as lts
 use Rattle.tables.proofs.device.Reads as device-reads
 
--- src/users.rt:118:7
 device-requires : tie.Need-device-requires
 device-requires c κs = search needs
 
--- src/users.rt:114:1
 returns : tie.Need-returns
 returns c = ap (λ (k : ℕ). not (eqb k (c .before .before .before .before .args .e .0))) (c .before .before .device .ensures)
 

@@ -4,7 +4,6 @@ use Rattle.state.proofs.users.notice_fine.Tie as tie
 use Rattle.state.proofs.users.notice_fine.Reads as reads
 use Rattle.state.proofs.users.notice_fine.Lts as lts
 
--- src/users.rt:54:1
 returns : tie.Need-returns
 returns c = notice-form _ _ _
 

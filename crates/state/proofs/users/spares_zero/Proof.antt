@@ -20,31 +20,24 @@ Inv-loop t u blank₀ f₀ blank f = (f ≤ 8) × (blank ≡ every f (λ i. eqb 
 abbrev μ-loop : tie.MeasureT-loop
 μ-loop t u blank₀ f₀ blank f = 8 - f
 
--- src/users.rt:46:5
 loop-holds : tie.Need-loop-holds Inv-loop μ-loop
 loop-holds c = (omega arith, sym (every-none _))
 
--- src/users.rt:47:33
 add-word-zero : tie.Need-add-word-zero Inv-loop μ-loop
 add-word-zero c = omega arith
 
--- src/users.rt:47:17
 word-zero-requires : tie.Need-word-zero-requires Inv-loop μ-loop
 word-zero-requires c κs = search needs
 
--- src/users.rt:48:9
 add-f : tie.Need-add-f Inv-loop μ-loop
 add-f c = omega arith
 
--- src/users.rt:46:5
 loop-less : tie.Need-loop-less Inv-loop μ-loop
 loop-less c = omega arith
 
--- src/users.rt:46:5
 loop-again : tie.Need-loop-again Inv-loop μ-loop
 loop-again c = (omega arith, every-gather _ _ _ _ (c .word-zero .ensures ∙ spare-zero (tablesOf (c .before .before .before .before .args .t .now)) (c .before .before .before .before .args .u .0) (c .before .before .loop .f)) (c .before .before .loop .inv .1))
 
--- src/users.rt:40:1
 returns : tie.Need-returns Inv-loop μ-loop
 returns c = every-gathered _ _ _ _ (c .before .loop .inv .1) (c .before .loop .inv .0) (omega arith)
 

@@ -21,67 +21,51 @@ use Rattle.tables.proofs.held_op.Reads as held-op-reads
 use Rattle.tables.proofs.missed.Reads as missed-reads
 use Rattle.tables.proofs.present.Reads as present-reads
 
--- src/users.rt:75:9
 present-requires : tie.Need-present-requires
 present-requires c κs = search needs
 
--- src/users.rt:77:9
 user-blank-requires : tie.Need-user-blank-requires
 user-blank-requires c κs = search needs
 
--- src/users.rt:77:9
 returns : tie.Need-returns
 returns c = c .user-blank .ensures ∙ user-absent _ (bounded _) _ (sym (c .before .before .present .ensures) ∙ c .before .if1 .taken)
 
--- src/users.rt:81:9
 clearance-requires : tie.Need-clearance-requires
 clearance-requires c κs = search needs
 
--- src/users.rt:82:9
 authorised-requires : tie.Need-authorised-requires
 authorised-requires c κs = search needs
 
--- src/users.rt:83:9
 current-requires : tie.Need-current-requires
 current-requires c κs = search needs
 
--- src/users.rt:84:9
 device-requires : tie.Need-device-requires
 device-requires c κs = search needs
 
--- src/users.rt:79:9
 user-head-requires : tie.Need-user-head-requires
 user-head-requires c κs = search needs
 
--- src/users.rt:86:9
 returns-2 : tie.Need-returns-2
 returns-2 c = user-head-fails (tablesOf (c .before .before .before .before .before .before .before .before .before .args .t .now) .user (c .before .before .before .before .before .before .before .before .before .args .u .0)) _ _ _ _ _ (c .before .before .before .before .before .before .before .present .ensures) (c .before .before .before .before .before .clearance .ensures) (c .before .before .before .before .authorised .ensures) (c .before .before .before .current .ensures) (c .before .before .device .ensures) (c .before .before .before .before .before .before .if1 .left) _ (c .before .user-head .ensures) (not-true _ (c .if2 .taken))
 
--- src/users.rt:89:9
 held-requires : tie.Need-held-requires
 held-requires c κs = search needs
 
--- src/users.rt:90:9
 held-op-requires : tie.Need-held-op-requires
 held-op-requires c κs = search needs
 
--- src/users.rt:91:9
 missed-requires : tie.Need-missed-requires
 missed-requires c κs = search needs
 
--- src/users.rt:88:9
 notice-fine-requires : tie.Need-notice-fine-requires
 notice-fine-requires c κs = search needs
 
--- src/users.rt:93:9
 returns-3 : tie.Need-returns-3
 returns-3 c = user-notice-fails (tablesOf (c .before .before .before .before .before .before .before .before .before .before .before .before .before .before .args .t .now) .user (c .before .before .before .before .before .before .before .before .before .before .before .before .before .before .args .u .0)) _ _ _ _ _ (c .before .before .before .before .before .before .before .before .before .before .before .before .present .ensures) (c .before .before .before .before .before .before .before .before .before .before .clearance .ensures) (c .before .before .before .before .before .before .before .before .before .authorised .ensures) (c .before .before .before .before .before .before .before .before .current .ensures) (c .before .before .before .before .before .before .before .device .ensures) (c .before .before .before .before .before .before .before .before .before .before .before .if1 .left) _ (c .before .before .before .before .before .before .user-head .ensures) (not-false _ (c .before .before .before .before .before .if2 .left)) _ _ _ (c .before .before .before .before .held .ensures) (c .before .before .before .held-op .ensures) (c .before .before .missed .ensures) _ (c .before .notice-fine .ensures) (not-true _ (c .if3 .taken))
 
--- src/users.rt:95:5
 spares-zero-requires : tie.Need-spares-zero-requires
 spares-zero-requires c κs = search needs
 
--- src/users.rt:71:1
 returns-4 : tie.Need-returns-4
 returns-4 c = user-spares (tablesOf (c .before .before .before .before .before .before .before .before .before .before .before .before .before .before .before .args .t .now) .user (c .before .before .before .before .before .before .before .before .before .before .before .before .before .before .before .args .u .0)) _ _ _ _ _ (c .before .before .before .before .before .before .before .before .before .before .before .before .before .present .ensures) (c .before .before .before .before .before .before .before .before .before .before .before .clearance .ensures) (c .before .before .before .before .before .before .before .before .before .before .authorised .ensures) (c .before .before .before .before .before .before .before .before .before .current .ensures) (c .before .before .before .before .before .before .before .before .device .ensures) (c .before .before .before .before .before .before .before .before .before .before .before .before .if1 .left) _ (c .before .before .before .before .before .before .before .user-head .ensures) (not-false _ (c .before .before .before .before .before .before .if2 .left)) _ _ _ (c .before .before .before .before .before .held .ensures) (c .before .before .before .before .held-op .ensures) (c .before .before .before .missed .ensures) _ (c .before .before .notice-fine .ensures) (not-false _ (c .before .if3 .left)) _ (c .spares-zero .ensures)
 

@@ -4,7 +4,6 @@ use Rattle.state.proofs.users.user_head.Tie as tie
 use Rattle.state.proofs.users.user_head.Reads as reads
 use Rattle.state.proofs.users.user_head.Lts as lts
 
--- src/users.rt:64:1
 returns : tie.Need-returns
 returns c = head-form _ _ _ _ _
 

@@ -20,35 +20,27 @@ Inv-loop t i₀ i = (i ≤ 16) × (every i (λ k. userTest (tablesOf t .user (su
 abbrev μ-loop : tie.MeasureT-loop
 μ-loop t i₀ i = 16 - i
 
--- src/users.rt:104:5
 loop-holds : tie.Need-loop-holds Inv-loop μ-loop
 loop-holds c = (omega arith, every-none _)
 
--- src/users.rt:105:31
 add-t4 : tie.Need-add-t4 Inv-loop μ-loop
 add-t4 c = omega arith
 
--- src/users.rt:105:13
 user-fine-requires : tie.Need-user-fine-requires Inv-loop μ-loop
 user-fine-requires c κs = search needs
 
--- src/users.rt:106:13
 returns : tie.Need-returns Inv-loop μ-loop
 returns c = each-fails _ (λ u. userTest (tablesOf (c .before .before .before .before .before .args .t .now) .user u)) _ (c .before .before .loop-test .taken) (sym (c .before .user-fine .ensures) ∙ not-true _ (c .if1 .taken))
 
--- src/users.rt:108:9
 add-i : tie.Need-add-i Inv-loop μ-loop
 add-i c = omega arith
 
--- src/users.rt:104:5
 loop-less : tie.Need-loop-less Inv-loop μ-loop
 loop-less c = omega arith
 
--- src/users.rt:104:5
 loop-again : tie.Need-loop-again Inv-loop μ-loop
 loop-again c = (omega arith, each-more _ (λ u. userTest (tablesOf (c .before .before .before .before .before .args .t .now) .user u)) (c .before .before .before .loop .inv .1) (sym (c .before .user-fine .ensures) ∙ not-false _ (c .if1 .left)))
 
--- src/users.rt:99:1
 returns-2 : tie.Need-returns-2 Inv-loop μ-loop
 returns-2 c = every-done _ _ _ (c .before .loop .inv .1) (c .before .loop .inv .0) (omega arith)
 

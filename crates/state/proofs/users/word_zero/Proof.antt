@@ -5,11 +5,9 @@ use Rattle.state.proofs.users.word_zero.Reads as reads
 use Rattle.state.proofs.users.word_zero.Lts as lts
 use Rattle.tables.proofs.user_at.Reads as user-at-reads
 
--- src/users.rt:22:5
 user-at-requires : tie.Need-user-at-requires
 user-at-requires c κs = search needs
 
--- src/users.rt:18:1
 returns : tie.Need-returns
 returns c = rw (c .user-at .ensures)
 

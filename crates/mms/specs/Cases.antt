@@ -1,0 +1,29 @@
+-- Rule 13: what the list answers on the words of S1, in any room, and what then stands in it.
+use mathlib.Core.List.{List, [], _++_, _∷_}
+use mathlib.Core.Path.{_≡_}
+use Prim.Native.Nat.{_<_, _≤_, ℕ}
+use lib.ListN.{drop, length}
+use Rattle.mms.specs.Contract.{Listing}
+use Rattle.mms.specs.Unique.{list-unique}
+use Rattle.mms.specs.declared.Answer.{Answer}
+use Rattle.model.specs.Case.S1List.{s1-list-1, s1-list-2, s1-list-2-short, s1-list-unmarked, s1Unmarked}
+use Rattle.model.specs.Case.S1Words.{s1Words}
+
+module _ (room : List ℕ) (a : Answer) (r : List ℕ) where
+  -- user 2 has one entry, 5;
+  pub listed-2 : 5 ≤ length room → Listing s1Words 2 room a r → (a ≡ record { no = 0; number = 1 }) × (r ≡ (1 ∷ 5 ∷ 0 ∷ 0 ∷ 0 ∷ []) ++ drop 5 room)
+  listed-2 h x = list-unique s1Words 2 room a (record { no = 0; number = 1 }) r ((1 ∷ 5 ∷ 0 ∷ 0 ∷ 0 ∷ []) ++ drop 5 room) x (s1-list-2 room h)
+
+  -- fewer than five words of room are too few, and stay;
+  pub listed-2-short : length room < 5 → Listing s1Words 2 room a r → (a ≡ record { no = 17; number = 1 }) × (r ≡ room)
+  listed-2-short h x = list-unique s1Words 2 room a (record { no = 17; number = 1 }) r room x (s1-list-2-short room h)
+
+  -- with 4 unmarked the entries are 4.1 and 5;
+  pub listed-unmarked : 10 ≤ length room → Listing s1Unmarked 2 room a r
+      → (a ≡ record { no = 0; number = 2 }) × (r ≡ (2 ∷ 4 ∷ 1 ∷ 0 ∷ 0 ∷ 1 ∷ 5 ∷ 0 ∷ 0 ∷ 0 ∷ []) ++ drop 10 room)
+  listed-unmarked h x = list-unique s1Unmarked 2 room a (record { no = 0; number = 2 }) r ((2 ∷ 4 ∷ 1 ∷ 0 ∷ 0 ∷ 1 ∷ 5 ∷ 0 ∷ 0 ∷ 0 ∷ []) ++ drop 10 room)
+      x (s1-list-unmarked room h)
+
+  -- user 1 has none.
+  pub listed-1 : Listing s1Words 1 room a r → (a ≡ record { no = 0; number = 0 }) × (r ≡ room)
+  listed-1 x = list-unique s1Words 1 room a (record { no = 0; number = 0 }) r room x (s1-list-1 room)
