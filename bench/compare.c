@@ -21,7 +21,7 @@ enum {
     STEPS_PER_TABLE = 250, /* long enough for tables to fill and to empty */
     DAMAGE_EVERY = 4,
     LISTS_EVERY = 25,  /* requests from one moment for lists to the next */
-    BY_STEP_EVERY = 4, /* tables; with these, lists are compared with the step */
+    BY_STEP_EVERY = 4, /* tables; with these, lists are compared with both steps */
     REPORTS = 5, /* differences printed before the run is given up */
     CELLS = LAST_ANSWER + 1
 };
@@ -241,9 +241,7 @@ static bool try_advance(struct run *r, struct trial *x)
 {
     prepare(x, "step without the check", TABLE_WORDS, REQUEST_WORDS);
     x->ordinary_answer = (uint64_t)r->desk.advance(x->ordinary.words, x->request.words) << 32;
-    x->proved_answer
-        = (uint64_t)bench_advance(x->proved.words, TABLE_WORDS, x->request.words, REQUEST_WORDS)
-          << 32;
+    x->proved_answer = (uint64_t)proved_advance(x->proved.words, x->request.words) << 32;
     return agrees(r, x);
 }
 
@@ -272,10 +270,10 @@ static bool try_lists(struct run *r, const struct trial *x)
     return compare_lists(&r->lists, &r->list_dice) || report_list(r, "list");
 }
 
-static bool try_list_with_step(struct run *r, const struct trial *x)
+static bool try_list_with_steps(struct run *r, const struct trial *x)
 {
     r->lists.tables = &x->start;
-    return compare_list_with_step(&r->lists, &r->list_dice) || report_list(r, "list");
+    return compare_list_with_steps(&r->lists, &r->list_dice) || report_list(r, "list");
 }
 
 /* Generated tables seldom give long lists, so full ones come in between. */
@@ -287,7 +285,7 @@ static bool try_full_table(struct run *r)
     full_table(&r->list_dice, full.words);
     r->lists.tables = &full;
     return (compare_lists(&r->lists, &r->list_dice)
-            && compare_list_with_step(&r->lists, &r->list_dice))
+            && compare_list_with_steps(&r->lists, &r->list_dice))
         || report_list(r, "list of a full table");
 }
 
@@ -405,7 +403,7 @@ static bool try_odd_things(struct run *r, struct trial *x)
     if (same && r->request % LISTS_EVERY == 0)
         same = try_lists(r, x);
     if (same && r->request == STEPS_PER_TABLE / 2 && r->table % BY_STEP_EVERY == 0)
-        same = try_list_with_step(r, x) && try_full_table(r);
+        same = try_list_with_steps(r, x) && try_full_table(r);
     x->asked = asked;
     return same;
 }
@@ -535,7 +533,6 @@ int compare(const struct comparison *what)
     r.what = what;
     r.desk = choose_desk(what->faults);
     r.lists.list = r.desk.list;
-    r.lists.advance = ordinary_advance;
     if (what->only != 0) {
         compare_table(&r, what->only);
         printf("table %" PRIu64 " alone: %" PRIu64 " steps, differences: %" PRIu64 "\n", what->only,

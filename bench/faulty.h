@@ -23,7 +23,11 @@ enum fault {
                            anyway, no test of the mark is left */
     FAULT_EARLY = 128,  /* written before it is known that the room suffices */
     FAULT_COUNT = 256,  /* one more counted than there are */
-    LIST_FAULTS = FAULT_DEVICES | FAULT_NAMED | FAULT_EARLY | FAULT_COUNT
+    FAULT_SCREEN = 512, /* left off what a full screen has no place for, so that
+                           only what a show answers 0 is listed */
+    FAULT_ZEROS = 1024, /* a longer reference's names left behind a shorter one */
+    LIST_FAULTS = FAULT_DEVICES | FAULT_NAMED | FAULT_EARLY | FAULT_COUNT | FAULT_SCREEN
+        | FAULT_ZEROS
 };
 
 extern uint32_t faulty_switches; /* a sum of the above */

@@ -171,10 +171,11 @@ void full_table(struct dice *d, uint32_t *t)
 /* ---- the fullest ---- */
 
 /*
- * One in another in a third, which holds eight; five of these hold the other
- * 37. The first eight are all that hold anything, and they are on every
- * screen, so that every bound above is met. All containers are marked, and
- * nobody's clearance is too low for that. The triple that counts comes last.
+ * A container in a container in a container; the innermost holds eight, five
+ * of which hold the other 37. So eight hold something, and they are on every
+ * screen: every bound that MOST_ENTRIES is counted with is met. All containers
+ * are marked, and nobody's clearance is too low for that. The triple that
+ * counts comes last.
  */
 void fullest_table(struct dice *d, uint32_t *t)
 {

@@ -6,11 +6,26 @@
 
 #include "lists.h"
 
-static const uint32_t *device_of(const struct list_trial *x)
+/* The entity that an entry leads to. */
+static uint32_t entity_of(const uint32_t *t, const uint32_t *entry)
+{
+    uint32_t number = entry[1];
+
+    for (uint32_t i = 2; i <= entry[0]; i++)
+        number = t[entity_base(number) + ENTITY_CONTENTS + entry[i] - 1];
+    return number;
+}
+
+/* Whether the screen is full and it is not on it. */
+static bool finds_no_place(const struct list_trial *x, uint32_t number)
 {
     const uint32_t *t = x->tables->words;
+    const uint32_t *device = t + entity_base(t[user_base(x->user) + USER_DEVICE]);
 
-    return t + entity_base(t[user_base(x->user) + USER_DEVICE]);
+    for (uint32_t i = 0; i < PLACES; i++)
+        if (device[ENTITY_CONTENTS + i] == number)
+            return false;
+    return device[ENTITY_USED] == PLACES;
 }
 
 static void count_entries(struct list_trial *x, const struct room *room, uint32_t count)
@@ -21,14 +36,14 @@ static void count_entries(struct list_trial *x, const struct room *room, uint32_
         tally->longest = count;
     if (count == 0)
         tally->empty++;
-    else if (device_of(x)[ENTITY_USED] == PLACES)
-        tally->full_screen++;
     for (uint32_t i = 0; i < count; i++) {
         const uint32_t *entry = room->words + (size_t)i * ENTRY_WORDS;
 
         tally->lengths[entry[0]]++;
         if (entry[0] > 1 && x->tables->words[entity_base(entry[1]) + ENTITY_KIND] == DEVICE)
             tally->through_device++;
+        if (finds_no_place(x, entity_of(x->tables->words, entry)))
+            tally->no_place++;
     }
 }
 
@@ -60,14 +75,15 @@ void print_list_tally(const struct list_tally *tally)
         printf("%s %" PRIu32 ": %" PRIu64, i == 0 ? "" : ",", list_answers[i],
                tally->answers[list_answers[i]]);
     printf("; %" PRIu64 " for want of one word\n", tally->one_word_short);
-    printf("lists answered 0: %" PRIu64 " without entries, %" PRIu64 " with a full screen, the "
-           "longest of %" PRIu32 " entries\n",
-           tally->empty, tally->full_screen, tally->longest);
+    printf("lists answered 0: %" PRIu64 " without entries, the longest of %" PRIu32 " entries\n",
+           tally->empty, tally->longest);
     printf("entries by their names,");
     for (uint32_t length = 1; length <= NAMES; length++)
         printf("%s %" PRIu32 ": %" PRIu64, length == 1 ? "" : ",", length, tally->lengths[length]);
-    printf("; through a device: %" PRIu64 "\n", tally->through_device);
-    printf("lists compared with the step: %" PRIu64 "\n", tally->by_step);
+    printf("; through a device: %" PRIu64 "; whose show would be answered 14: %" PRIu64 "\n",
+           tally->through_device, tally->no_place);
+    printf("lists compared with the ordinary step and with the proved one: %" PRIu64 "\n",
+           tally->by_steps);
 }
 
 static uint32_t name_if_unreached(const char *what, uint64_t count)
@@ -92,8 +108,8 @@ uint32_t name_unreached_lists(const struct list_tally *tally)
         unreached += name_if_unreached(what, tally->lengths[length]);
     }
     return unreached + name_if_unreached("no entries", tally->empty)
-        + name_if_unreached("full screen", tally->full_screen)
+        + name_if_unreached("entry whose show would be answered 14", tally->no_place)
         + name_if_unreached("one word short", tally->one_word_short)
         + name_if_unreached("entry through a device", tally->through_device)
-        + name_if_unreached("compared with the step", tally->by_step);
+        + name_if_unreached("compared with both steps", tally->by_steps);
 }

@@ -2,7 +2,9 @@
 
 #include <string.h>
 
+#include "ordinary.h"
 #include "proved.h"
+#include "verdicts.h"
 
 /* ---- rooms ---- */
 
@@ -102,6 +104,15 @@ static const char *find_fault(const struct list_trial *x, const struct room *roo
     return room_kept(room, need, x->m) ? NULL : "words behind the entries were written to";
 }
 
+static bool same_with_verdicts(const struct list_trial *x, const struct room *proved)
+{
+    static struct room room;
+
+    room_fill(&room, x->m);
+    return verdicts_list(x->tables->words, x->n, x->user, room.words, x->m) == x->proved
+        && same_rooms(&room, proved, x->m);
+}
+
 bool compare_list(struct list_trial *x)
 {
     static struct guarded_table ordinary_tables, proved_tables;
@@ -119,6 +130,8 @@ bool compare_list(struct list_trial *x)
         x->complaint = "the rooms or the words around them differ";
     else if (!same_tables(&ordinary_tables, x->tables) || !same_tables(&proved_tables, x->tables))
         x->complaint = "the tables or a word around them were written to";
+    else if (!same_with_verdicts(x, &proved_room))
+        x->complaint = "the list with its verdicts kept differs";
     else
         x->complaint = find_fault(x, &proved_room);
     if (x->complaint != NULL)
@@ -215,33 +228,53 @@ bool compare_list_of_bad(struct list_trial *x, struct dice *d, size_t n)
     return compare_list(x);
 }
 
-/* ---- against the step ---- */
+/* ---- against the steps ---- */
 
-bool compare_list_with_step(struct list_trial *x, struct dice *d)
+static const struct {
+    advance_function *advance;
+    const char *complaint;
+} steps[] = {
+    { ordinary_advance, "the list is not what the ordinary step says" },
+    { proved_advance, "the list is not what the proved step says" },
+};
+
+/* Or 0. */
+static uint32_t somebody_on(const uint32_t *t, struct dice *d)
+{
+    uint32_t first = dice_below(d, USERS);
+
+    for (uint32_t i = 0; i < USERS; i++) {
+        uint32_t user = 1 + (first + i) % USERS;
+
+        if (t[user_base(user) + USER_DEVICE] != 0)
+            return user;
+    }
+    return 0;
+}
+
+bool compare_list_with_steps(struct list_trial *x, struct dice *d)
 {
     static uint32_t entries[MOST_ENTRIES * ENTRY_WORDS];
     static struct room room;
     const uint32_t *t = x->tables->words;
-    uint32_t first = dice_below(d, USERS);
-    uint32_t count;
 
-    x->user = 0;
-    for (uint32_t i = 0; i < USERS && x->user == 0; i++)
-        if (t[user_base(1 + (first + i) % USERS) + USER_DEVICE] != 0)
-            x->user = 1 + (first + i) % USERS;
+    x->user = somebody_on(t, d);
     if (x->user == 0)
         return true;
-    count = list_by_step(x->advance, t, x->user, entries);
     x->n = TABLE_WORDS;
     x->m = (size_t)MOST_ENTRIES * ENTRY_WORDS;
     if (!compare_list(x))
         return false;
-    x->ordinary = x->list(t, x->n, x->user, room.words, x->m);
-    if (x->ordinary != count
-        || memcmp(entries, room.words, (size_t)count * ENTRY_WORDS * sizeof *entries) != 0) {
-        x->complaint = "the list is not what the step says";
+    x->proved = mms_list(t, x->n, x->user, room.words, x->m);
+    for (size_t i = 0; i < sizeof steps / sizeof *steps; i++) {
+        uint32_t count = list_by_step(steps[i].advance, t, x->user, entries);
+
+        if (x->proved == count
+            && memcmp(entries, room.words, (size_t)count * ENTRY_WORDS * sizeof *entries) == 0)
+            continue;
+        x->complaint = steps[i].complaint;
         return false;
     }
-    x->tally.by_step++;
+    x->tally.by_steps++;
     return true;
 }

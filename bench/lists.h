@@ -61,17 +61,16 @@ struct list_tally {
     uint64_t compared;
     uint64_t answers[ROOM_TOO_SHORT + 1];
     uint64_t empty;               /* answered 0 with no entries */
-    uint64_t full_screen;         /* with entries, although the screen is full */
     uint64_t one_word_short;      /* answered 17 for want of one word */
     uint64_t lengths[NAMES + 1];  /* entries by their number of names */
     uint64_t through_device;      /* entries whose first name is a device */
-    uint64_t by_step;             /* lists compared with the step */
+    uint64_t no_place;            /* entries whose show would be answered 14 */
+    uint64_t by_steps;            /* lists compared with both steps */
     uint32_t longest;
 };
 
 struct list_trial {
     list_function *list;       /* of a desk in C */
-    advance_function *advance; /* the step to hold it against */
     const struct guarded_table *tables;
     size_t n, m;
     uint32_t user;
@@ -82,7 +81,8 @@ struct list_trial {
 
 /* All of these are false at a difference, which the trial then describes. */
 
-/* One call, with any tables, for the user and the lengths in the trial. */
+/* One call, with any tables, for the user and the lengths in the trial. The
+   list with its verdicts kept must give the same. */
 bool compare_list(struct list_trial *x);
 
 /* One call, with tables of n words that may be bad. */
@@ -91,8 +91,9 @@ bool compare_list_of_bad(struct list_trial *x, struct dice *d, size_t n);
 /* Good tables: for several users, with rooms of several lengths. */
 bool compare_lists(struct list_trial *x, struct dice *d);
 
-/* Good tables: the list against the step, for one user who is on. */
-bool compare_list_with_step(struct list_trial *x, struct dice *d);
+/* Good tables: the proved list against the ordinary step and against the
+   proved one, for one user who is on. */
+bool compare_list_with_steps(struct list_trial *x, struct dice *d);
 
 /* Counts a list that was compared, with the room it left. */
 void tally_list(struct list_trial *x, const struct room *room);

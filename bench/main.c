@@ -18,6 +18,7 @@ static const struct {
     { "levels", FAULT_LEVELS }, { "mark", FAULT_MARK }, { "roles", FAULT_ROLES },
     { "notice", FAULT_NOTICE }, { "room", FAULT_ROOM }, { "devices", FAULT_DEVICES },
     { "named", FAULT_NAMED }, { "early", FAULT_EARLY }, { "count", FAULT_COUNT },
+    { "screen", FAULT_SCREEN }, { "zeros", FAULT_ZEROS },
 };
 
 static int usage(void)
@@ -37,10 +38,13 @@ static int usage(void)
           "  named    list tests the mark on the named entity instead of the path\n"
           "  early    list writes before it is known that the room suffices\n"
           "  count    list counts one entry more than there are\n"
+          "  screen   list leaves off what a full screen has no place for\n"
+          "  zeros    list leaves a longer reference's names behind a shorter one\n"
           "  table=NUMBER replays that table alone.\n"
           "time: medians over REPS repetitions, in ns per call.\n"
           "s1: the answers listed for case state S1.\n"
-          "rooms: lists of S1 and of full tables in rooms of every length.\n",
+          "rooms: lists of S1, of S1 with something amiss and of full tables, in rooms\n"
+          "  of every length.\n",
           stderr);
     return 2;
 }

@@ -917,6 +917,14 @@ static bool showable(const struct walk *w, const uint32_t *entity)
         && permitted(entity, w->user, w->roles, SHOW, 1);
 }
 
+/* Rung 14, for a fault alone. */
+static bool finds_no_place(const struct walk *w, uint32_t number)
+{
+    const uint32_t *device = w->t + entity_base(w->t[user_base(w->user) + USER_DEVICE]);
+
+    return index_of(device + ENTITY_CONTENTS, device[ENTITY_USED], number) == PLACES;
+}
+
 static void enter(struct walk *w)
 {
     if (w->count < w->fits)
@@ -932,7 +940,7 @@ static void visit(struct walk *w, uint32_t number)
 {
     const uint32_t *entity = w->t + entity_base(number);
 
-    if (showable(w, entity))
+    if (showable(w, entity) && !(FAULT(FAULT_SCREEN) && finds_no_place(w, number)))
         enter(w);
     if (w->reference[0] == NAMES)
         return;
@@ -951,7 +959,8 @@ static void visit_places(struct walk *w, const uint32_t *entity)
         w->reference[length] = place;
         visit(w, entity[ENTITY_CONTENTS + place - 1]);
     }
-    w->reference[length] = 0;
+    if (!FAULT(FAULT_ZEROS))
+        w->reference[length] = 0;
     w->reference[0] = length - 1;
 }
 

@@ -1,8 +1,17 @@
 /*
  * The C interface of the proved archives. A slice is a pointer, then a length
- * in elements. The answer of the first three is in the upper half of the
- * result, and the number that goes with it in the lower half: the list's count
- * or need in entries, and 0 from the other two.
+ * in elements.
+ *
+ * What a call may write to must not overlap with the other slice of the same
+ * call: the room of a list not with its tables, the tables of a step not with
+ * its request. Both are lent at the same time, and what is proved of the one
+ * takes the other to stay as it is.
+ *
+ * The first three return two numbers of 32 bits in one. The upper half is the
+ * answer. The lower half is the number that goes with it: with a list's 0 the
+ * entries that were written, with its 17 the entries that there are, for which
+ * the room is too short; and 0 with every other answer of a list, and with all
+ * of the check and of the step.
  */
 #ifndef PROVED_H
 #define PROVED_H
@@ -10,12 +19,20 @@
 #include <stddef.h>
 #include <stdint.h>
 
+#include "tables.h"
+
 uint64_t mms_check(const uint32_t *t, size_t n);
 uint64_t mms_step(uint32_t *t, size_t n, const uint32_t *q, size_t m);
 uint64_t mms_list(const uint32_t *t, size_t n, uint32_t user, uint32_t *room, size_t m);
 
 /* The step without the check, exported for measuring only: good tables,
-   lengths 2,304 and 16. */
+   lengths 2,304 and 16. The result is the answer. */
 uint32_t bench_advance(uint32_t *t, size_t n, const uint32_t *q, size_t m);
+
+/* The same, called as ordinary_advance is. */
+static inline uint32_t proved_advance(uint32_t *t, const uint32_t *q)
+{
+    return bench_advance(t, TABLE_WORDS, q, REQUEST_WORDS);
+}
 
 #endif

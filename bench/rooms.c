@@ -1,7 +1,8 @@
 /*
  * Lists in rooms of every length, from none to a few words more than are
- * needed: S1, where the entries are written out by hand, and full tables,
- * where they follow from the step.
+ * needed, and in the longest: S1, where the entries are written out by hand;
+ * S1 with something amiss, where there are none; and full tables, where they
+ * follow from the step.
  */
 #include <inttypes.h>
 #include <stdio.h>
@@ -13,6 +14,7 @@
 #include "proved.h"
 #include "s1.h"
 #include "subcommands.h"
+#include "verdicts.h"
 
 enum {
     PAST = 2 * ENTRY_WORDS + 1, /* words more than are needed, at the most */
@@ -24,6 +26,7 @@ enum {
 struct wanted {
     char what[64];
     struct guarded_table tables;
+    size_t n; /* words of the tables that are lent */
     uint32_t user;
     uint32_t answer; /* in a room that is long enough */
     uint32_t count;
@@ -33,13 +36,18 @@ struct wanted {
 static const struct {
     const char *name;
     list_function *list;
-} desks[] = { { "ordinary", ordinary_list }, { "proved", mms_list } };
+} desks[] = {
+    { "ordinary", ordinary_list },
+    { "ordinary with verdicts kept", verdicts_list },
+    { "proved", mms_list },
+};
 
 enum { DESKS = sizeof desks / sizeof *desks };
 
 struct progress {
-    uint64_t rooms;
+    uint64_t calls;
     uint64_t too_short;
+    uint64_t by_steps; /* lists that both steps were asked for */
     uint64_t wrong;
     uint32_t most;
 };
@@ -64,8 +72,8 @@ static bool try_room(struct progress *p, const struct wanted *w, uint32_t desk, 
 
     tables = w->tables;
     room_fill(&room, m);
-    result = desks[desk].list(tables.words, TABLE_WORDS, w->user, room.words, m);
-    p->rooms++;
+    result = desks[desk].list(tables.words, w->n, w->user, room.words, m);
+    p->calls++;
     if (answer == ROOM_TOO_SHORT)
         p->too_short++;
     if (result == ((uint64_t)answer << 32 | w->count) && left_as_stated(w, &room, m)
@@ -79,20 +87,33 @@ static bool try_room(struct progress *p, const struct wanted *w, uint32_t desk, 
     return false;
 }
 
-/* A desk is left at its first error, or thousands might follow. */
+/* False at the first error, which ends it, or thousands might follow. */
+static bool try_desk(struct progress *p, const struct wanted *w, uint32_t desk, size_t most)
+{
+    for (size_t m = 0; m <= most; m++)
+        if (!try_room(p, w, desk, m))
+            return false;
+    return try_room(p, w, desk, ROOM_WORDS);
+}
+
 static void try_rooms(struct progress *p, const struct wanted *w)
 {
     size_t most = (size_t)w->count * ENTRY_WORDS + PAST;
+    bool right = true;
 
     for (uint32_t desk = 0; desk < DESKS; desk++)
-        for (size_t m = 0; m <= most; m++)
-            if (!try_room(p, w, desk, m))
-                break;
+        if (!try_desk(p, w, desk, most))
+            right = false;
     if (w->count > p->most)
         p->most = w->count;
-    printf("%s: answer %" PRIu32 ", entries: %" PRIu32 ", rooms of 0 to %zu words\n", w->what,
-           w->answer, w->count, most);
+    if (right)
+        printf("%s: answer %" PRIu32 ", entries: %" PRIu32 ", rooms of 0 to %zu and of %d words\n",
+               w->what, w->answer, w->count, most, ROOM_WORDS);
+    else
+        printf("%s: a desk was left at its first error; not every room was tried\n", w->what);
 }
+
+/* ---- S1 ---- */
 
 static void try_s1(struct progress *p, struct wanted *w)
 {
@@ -112,6 +133,74 @@ static void try_s1(struct progress *p, struct wanted *w)
     }
 }
 
+/* User 2 has an entry in S1, so there is something that must not be written. */
+static void expect_refusal(struct progress *p, struct wanted *w, uint32_t answer)
+{
+    w->user = 2;
+    w->answer = answer;
+    w->count = 0;
+    try_rooms(p, w);
+}
+
+static void try_other_lengths(struct progress *p, struct wanted *w)
+{
+    static const size_t lengths[] = { 0, 1, TABLE_WORDS - 1, TABLE_WORDS + 1 };
+
+    build_s1(w->tables.words);
+    for (size_t i = 0; i < sizeof lengths / sizeof *lengths; i++) {
+        w->n = lengths[i];
+        snprintf(w->what, sizeof w->what, "S1, %zu words of tables", w->n);
+        expect_refusal(p, w, BAD_LENGTH);
+    }
+    w->n = TABLE_WORDS;
+}
+
+static void try_other_words(struct progress *p, struct wanted *w)
+{
+    const struct {
+        const char *what;
+        size_t word;
+        uint32_t value;
+        uint32_t answer;
+    } changes[] = {
+        { "user 1 neither present nor absent", user_base(1) + USER_PRESENT, 2, NOT_WELL_FORMED },
+        { "4 in itself", entity_base(4) + ENTITY_CONTENTS + 1, 4, NOT_WELL_FORMED },
+        { "the last word of all not 0", TABLE_WORDS - 1, 1, NOT_WELL_FORMED },
+        { "user 2 in a role without authority", user_base(2) + USER_CURRENT, 1, NOT_SECURE },
+        { "device 2 above its maximum", entity_base(2) + ENTITY_MAXIMUM, 256, NOT_SECURE },
+        { "5 above what holds it", entity_base(5) + ENTITY_LEVEL, MAX_LEVEL, NOT_SECURE },
+    };
+
+    for (size_t i = 0; i < sizeof changes / sizeof *changes; i++) {
+        build_s1(w->tables.words);
+        w->tables.words[changes[i].word] = changes[i].value;
+        snprintf(w->what, sizeof w->what, "S1, %s", changes[i].what);
+        expect_refusal(p, w, changes[i].answer);
+    }
+}
+
+/* ---- full tables ---- */
+
+/* What the list should be, where both steps say the same. */
+static bool ask_both_steps(struct progress *p, struct wanted *w)
+{
+    static uint32_t proved_entries[MOST_ENTRIES * ENTRY_WORDS];
+    uint32_t proved = list_by_step(proved_advance, w->tables.words, w->user, proved_entries);
+
+    w->answer = ACCEPTED;
+    w->count = list_by_step(ordinary_advance, w->tables.words, w->user, w->entries);
+    if (w->count <= MOST_ENTRIES && w->count == proved
+        && memcmp(w->entries, proved_entries, proved * ENTRY_WORDS * sizeof *w->entries) == 0) {
+        p->by_steps++;
+        return true;
+    }
+    p->wrong++;
+    printf("%s: %" PRIu32 " entries by the ordinary step, %" PRIu32
+           " by the proved one, too many or not the same\n",
+           w->what, w->count, proved);
+    return false;
+}
+
 static void try_full(struct progress *p, struct wanted *w, struct dice *d, uint32_t number)
 {
     if (number == 1)
@@ -120,12 +209,12 @@ static void try_full(struct progress *p, struct wanted *w, struct dice *d, uint3
         full_table(d, w->tables.words);
     for (uint32_t i = 0, first = dice_below(d, USERS); i < USERS_OF_EACH; i++) {
         w->user = 1 + (first + i) % USERS;
-        w->answer = ACCEPTED;
-        w->count = list_by_step(ordinary_advance, w->tables.words, w->user, w->entries);
         snprintf(w->what, sizeof w->what, "full table %" PRIu32 ", user %" PRIu32, number, w->user);
-        if (w->count > MOST_ENTRIES || (number == 1 && w->count != MOST_ENTRIES)) {
+        if (!ask_both_steps(p, w))
+            return;
+        if (number == 1 && w->count != MOST_ENTRIES) {
             p->wrong++;
-            printf("%s: %" PRIu32 " entries by the step\n", w->what, w->count);
+            printf("%s: %" PRIu32 " entries by the steps\n", w->what, w->count);
             return;
         }
         try_rooms(p, w);
@@ -150,12 +239,16 @@ int try_every_room(uint64_t seed)
 
     dice_seed(&d, seed);
     guard_table(&w.tables);
+    w.n = TABLE_WORDS;
     try_s1(&p, &w);
+    try_other_lengths(&p, &w);
+    try_other_words(&p, &w);
     for (uint32_t number = 1; number <= FULL_TABLES; number++)
         try_full(&p, &w, &d, number);
     try_nobody(&p, &w);
-    printf("rooms: %" PRIu64 " for both desks, %" PRIu64 " of them too short; largest need: %" PRIu32
-           " entries, %" PRIu32 " words; wrong: %" PRIu64 "\n",
-           p.rooms, p.too_short, p.most, p.most * ENTRY_WORDS, p.wrong);
+    printf("lists of full tables that both steps give alike: %" PRIu64 "\n", p.by_steps);
+    printf("calls: %" PRIu64 " over %d desks, %" PRIu64 " of them in a room too short; largest "
+           "need: %" PRIu32 " entries, %" PRIu32 " words; wrong: %" PRIu64 "\n",
+           p.calls, DESKS, p.too_short, p.most, p.most * ENTRY_WORDS, p.wrong);
     return p.wrong != 0;
 }

@@ -16,6 +16,7 @@
 #include "proved.h"
 #include "subcommands.h"
 #include "tables.h"
+#include "verdicts.h"
 
 enum {
     TABLES = 50,
@@ -240,6 +241,17 @@ static uint64_t ordinary_lists(struct load *l)
     return sum;
 }
 
+static uint64_t lists_with_verdicts(struct load *l)
+{
+    uint64_t sum = 0;
+
+    for (uint32_t i = 0; i < TABLES; i++)
+        for (uint32_t j = 0; j < l->length; j++)
+            sum += verdicts_list(l->tables[i], TABLE_WORDS, l->users[i][j], list_room,
+                                 MOST_ENTRIES * ENTRY_WORDS);
+    return sum;
+}
+
 static uint64_t proved_lists(struct load *l)
 {
     uint64_t sum = 0;
@@ -318,9 +330,9 @@ static void print_contest(struct contest *c, uint32_t repetitions)
     double ordinary = median(c->times[0], repetitions) / (double)c->calls;
     double proved = median(c->times[1], repetitions) / (double)c->calls;
 
-    printf("%-26s%12.1f%12.1f%9.2f%9" PRIu64, c->name, ordinary, proved, proved / ordinary,
+    printf("%-40s%12.1f%12.1f%9.2f%9" PRIu64, c->name, ordinary, proved, proved / ordinary,
            c->calls);
-    if (c->side[0] == ordinary_lists) /* all answered 0, so these are entries */
+    if (c->side[1] == proved_lists) /* all answered 0, so these are entries */
         printf("  mean %.1f entries", (double)c->answers / (double)c->calls);
     printf("\n");
 }
@@ -334,17 +346,19 @@ enum {
     STEPS = FIRST_SINGLE + OPERATIONS,
     FIRST_LISTS,
     LIST_LOADS = 3,
-    CONTESTS = FIRST_LISTS + LIST_LOADS
+    FIRST_VERDICTS = FIRST_LISTS + LIST_LOADS,
+    CONTESTS = FIRST_VERDICTS + LIST_LOADS
 };
 
-/* A list has its check in it: there is no other. */
+/* A list has its check in it: there is no other. Each load is timed twice, and
+   only the ordinary side changes. */
 static const struct {
-    const char *name;
+    const char *name, *with_verdicts;
     table_function *make;
 } list_loads[LIST_LOADS] = {
-    { "list, generated tables", generate_table },
-    { "list, full tables", full_table },
-    { "list, fullest tables", fullest_table },
+    { "list, generated tables", "list, generated tables, verdicts kept", generate_table },
+    { "list, full tables", "list, full tables, verdicts kept", full_table },
+    { "list, fullest tables", "list, fullest tables, verdicts kept", fullest_table },
 };
 
 static const char *const names[OPERATIONS] = {
@@ -375,6 +389,8 @@ static void prepare_list_contests(struct dice *d, struct contest *contests)
         prepare_lists(d, load, list_loads[i].make);
         set_contest(&contests[FIRST_LISTS + i], list_loads[i].name, load, ordinary_lists,
                     proved_lists);
+        set_contest(&contests[FIRST_VERDICTS + i], list_loads[i].with_verdicts, load,
+                    lists_with_verdicts, proved_lists);
     }
 }
 
@@ -406,7 +422,7 @@ static void free_contests(struct contest *contests)
     for (uint32_t i = 0; i < CONTESTS; i++) {
         free(contests[i].times[0]);
         free(contests[i].times[1]);
-        if (i != CHECKS && i != STEPS) /* these share the load of the mix */
+        if (i != CHECKS && i != STEPS && i < FIRST_VERDICTS) /* these share another's load */
             free(contests[i].load);
     }
 }
@@ -428,7 +444,7 @@ int time_desks(uint64_t seed, uint32_t repetitions)
         }
     printf("medians of %" PRIu32 " repetitions, ns per call, half of the requests accepted\n",
            repetitions);
-    printf("%-26s%12s%12s%9s%9s\n", "", "ordinary", "proved", "ratio", "calls");
+    printf("%-40s%12s%12s%9s%9s\n", "", "ordinary", "proved", "ratio", "calls");
     for (uint32_t i = 0; i < CONTESTS; i++)
         print_contest(&contests[i], repetitions);
     free_contests(contests);
