@@ -1,12 +1,15 @@
--- The order of references is strict, a list in order is settled by its members, and how lists in order are put together.
+-- The order of references is strict and total, a list in order is settled by its members, and how lists in order are put together.
+use mathlib.Core.Bool.{Bool, false, true}
 use mathlib.Core.List.{List, List·Memᴰ, List·Memᴰ·append-cases, List·Memᴰ·cases-cons, List·Memᴰ·head, List·Memᴰ·not-nil, List·Memᴰ·tail}
 use mathlib.Core.List.{[], _++_, _∷_, map}
-use mathlib.Core.Logic.{inr, ⊎-elim}
+use mathlib.Core.Logic.{_⊎_, inl, inr, ⊎-elim}
 use mathlib.Core.Path.{_∙_, _≡_, ap, ap₂, refl, subst, sym}
 use Prim.Native.Nat.{_<_, suc, zero, ℕ}
 use native.Mathlib.Nat.{le-of-suc-le-suc}
 use native.Mathlib.Omega.{arith}
+use lib.Dec.{eqb, ltb}
 use lib.ListN.{getD, length}
+use Rattle.model.specs.Basics.Choice.{Below, Same, below, it, other, over, same, under}
 use Rattle.model.specs.List.Order.{Before, Sorted}
 
 -- No reference stands before itself,
@@ -22,6 +25,32 @@ before-asym (x ∷ xs) [] h k = h
 before-asym (x ∷ xs) (y ∷ ys) h k =
     ⊎-elim {A = x < y} (λ l. ⊎-elim {A = y < x} (λ m. omega arith) (λ w. let e : y ≡ x = w .0 in omega arith) k)
     (λ v. let d : x ≡ y = v .0 in ⊎-elim {A = y < x} (λ m. omega arith) (λ w. before-asym xs ys (v .1) (w .1)) k) h
+
+-- What stands before another stands before all that the other does,
+pub before-trans : (r s t : List ℕ) → Before r s → Before s t → Before r t
+before-trans [] [] t h k = absurd h
+before-trans [] (y ∷ ys) [] h k = absurd k
+before-trans [] (y ∷ ys) (z ∷ zs) h k = tt
+before-trans (x ∷ xs) [] t h k = absurd h
+before-trans (x ∷ xs) (y ∷ ys) [] h k = absurd k
+before-trans (x ∷ xs) (y ∷ ys) (z ∷ zs) h k =
+    ⊎-elim {A = x < y} (λ l. inl (⊎-elim {A = y < z} (λ m. omega arith) (λ w. let e : y ≡ z = w .0 in omega arith) k))
+    (λ v. let d : x ≡ y = v .0 in ⊎-elim {A = y < z} (λ m. inl (omega arith)) (λ w. inr (d ∙ w .0, before-trans xs ys zs (v .1) (w .1))) k) h
+
+-- and of two that are not the same one stands before the other.
+pub before-total : (r s : List ℕ) → (r ≡ s) ⊎ (Before r s ⊎ Before s r)
+before-total [] [] = inl refl
+before-total [] (y ∷ ys) = inr (inl tt)
+before-total (x ∷ xs) [] = inr (inr tt)
+before-total (x ∷ xs) (y ∷ ys) = go (ltb x y) (eqb x y) (below x y) (same x y) (before-total xs ys)
+  where
+    go : (a b : Bool) → Below x y a → Same x y b → (xs ≡ ys) ⊎ (Before xs ys ⊎ Before ys xs)
+        → (_≡_ {A = List ℕ} (x ∷ xs) (y ∷ ys)) ⊎ (Before (x ∷ xs) (y ∷ ys) ⊎ Before (y ∷ ys) (x ∷ xs))
+    go true b (under l) s z = inr (inl (inl l))
+    go false true l (it e) (inl z) = inl (ap₂ (λ (n : ℕ) (ns : List ℕ). n ∷ ns) e z)
+    go false true l (it e) (inr (inl z)) = inr (inl (inr (e, z)))
+    go false true l (it e) (inr (inr z)) = inr (inr (inr (sym e, z)))
+    go false false (over l) (other n) z = inr (inr (inl (omega (arith, n))))
 
 -- Two lists in order with the same members begin with the same,
 heads-same : (x y : List ℕ) (xs ys : List (List ℕ)) → ((s : List ℕ) → List·Memᴰ s xs → Before x s) → ((s : List ℕ) → List·Memᴰ s ys → Before y s)
