@@ -14,6 +14,10 @@ is-false b e = subst (λ (x : Bool). T (not x)) (sym e) tt
 pub is-true : (b : Bool) → b ≡ true → T b
 is-true b e = subst T (sym e) tt
 
+pub holds-true : (b : Bool) → T b → b ≡ true
+holds-true true t = refl
+holds-true false t = absurd t
+
 pub fails-false : (b : Bool) → T (not b) → b ≡ false
 fails-false true t = absurd t
 fails-false false t = refl

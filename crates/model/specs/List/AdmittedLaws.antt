@@ -1,7 +1,7 @@
--- The refusals that the list shares with the step: which there are, and what their absence says (rule 10.2).
+-- The refusals that the list shares with the step: which there are, and that their absence is what `Admitted` says (rule 10.2).
 use mathlib.Core.Bool.{Bool, false, true}
 use mathlib.Core.List.{List, []}
-use mathlib.Core.Path.{_∙_, _≡_, ap}
+use mathlib.Core.Path.{_∙_, _≡_, ap, refl}
 use Prim.Native.Nat.{_≤_, ℕ}
 use native.Mathlib.Omega.{arith}
 use lib.Dec.{eqb}
@@ -41,6 +41,22 @@ barred-admitted t u = go (eqb (check t) 0) (unknownUser (tablesOf t) q) (notLogg
         let k = y .to tt in
         record { whole = x .to tt .0; good = x .to tt .1; low = k .low; high = k .high; there = k .there; on = z .to tt tt }
     go false b c (other n) x y z e = absurd (n e)
+
+-- Where that holds, none of them applies.
+pub admitted-barred : (t : List ℕ) (u : ℕ) → Admitted t u → barred t u ≡ 0
+unfolding barred requestOf showing
+admitted-barred t u h = go (eqb (check t) 0) (unknownUser (tablesOf t) q) (notLoggedOn (tablesOf t) q) (check-agrees t)
+    (unknownUser-fails (tablesOf t) q) (notLoggedOn-fails (tablesOf t) q toShow (number-opOf toShow))
+  where
+    q : Request
+    q = requestOf (showing u [])
+
+    go : (a b c : Bool) → Agrees a ((length t ≡ wordCount) × Good (tablesOf t)) → Fails b (Known (tablesOf t) u) → Fails c (On toShow (tablesOf t) u)
+        → pick a (pick b 4 (pick c 6 0)) (check t) ≡ 0
+    go true true c x y z = absurd (y .from (record { low = h .low; high = h .high; there = h .there }))
+    go true false true x y z = absurd (z .from (λ s. h .on))
+    go true false false x y z = refl
+    go false b c x y z = absurd (x .from (h .whole, h .good))
 
 -- No refusal before 17 is above 6.
 pub barred-range : (t : List ℕ) (u : ℕ) → barred t u ≤ 6

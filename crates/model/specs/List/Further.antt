@@ -1,5 +1,6 @@
+-- This file serves the proofs only: the statement of the list does not use it.
 -- Rule 10.3: what is left of the step's ladder for the list, the rungs from 7 on of a request to show what a reference names.
-use mathlib.Core.Bool.{_||_, not}
+use mathlib.Core.Bool.{Bool, _&&_, _||_, not}
 use mathlib.Core.List.{List}
 use Prim.Native.Nat.{ℕ}
 use lib.Dec.{eqb}
@@ -23,3 +24,8 @@ furtherAt d u r w e =
 
 unfoldable pub further : Tables → ℕ → List ℕ → ℕ
 further d u r = furtherAt d u r (basis d r) (resolve d r)
+
+-- what those rungs but 14 ask of the entity e that a reference leads to, where the way is barred or not
+abbrev pub asks : Tables → ℕ → ℕ → Bool → Bool
+asks d u e c = not (eqb e 0) && (permits d u (numberOf toShow) 1 e && (not c && (isEntity d e
+    && (atMost (levelOf d e) (d .user u clearance) && atMost (levelOf d e) (levelOf d (devices d u))))))

@@ -1,7 +1,7 @@
 -- The disclosure list is what the walk finds: there is one list for any words, user and room, and no second (rule 10).
 use mathlib.Core.Bool.{Bool, false, true}
 use mathlib.Core.List.{List, [], _++_, _∷_}
-use mathlib.Core.Logic.{_≢_, ⊎-elim}
+use mathlib.Core.Logic.{_≢_}
 use mathlib.Core.Path.{_∙_, _≡_, ap, refl, subst, sym}
 use Prim.Native.Nat.{_*_, _<_, _≤_, ℕ}
 use native.Mathlib.Omega.{arith}
@@ -9,14 +9,14 @@ use lib.Dec.{eqb, leb}
 use lib.ListN.{drop, length}
 use Rattle.model.specs.Basics.Agree.{agrees-eq, agrees-le, agrees-not}
 use Rattle.model.specs.Basics.Choice.{Same, it, other, pick, same}
-use Rattle.model.specs.Basics.Fails.{fails-agreed, fails-le}
-use Rattle.model.specs.Basics.TestLaws.{fails-false, pick-false, pick-same, pick-true}
-use Rattle.model.specs.List.AdmittedLaws.{barred-admitted, barred-range}
+use Rattle.model.specs.Basics.Fails.{fails-le}
+use Rattle.model.specs.Basics.TestLaws.{pick-false, pick-same, pick-true}
+use Rattle.model.specs.List.AdmittedLaws.{barred-admitted}
 use Rattle.model.specs.List.BoundLaws.{walk-bound}
 use Rattle.model.specs.List.Complete.{Complete}
 use Rattle.model.specs.List.CompleteLaws.{complete-none, complete-unique}
 use Rattle.model.specs.List.Listing.{Lists, barred, entries, entryWords, listAnswer, listNumber, opens, roomAfter}
-use Rattle.model.specs.List.ShowLaws.{barred-answer, opens-agrees, shown-reached}
+use Rattle.model.specs.List.ShowLaws.{barred-opens, shown-reached}
 use Rattle.model.specs.List.WalkLaws.{walk-complete}
 use Rattle.model.specs.List.Ways.{found, showable, ways}
 use Rattle.model.specs.Request.Ladder.{bars}
@@ -33,9 +33,7 @@ found-complete t u h = walk-complete (ways (tablesOf t) u) (standing (tablesOf t
 
 -- Where it is, no reference opens.
 pub none-complete : (t : List ℕ) (u : ℕ) → barred t u ≢ 0 → Complete (opens t u) []
-none-complete t u h = complete-none (opens t u) (λ r low high.
-    let e = sym (barred-answer t u r low high h) in
-    fails-false (opens t u r) (fails-agreed (opens-agrees t u r) .from (⊎-elim (λ z. h (e ∙ z)) (λ z. omega (arith, barred-range t u, e ∙ z)))))
+none-complete t u h = complete-none (opens t u) (λ r low high. barred-opens t u r low high h)
 
 -- No more places lead on than are used,
 pub ways-used : (d : Tables) (u e : ℕ) → ways d u e ≤ counts d e

@@ -1,7 +1,7 @@
 -- What the step answers to the list's question: the list's own refusal, and else what the walk asks (rules 10.2, 10.3 and 10.6).
 use mathlib.Core.Bool.{Bool, _&&_, _||_, false, not, true}
 use mathlib.Core.List.{List, [], _∷_}
-use mathlib.Core.Logic.{_≢_}
+use mathlib.Core.Logic.{_≢_, ⊎-elim}
 use mathlib.Core.Path.{_∙_, _≡_, ap, refl, sym}
 use Prim.Native.Nat.{_≤_, ℕ}
 use native.Mathlib.Omega.{arith}
@@ -12,10 +12,10 @@ use Rattle.model.specs.Basics.Choice.{Same, it, other, pick, same}
 use Rattle.model.specs.Basics.Fails.{fails-agreed}
 use Rattle.model.specs.Basics.TestLaws.{fails-false, pick-false, pick-same, pick-true}
 use Rattle.model.specs.Level.{atMost}
-use Rattle.model.specs.List.AdmittedLaws.{barred-admitted}
+use Rattle.model.specs.List.AdmittedLaws.{barred-admitted, barred-range}
 use Rattle.model.specs.List.AnswerLaws.{show-answer}
-use Rattle.model.specs.List.Further.{further}
-use Rattle.model.specs.List.Listing.{Opens, barred, opens, showing}
+use Rattle.model.specs.List.Further.{asks, further}
+use Rattle.model.specs.List.Listing.{Opens, barred, opens, screenFull, showing}
 use Rattle.model.specs.List.Walk.{arrives, reached}
 use Rattle.model.specs.List.Ways.{showable, ways}
 use Rattle.model.specs.Request.Asked.{asked}
@@ -33,27 +33,28 @@ use Rattle.model.specs.Tables.Words.{Tables, absentKind, clearance, coun
 -- Rule 10.3: the test of a reference is its statement.
 pub opens-agrees : (t : List ℕ) (u : ℕ) (r : List ℕ) → Agrees (opens t u r) (Opens t u r)
 unfolding opens
-opens-agrees t u r = agrees-or (agrees-eq (answerOf t (showing u r)) 0) (agrees-eq (answerOf t (showing u r)) 14)
+opens-agrees t u r = agrees-or (agrees-eq (answerOf t (showing u r)) 0) (agrees-eq (answerOf t (showing u r)) screenFull)
 
 -- Rule 10.2: where the list is refused, the step gives the same refusal, whatever reference of one to four names is asked for.
 pub barred-answer : (t : List ℕ) (u : ℕ) (r : List ℕ) → 1 ≤ length r → length r ≤ nameCount → barred t u ≢ 0 → answerOf t (showing u r) ≡ barred t u
 barred-answer t u r low high h = show-answer t u r low high
     ∙ pick-false (eqb (barred t u) 0) (further (tablesOf t) u r) (barred t u) (agrees-not (agrees-eq (barred t u) 0) .from h)
 
+-- So no reference opens then.
+pub barred-opens : (t : List ℕ) (u : ℕ) (r : List ℕ) → 1 ≤ length r → length r ≤ nameCount → barred t u ≢ 0 → opens t u r ≡ false
+barred-opens t u r low high h =
+    let e = sym (barred-answer t u r low high h) in
+    fails-false (opens t u r) (fails-agreed (opens-agrees t u r) .from (⊎-elim (λ z. h (e ∙ z)) (λ z. omega (arith, barred-range t u, e ∙ z))))
+
 -- no name is one of none
 no-way : (p : ℕ) → (leb 1 p && leb p 0) ≡ false
 no-way p = fails-false (leb 1 p && leb p 0) (fails-agreed (agrees-and (agrees-le 1 p) (agrees-le p 0)) .from (λ z. omega (arith, z .0, z .1)))
 
--- what the ladder asks of the entity e that a reference leads to, where the way is barred or not
-abbrev asks : Tables → ℕ → ℕ → Bool → Bool
-asks d u e c = not (eqb e 0) && (permits d u (numberOf toShow) 1 e && (not c && (isEntity d e
-    && (atMost (levelOf d e) (d .user u clearance) && atMost (levelOf d e) (levelOf d (devices d u))))))
-
 -- The step opens what passes rungs 7 to 10 and 13.
-opens-asks : (t : List ℕ) (u : ℕ) (r : List ℕ) → 1 ≤ length r → length r ≤ nameCount → barred t u ≡ 0
+pub opens-asks : (t : List ℕ) (u : ℕ) (r : List ℕ) → 1 ≤ length r → length r ≤ nameCount → barred t u ≡ 0
     → opens t u r ≡ asks (tablesOf t) u (resolve (tablesOf t) r) (bars (tablesOf t) (tablesOf t .user u clearance) (basis (tablesOf t) r))
 unfolding opens further
-opens-asks t u r low high h = ap (λ (a : ℕ). eqb a 0 || eqb a 14)
+opens-asks t u r low high h = ap (λ (a : ℕ). eqb a 0 || eqb a screenFull)
     (show-answer t u r low high ∙ pick-true (eqb (barred t u) 0) (further (tablesOf t) u r) (barred t u) (agrees-eq (barred t u) 0 .from h))
     ∙ go (eqb e 0) (permits d u (numberOf toShow) 1 e) (bars d (d .user u clearance) (basis d r)) (isEntity d e)
     (atMost (levelOf d e) (d .user u clearance)) (atMost (levelOf d e) (levelOf d (devices d u))) (showNoRoom d (asked d (requestOf (showing u r))))
@@ -65,7 +66,7 @@ opens-asks t u r low high h = ap (λ (a : ℕ). eqb a 0 || eqb a 14)
     e = resolve (tablesOf t) r
 
     go : (z g c k a b f : Bool) → (eqb (pick z 7 (pick (not g) 8 (pick c 9 (pick (not k) 10 (pick (not a || not b) 13 (pick f 14 0)))))) 0
-        || eqb (pick z 7 (pick (not g) 8 (pick c 9 (pick (not k) 10 (pick (not a || not b) 13 (pick f 14 0)))))) 14)
+        || eqb (pick z 7 (pick (not g) 8 (pick c 9 (pick (not k) 10 (pick (not a || not b) 13 (pick f 14 0)))))) screenFull)
         ≡ (not z && (g && (not c && (k && (a && b)))))
     go true g c k a b f = refl
     go false false c k a b f = refl

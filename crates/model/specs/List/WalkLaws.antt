@@ -10,7 +10,7 @@ use native.Mathlib.Omega.{arith}
 use lib.Dec.{T}
 use lib.ListN.{length}
 use Rattle.model.specs.Basics.Agree.{Agrees, agrees-T, agrees-and, agrees-le}
-use Rattle.model.specs.Basics.TestLaws.{is-true}
+use Rattle.model.specs.Basics.TestLaws.{holds-true, is-true}
 use Rattle.model.specs.List.Complete.{Complete}
 use Rattle.model.specs.List.Order.{Before, Sorted}
 use Rattle.model.specs.List.OrderLaws.{mem-under, sorted-append, sorted-under, under-mem}
@@ -137,10 +137,6 @@ module _ (ways : ℕ → ℕ) (next : ℕ → ℕ → ℕ) (good : ℕ → Bool)
   unfolding walk
   walk-complete n test asks = record {
     every = λ r a b h. walk-every 3 n r a b (subst T (asks r a b) (is-true (test r) h));
-    only = λ r m. let h = walk-only 3 n r m in (h .0, h .1, asks r (h .0) (h .1) ∙ holds (reached ways next good n r) (h .2));
+    only = λ r m. let h = walk-only 3 n r m in (h .0, h .1, asks r (h .0) (h .1) ∙ holds-true (reached ways next good n r) (h .2));
     sorted = sorted-through n (visit ways next good 3) (visit-sorted 3);
   }
-    where
-      holds : (b : Bool) → T b → b ≡ true
-      holds true t = refl
-      holds false t = absurd t
