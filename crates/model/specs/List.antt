@@ -15,3 +15,5 @@ pub mod Further
 pub mod AnswerLaws
 pub mod ShowLaws
 pub mod ListingLaws
+pub mod Readable
+pub mod ReadableLaws
