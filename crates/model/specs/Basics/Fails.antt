@@ -1,14 +1,25 @@
 -- When a test fails: `Fails b P`, put together from the forms that conditions and rungs are made of.
 use mathlib.Core.Bool.{Bool, _&&_, _||_, false, not, true}
+use mathlib.Core.Path.{_≡_, refl}
 use Prim.Native.Nat.{_<_, ℕ}
 use native.Mathlib.Omega.{arith}
 use lib.Dec.{T, leb}
 use Rattle.model.specs.Basics.Agree.{Agrees, agrees-le, agrees-not, agrees-twice}
+use Rattle.model.specs.Basics.TestLaws.{fails-false}
 
 -- the test b fails where P holds, and nowhere else
 pub record Fails (b : Bool) (P : Type 0) : Type 0 where
   pub to : T (not b) → P
   pub from : P → T (not b)
+
+-- it holds where P does not,
+pub fails-holds : (b : Bool) {P : Type 0} → Fails b P → (P → ⊥) → b ≡ true
+fails-holds true f n = refl
+fails-holds false f n = absurd (n (f .to tt))
+
+-- and does not where P does
+pub fails-no : (b : Bool) {P : Type 0} → Fails b P → P → b ≡ false
+fails-no b f p = fails-false b (f .from p)
 
 -- a test whose negation agrees with a statement
 pub fails-where : (b : Bool) {P : Type 0} → Agrees (not b) P → Fails b P

@@ -80,3 +80,7 @@ wellFormed-bounded d w = record {
     nothing : (e : ℕ) → (e ≡ 0) ⊎ (entityCount < e) → d .entity e kind ≡ 0
     nothing e (inl q) = let h : ¬ (1 ≤ d .entity e kind) = λ z. omega (arith, w .entityNumbers e (omega arith)) in omega arith
     nothing e (inr q) = let h : ¬ (1 ≤ d .entity e kind) = λ z. omega (arith, w .entityNumbers e (omega arith)) in omega arith
+
+-- So who is on is on a device that has a number.
+pub device-range : (d : Tables) → WellFormed d → (u : ℕ) → devices d u ≢ 0 → (1 ≤ devices d u) × (devices d u ≤ entityCount)
+device-range d w u h = w .entityNumbers (devices d u) (λ z. omega (arith, w .links .deviceIs u h))
