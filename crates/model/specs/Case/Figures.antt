@@ -7,6 +7,7 @@ use Rattle.model.specs.Basics.Tests.{every, imp}
 use Rattle.model.specs.Effect.Places.{draftSort, objectSort}
 use Rattle.model.specs.Level.{atMost, atMostOver, bit, compartmentCount, downgrader, levelCount, officer, rank, rankCount, releasing}
 use Rattle.model.specs.Level.{roleSets, subset}
+use Rattle.model.specs.List.Listing.{entryWords, loggedOff, noSuchUser, roomShort, screenFull, valueAndLabel}
 use Rattle.model.specs.Request.Words.{nameCount, requestWords}
 use Rattle.model.specs.Tables.Layout.{entityWidth, userWidth, wordCount}
 use Rattle.model.specs.Tables.Words.{absentKind, containerKind, deviceKind, draftType, entityCount, firstNoticed, idBit, labelBit}
@@ -62,3 +63,7 @@ limits-are = (refl, refl, refl, refl, refl)
 -- Rule 6.1: the sorts of a new entity.
 pub sorts-are : (objectSort ≡ 1) × (draftSort ≡ 3)
 sorts-are = (refl, refl)
+
+-- Rule 10.4: an entry has five words; rule 10.3: value and label are 3; rules 7.4, 7.6, 7.14 and 7.17: the refusals of the list.
+pub lists-are : (entryWords ≡ 5) × (valueAndLabel ≡ 3) × (noSuchUser ≡ 4) × (loggedOff ≡ 6) × (screenFull ≡ 14) × (roomShort ≡ 17)
+lists-are = (refl, refl, refl, refl, refl, refl)
