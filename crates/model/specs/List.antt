@@ -1,4 +1,5 @@
--- The disclosure list: what it is, the walk that finds it, and that what the walk finds is it.
+-- The disclosure list. `Order`, `Complete` and `Listing` are what must be believed of this room: they say what the list is. The others
+-- say what the walk finds and are proved to be it; `Readable` restates the test in the words of the rules.
 pub mod Order
 pub mod OrderLaws
 pub mod Complete

@@ -15,7 +15,8 @@ use Rattle.model.specs.List.AdmittedLaws.{barred-admitted}
 use Rattle.model.specs.List.BoundLaws.{walk-bound}
 use Rattle.model.specs.List.Complete.{Complete}
 use Rattle.model.specs.List.CompleteLaws.{complete-none, complete-unique}
-use Rattle.model.specs.List.Listing.{Lists, barred, entries, entryWords, listAnswer, listNumber, opens, roomAfter}
+use Rattle.model.specs.List.Listing.{Lists, barred, entries, entryWords, listAnswer, listNumber, opens, roomAfter, roomShort}
+use Rattle.model.specs.List.Reach.{mostEntries}
 use Rattle.model.specs.List.ShowLaws.{barred-opens, shown-reached}
 use Rattle.model.specs.List.WalkLaws.{walk-complete}
 use Rattle.model.specs.List.Ways.{found, showable, ways}
@@ -49,7 +50,7 @@ pub ways-few : (d : Tables) → WellFormed d → (u e : ℕ) → ways d u e ≤ 
 ways-few d w u e = omega (arith, ways-used d u e, w .entities e .filled .packed .room)
 
 -- so no list is longer than 37,440.
-pub found-bound : (t : List ℕ) (u : ℕ) → barred t u ≡ 0 → length (found (tablesOf t) u) ≤ 37440
+pub found-bound : (t : List ℕ) (u : ℕ) → barred t u ≡ 0 → length (found (tablesOf t) u) ≤ mostEntries
 unfolding found
 found-bound t u h = walk-bound (ways (tablesOf t) u) (standing (tablesOf t)) (showable (tablesOf t) u)
     (ways-few (tablesOf t) (barred-admitted t u h .good .0) u) entityCount
@@ -73,10 +74,10 @@ module _ {t : List ℕ} {u : ℕ} {room : List ℕ} where
       (e, z .1 ∙ sym (y .number), z .2 ∙ ap (λ (k : ℕ). roomAfter k (y .list) room) e ∙ sym (y .words))
 
   -- Its number is a small one.
-  pub lists-small : {a n : ℕ} {r : List ℕ} → Lists t u room a n r → n ≤ 37440
+  pub lists-small : {a n : ℕ} {r : List ℕ} → Lists t u room a n r → n ≤ mostEntries
   lists-small {a} {n} x = go (eqb (barred t u) 0) (same (barred t u) 0)
     where
-      go : (b : Bool) → Same (barred t u) 0 b → n ≤ 37440
+      go : (b : Bool) → Same (barred t u) 0 b → n ≤ mostEntries
       go true (it h) = omega (arith, lists-any x (found (tablesOf t) u) (found-complete t u h) .1, ap (λ (k : ℕ). listNumber k (found (tablesOf t) u)) h, found-bound t u h)
       go false (other h) = omega (arith, lists-any x [] (none-complete t u h) .1, pick-same {A = ℕ} (eqb (barred t u) 0) 0)
 
@@ -87,7 +88,7 @@ module _ (t : List ℕ) (u : ℕ) (room : List ℕ) where
       let f = agrees-not (agrees-eq (barred t u) 0) .from h in record {
         list = [];
         complete = none-complete t u h;
-        answer = sym (pick-false (eqb (barred t u) 0) (pick (leb 0 (length room)) 0 17) (barred t u) f);
+        answer = sym (pick-false (eqb (barred t u) 0) (pick (leb 0 (length room)) 0 roomShort) (barred t u) f);
         number = sym (pick-same (eqb (barred t u) 0) 0);
         words = sym (pick-false (eqb (barred t u) 0) (entries [] ++ drop (length (entries [])) room) room f);
       }
@@ -99,18 +100,18 @@ module _ (t : List ℕ) (u : ℕ) (room : List ℕ) where
   counted : barred t u ≡ 0 → length l ≡ listNumber (barred t u) l
   counted h = sym (pick-true (eqb (barred t u) 0) (length l) 0 (agrees-eq (barred t u) 0 .from h))
 
-  answered : (a : ℕ) → barred t u ≡ 0 → pick (leb (entryWords * length l) (length room)) 0 17 ≡ a → a ≡ listAnswer (barred t u) l (length room)
+  answered : (a : ℕ) → barred t u ≡ 0 → pick (leb (entryWords * length l) (length room)) 0 roomShort ≡ a → a ≡ listAnswer (barred t u) l (length room)
   answered a h e =
       let f = agrees-eq (barred t u) 0 .from h in
-      sym (pick-true (eqb (barred t u) 0) (pick (leb (entryWords * length l) (length room)) 0 17) (barred t u) f ∙ e)
+      sym (pick-true (eqb (barred t u) 0) (pick (leb (entryWords * length l) (length room)) 0 roomShort) (barred t u) f ∙ e)
 
   -- Too little room is answered 17, with the number of entries that there are, and stays as it was.
-  pub lists-short : barred t u ≡ 0 → length room < entryWords * length (found (tablesOf t) u) → Lists t u room 17 (length (found (tablesOf t) u)) room
+  pub lists-short : barred t u ≡ 0 → length room < entryWords * length (found (tablesOf t) u) → Lists t u room roomShort (length (found (tablesOf t) u)) room
   unfolding l
   lists-short h k = record {
     list = l;
     complete = found-complete t u h;
-    answer = answered 17 h (pick-false (leb (entryWords * length l) (length room)) 0 17 (fails-le (entryWords * length l) (length room) .from k));
+    answer = answered roomShort h (pick-false (leb (entryWords * length l) (length room)) 0 roomShort (fails-le (entryWords * length l) (length room) .from k));
     number = counted h;
     words = refl;
   }
@@ -122,7 +123,7 @@ module _ (t : List ℕ) (u : ℕ) (room : List ℕ) where
   lists-written r h k e = record {
     list = l;
     complete = found-complete t u h;
-    answer = answered 0 h (pick-true (leb (entryWords * length l) (length room)) 0 17 (agrees-le (entryWords * length l) (length room) .from k));
+    answer = answered 0 h (pick-true (leb (entryWords * length l) (length room)) 0 roomShort (agrees-le (entryWords * length l) (length room) .from k));
     number = counted h;
     words = e;
   }
@@ -135,5 +136,5 @@ module _ (t : List ℕ) (u : ℕ) (room : List ℕ) where
       (λ k. lists-written (entries (found (tablesOf t) u) ++ drop (length (entries (found (tablesOf t) u))) room) h k refl)
 
   pub lists-found-short : (l : List (List ℕ)) → barred t u ≡ 0 → found (tablesOf t) u ≡ l → length room < entryWords * length l
-      → Lists t u room 17 (length l) room
-  lists-found-short l h e = subst (λ (k : List (List ℕ)). length room < entryWords * length k → Lists t u room 17 (length k) room) e (lists-short h)
+      → Lists t u room roomShort (length l) room
+  lists-found-short l h e = subst (λ (k : List (List ℕ)). length room < entryWords * length k → Lists t u room roomShort (length k) room) e (lists-short h)

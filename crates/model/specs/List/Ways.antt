@@ -12,7 +12,7 @@ use Rattle.model.specs.Request.Reference.{standing}
 use Rattle.model.specs.Request.Words.{nameCount}
 use Rattle.model.specs.Tables.Words.{Tables, clearance, counts, devices, entityCount}
 
--- Rules 7.7 and 7.9: the places of e by which a reference of user u leads on; none where e is marked and above the clearance.
+-- Rules 7.7 and 7.9: the places of e by which a reference of user u leads on; none where e is marked and its level is not at most the clearance.
 unfoldable pub ways : Tables → ℕ → ℕ → ℕ
 ways d u e = pick (bars d (d .user u clearance) (e ∷ [])) 0 (counts d e)
 
