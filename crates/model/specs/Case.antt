@@ -8,6 +8,7 @@ pub mod S1Words
 pub mod S1List
 pub mod Condemned
 pub mod CondemnedFlows
+pub mod CondemnedLists
 pub mod Damaged
 pub mod DamagedFound
 pub mod S2
