@@ -19,6 +19,8 @@ pub mod S2Holds
 pub mod S2Roles
 pub mod S3
 pub mod S3Holds
+pub mod S4
+pub mod S4List
 pub mod Forms
 pub mod Malformed1to5
 pub mod Malformed6to10
