@@ -91,8 +91,10 @@ module _ (d : Tables) (w : WellFormed d) (u : ℕ) where
 
   absent-arrives : (e : ℕ) (ps : List ℕ) → kinds d e ≡ absentKind → arrives (ways d u) (standing d) (showable d u) e ps ≡ false
   unfolding arrives ways showable
-  absent-arrives e [] z = ap (λ (b : Bool). b && (atMost (levelOf d e) (d .user u clearance) && (atMost (levelOf d e) (levelOf d (devices d u))
-      && permits d u (numberOf toShow) 1 e))) (no-entity e z)
+  absent-arrives e [] z = none (isEntity d e) _ (no-entity e z)
+    where
+      none : (k c : Bool) → k ≡ false → (k && c) ≡ false
+      none k c h = ap (λ (b : Bool). b && c) h
   absent-arrives e (p ∷ ps) z = ap (λ (n : ℕ). (leb 1 p && leb p n) && arrives (ways d u) (standing d) (showable d u) (standing d e p) ps)
       (ap (pick (bars d (d .user u clearance) (e ∷ [])) 0) (w .entities e .absent z count) ∙ pick-same (bars d (d .user u clearance) (e ∷ [])) 0)
       ∙ ap (λ (b : Bool). b && arrives (ways d u) (standing d) (showable d u) (standing d e p) ps) (no-way p)
