@@ -1,7 +1,7 @@
 -- The disclosure list of case state S4, for every room: references of one to four names, one through a device, two directly before what
 -- continues them, and all but two of them kept away by a full screen (rules 10.3 to 10.5).
-use mathlib.Core.List.{List, [], _++_, _∷_}
-use mathlib.Core.Path.{_∙_, _≡_, ap, refl}
+use mathlib.Core.List.{List, [], _++_, _∷_, map}
+use mathlib.Core.Path.{_∙_, _≡_, ap, fun-ext, refl}
 use Prim.Native.Nat.{_<_, _≤_, ℕ}
 use lib.ListN.{drop, length}
 use Rattle.model.specs.Case.Opened.{openedList}
@@ -73,17 +73,13 @@ unfolding showing
 s4-answer r = answerOf-sized s4Words (showing 1 r) (sized-agrees s4Words (showing 1 r) .from (sheetWords-length s4Sheet, refl))
     ∙ ap (λ (d : Tables). answer d (requestOf (showing 1 r))) s4Words-tables
 
--- Rule 10.3: the full screen keeps 2.1.1.1 away, which is on the list;
-pub s4-full : answerOf s4Words (showing 1 (2 ∷ 1 ∷ 1 ∷ 1 ∷ [])) ≡ screenFull
+-- Rule 10.3: the full screen keeps away what each entry names, but for 1.1 and 6, which name what is on the screen already;
+pub s4-answers : map (λ r. answerOf s4Words (showing 1 r)) s4Found
+    ≡ 0 ∷ screenFull ∷ screenFull ∷ screenFull ∷ screenFull ∷ screenFull ∷ screenFull ∷ 0 ∷ screenFull ∷ []
 unfolding openedList s4 s4Sheet
-s4-full = s4-answer (2 ∷ 1 ∷ 1 ∷ 1 ∷ [])
+s4-answers = ap (λ (f : List ℕ → ℕ). map f s4Found) (fun-ext s4-answer)
 
--- what 1.1 leads to is on the screen already, and is on the list, too;
-pub s4-shown : answerOf s4Words (showing 1 (1 ∷ 1 ∷ [])) ≡ 0
-unfolding openedList s4 s4Sheet
-s4-shown = s4-answer (1 ∷ 1 ∷ [])
-
--- and 2, which is not on it, is over the level of the screen.
+-- and 2, which is not on the list, is over the level of the screen.
 pub s4-above : answerOf s4Words (showing 1 (2 ∷ [])) ≡ 13
 unfolding openedList s4 s4Sheet
 s4-above = s4-answer (2 ∷ [])
