@@ -1,5 +1,4 @@
 -- Rule 10.2: the refusals before the walk, one law for each way in which they end.
-use mathlib.Core.Bool.{Bool, false, true}
 use mathlib.Core.List.{List, []}
 use mathlib.Core.Logic.{_≢_}
 use mathlib.Core.Path.{_≡_, refl, subst, sym}
@@ -7,8 +6,7 @@ use Prim.Native.Nat.{ℕ}
 use lib.Dec.{T, eqb}
 use lib.ListN.{length}
 use borrow.Author.Tests.{ne-eqb}
-use Rattle.model.specs.Basics.Fails.{Fails}
-use Rattle.model.specs.Basics.TestLaws.{fails-false}
+use Rattle.model.specs.Basics.Fails.{Fails, fails-holds, fails-no}
 use Rattle.model.specs.List.Listing.{barred, showing}
 use Rattle.model.specs.Request.Allowed.{Known, On}
 use Rattle.model.specs.Request.Ladder.{notLoggedOn, unknownUser}
@@ -20,11 +18,6 @@ use Rattle.model.specs.State.AgreeSecure.{check-agrees}
 use Rattle.model.specs.State.Check.{check}
 use Rattle.model.specs.Tables.Layout.{tablesOf, wordCount}
 use Rattle.model.specs.Tables.Words.{devices}
-
--- a test holds where what it fails by does not
-not-failing : (b : Bool) {P : Type 0} → Fails b P → (P → ⊥) → b ≡ true
-not-failing true f h = refl
-not-failing false f h = absurd (h (f .to tt))
 
 module _ (t : List ℕ) (u : ℕ) where
   -- the check refuses
@@ -52,14 +45,14 @@ module _ (t : List ℕ) (u : ℕ) where
     -- there is no such user
     pub barred-unknown : (Known (tablesOf t) u → ⊥) → 4 ≡ barred t u
     unfolding barred q
-    barred-unknown h = rw (k, not-failing (unknownUser (tablesOf t) q) known h) refl
+    barred-unknown h = rw (k, fails-holds (unknownUser (tablesOf t) q) known h) refl
 
     module _ (h : Known (tablesOf t) u) where
       -- the user is on no device
       pub barred-off : devices (tablesOf t) u ≡ 0 → 6 ≡ barred t u
       unfolding barred q
-      barred-off z = rw (k, fails-false (unknownUser (tablesOf t) q) (known .from h), not-failing (notLoggedOn (tablesOf t) q) on (λ f. f tt z)) refl
+      barred-off z = rw (k, fails-no (unknownUser (tablesOf t) q) known h, fails-holds (notLoggedOn (tablesOf t) q) on (λ f. f tt z)) refl
 
       pub barred-none : devices (tablesOf t) u ≢ 0 → 0 ≡ barred t u
       unfolding barred q
-      barred-none z = rw (k, fails-false (unknownUser (tablesOf t) q) (known .from h), fails-false (notLoggedOn (tablesOf t) q) (on .from (λ f. z))) refl
+      barred-none z = rw (k, fails-no (unknownUser (tablesOf t) q) known h, fails-no (notLoggedOn (tablesOf t) q) on (λ f. z)) refl

@@ -21,7 +21,7 @@ use Rattle.model.specs.Request.Conditions.{isEntity}
 use Rattle.model.specs.Request.Ladder.{bars}
 use Rattle.model.specs.Request.Reference.{standing}
 use Rattle.model.specs.Tables.Layout.{tablesOf}
-use Rattle.model.specs.Tables.Words.{Tables, absentKind, clearance, count, counts, devices, entityCount, kinds, level, mark, placeCount, places}
+use Rattle.model.specs.Tables.Words.{Tables, absentKind, clearance, count, counts, entityCount, kinds, level, mark, placeCount, places}
 use Rattle.reference.specs.WayLaws.{wellFormed-ranged}
 use Rattle.reference.specs.Ways.{bar}
 
@@ -40,10 +40,6 @@ pub verdict-weighed : (d : Tables) (u e l : ℕ) (shut : Bool) (used : ℕ) (sho
     → used ≡ counts d e → shown ≡ showable d u e → pick shut 0 used * 2 + pick shown 1 0 ≡ verdict d u e
 unfolding verdict ways
 verdict-weighed d u e l shut used shown c s n w = rw (s, n, w, c, bars-one d (d .user u clearance) e)
-
--- the user's screen is an entity
-pub screen-in : (t : List ℕ) (u : ℕ) → Admitted t u → (1 ≤ devices (tablesOf t) u) × (devices (tablesOf t) u ≤ entityCount)
-screen-in t u a = a .good .0 .entityNumbers (devices (tablesOf t) u) (λ q. omega (arith, a .good .0 .links .deviceIs u (a .on)))
 
 -- ---- what a verdict tells
 

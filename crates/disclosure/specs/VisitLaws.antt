@@ -12,7 +12,7 @@ use lib.Seq.{sets}
 use Rattle.disclosure.specs.EntryLaws.{entriesOf-under, stored-both, take-more}
 use Rattle.disclosure.specs.Verdicts.{Guided, leads, listed}
 use Rattle.disclosure.specs.Visited.{Fits, Padded, Visited, entriesOf, followed, inside, under}
-use Rattle.model.specs.List.BoundLaws.{through-grows, visit-bound, walk-bound}
+use Rattle.model.specs.List.BoundLaws.{through-grows, through-more, visit-bound, walk-bound}
 use Rattle.model.specs.List.Listing.{entries, entry, entryWords}
 use Rattle.model.specs.List.Walk.{here, through, visit, walk}
 use Rattle.model.specs.Request.Reference.{standing}
@@ -78,7 +78,7 @@ module _ (t v : List ℕ) where
 
   inside-more : (k e p : ℕ) → inside t v k e (p + 1) ≡ inside t v k e p ++ map (λ r. (p + 1) ∷ r) (under t v k (places (tablesOf t) e p))
   unfolding through
-  inside-more k e p = rw add-one refl
+  inside-more k e p = rw add-one (through-more p (λ j. under t v k (standing (tablesOf t) e j)))
 
   -- no name is left
   pub entity-last : (k e : ℕ) (b : Bool) (pre l r : List ℕ) (i n : ℕ) → k ≡ 0 → b ≡ listed v e → Visited pre l i (here b) n r

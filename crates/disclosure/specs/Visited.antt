@@ -6,6 +6,7 @@ use lib.ListN.{getD, length}
 use lib.Seq.{sets}
 use Rattle.disclosure.specs.Verdicts.{Guided, leads, listed}
 use Rattle.model.specs.List.Listing.{entries, entryWords}
+use Rattle.model.specs.List.Reach.{mostEntries}
 use Rattle.model.specs.List.Walk.{through, visit, walk}
 use Rattle.model.specs.Request.Reference.{standing}
 use Rattle.model.specs.Request.Words.{nameCount}
@@ -33,9 +34,9 @@ pub record Padded (ns : List ℕ) (n : ℕ) : Type 0 where
   pub four : length ns ≡ nameCount
   pub zeros : (k : ℕ) → n ≤ k → getD ns k 0 ≡ 0
 
--- no list takes more words than 64 first names with 585 continuations each do, and no count of them wraps
+-- no list takes more words, 187,200, and no count of them wraps
 abbrev pub mostWords : ℕ
-mostWords = 187200
+mostWords = entryWords * mostEntries
 
 abbrev pub Fits : ℕ → List (List ℕ) → Type 0
 Fits i l = i + entryWords * length l ≤ mostWords

@@ -15,9 +15,10 @@ use Rattle.model.specs.Request.Ladder.{applies, ladder, never, notLoggedOn, run
 use Rattle.model.specs.Request.LadderLaws.{ofOp-some}
 use Rattle.model.specs.Request.Operations.{Op, openLoggedOff, toClear, toLogout}
 use Rattle.model.specs.Request.Words.{requestOf}
+use Rattle.model.specs.State.Agree.{device-range}
 use Rattle.model.specs.Tables.Edits.{onUser, userWord}
 use Rattle.model.specs.Tables.Layout.{tablesOf}
-use Rattle.model.specs.Tables.Words.{Tables, current, device, deviceKind, devices, kinds}
+use Rattle.model.specs.Tables.Words.{Tables, current, device, devices}
 use Rattle.op_screens.specs.WipeLaws.{off-stores}
 use Rattle.tables.specs.Singles.{EntityIn}
 
@@ -38,9 +39,7 @@ module _ (o : Op) (t q : List ℕ) (u : ℕ) (k : Taking o t q u) where
   -- and its number is one of the sixty-four
   pub device-in : openLoggedOff o ≡ false → (v : ℕ) → v ≡ devices (tablesOf t) u → EntityIn t v
   device-in wants v h =
-      let w = k .climbed .ready .good .0 in
-      let s : kinds (tablesOf t) (devices (tablesOf t) u) ≡ deviceKind = w .links .deviceIs u (on-device wants) in
-      let n = w .entityNumbers (devices (tablesOf t) u) (λ z. omega arith) in
+      let n = device-range (tablesOf t) (k .climbed .ready .good .0) u (on-device wants) in
       rw h (k .climbed .ready .whole, n .0, n .1)
 
 module _ (t q : List ℕ) (u v : ℕ) (n : List ℕ) where

@@ -14,8 +14,8 @@ use Rattle.ladder.specs.Contract.{Climbed, Passed, Ready, Refusing, Stepped}
 use Rattle.ladder.specs.OwnLaws.{noticed-as}
 use Rattle.laws.specs.Loops.{every-at}
 use Rattle.model.specs.Basics.Choice.{pick}
-use Rattle.model.specs.Basics.Fails.{Fails}
-use Rattle.model.specs.Basics.TestLaws.{fails-false, is-false}
+use Rattle.model.specs.Basics.Fails.{fails-holds, fails-no}
+use Rattle.model.specs.Basics.TestLaws.{is-false}
 use Rattle.model.specs.Basics.Tests.{every}
 use Rattle.model.specs.Request.After.{noticedOp}
 use Rattle.model.specs.Request.AfterLaws.{after-unchanged}
@@ -37,14 +37,6 @@ use Rattle.model.specs.Theorem.Steps.{afterOf-length, afterOf-tables, answerOf-
 use Rattle.step.specs.Contract.{Settled}
 use Rattle.step.specs.DispatchLaws.{understood}
 
--- a rung applies where its statement does not hold, and not where it does
-applied : (b : Bool) {P : Type 0} → Fails b P → (P → ⊥) → b ≡ true
-applied true f n = refl
-applied false f n = absurd (n (f .to tt))
-
-not-applied : (b : Bool) {P : Type 0} → Fails b P → P → b ≡ false
-not-applied b f p = fails-false b (f .from p)
-
 -- ---- rung 4
 
 module _ (t q : List ℕ) (r : Ready t q) (n : ℕ) (e : n ≡ getD q 0 0) where
@@ -57,7 +49,7 @@ module _ (t q : List ℕ) (r : Ready t q) (n : ℕ) (e : n ≡ getD q 0 0) where
   unfolding applies rungAt never ladder
   unknown h =
       let a = passed-hit (tablesOf t) (requestOf q) 3 (good-passed (tablesOf t) (requestOf q) (r .good))
-      (applied (unknownUser (tablesOf t) (requestOf q)) (unknownUser-fails (tablesOf t) (requestOf q)) (λ k. h (subst (Known (tablesOf t)) user-word k))) in
+      (fails-holds (unknownUser (tablesOf t) (requestOf q)) (unknownUser-fails (tablesOf t) (requestOf q)) (λ k. h (subst (Known (tablesOf t)) user-word k))) in
       record { answer = a; tables = sym (after-unchanged (tablesOf t) (requestOf q) 4 (sym a) (lit≤ tt) (lit< tt)) }
 
   -- the requester is one of them
@@ -69,7 +61,7 @@ module _ (t q : List ℕ) (r : Ready t q) (n : ℕ) (e : n ≡ getD q 0 0) where
     low = k .low;
     high = k .high;
     passed = passed-more (tablesOf t) (requestOf q) 3 (good-passed (tablesOf t) (requestOf q) (r .good))
-        (not-applied (unknownUser (tablesOf t) (requestOf q)) (unknownUser-fails (tablesOf t) (requestOf q)) (subst (Known (tablesOf t)) (sym user-word) k));
+        (fails-no (unknownUser (tablesOf t) (requestOf q)) (unknownUser-fails (tablesOf t) (requestOf q)) (subst (Known (tablesOf t)) (sym user-word) k));
   }
 
 -- ---- rungs 5 and 6

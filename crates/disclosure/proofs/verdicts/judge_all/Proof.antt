@@ -2,7 +2,8 @@ use native.Mathlib.Omega.{arith}
 use mathlib.Core.Path.{_∙_, _≡_, ap, subst}
 use Prim.Native.Nat.{_-_, _≤_, ℕ}
 use Rattle.disclosure.specs.Verdicts.{Judged}
-use Rattle.disclosure.specs.VerdictLaws.{judged-more, screen-in}
+use Rattle.disclosure.specs.VerdictLaws.{judged-more}
+use Rattle.model.specs.State.Agree.{device-range}
 use Rattle.model.specs.Tables.Layout.{tablesOf}
 use Rattle.model.specs.Request.Conditions.{levelOf}
 use Rattle.disclosure.proofs.verdicts.judge_all.Statement.{statement}
@@ -27,7 +28,7 @@ device-requires : tie.Need-device-requires Inv-loop μ-loop
 device-requires c κs = (c .before .before .pre .0 .whole, c .before .before .pre .0 .low, c .before .before .pre .0 .high)
 
 level-requires : tie.Need-level-requires Inv-loop μ-loop
-level-requires c κs = (c .before .before .before .pre .0 .whole, omega (arith, c .device .ensures, screen-in _ _ (c .before .before .before .pre .0)), omega (arith, c .device .ensures, screen-in _ _ (c .before .before .before .pre .0)))
+level-requires c κs = (c .before .before .before .pre .0 .whole, omega (arith, c .device .ensures, device-range _ (c .before .before .before .pre .0 .good .0) _ (c .before .before .before .pre .0 .on)), omega (arith, c .device .ensures, device-range _ (c .before .before .before .pre .0 .good .0) _ (c .before .before .before .pre .0 .on)))
 
 loop-holds : tie.Need-loop-holds Inv-loop μ-loop
 loop-holds c = (omega arith, c .before .before .before .before .pre .1)
