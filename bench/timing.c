@@ -164,104 +164,38 @@ static uint64_t now(void)
     return (uint64_t)at.tv_sec * UINT64_C(1000000000) + (uint64_t)at.tv_nsec;
 }
 
-/* Each of these makes all calls of one kind on a load and returns the sum of
-   the answers. They are written out one by one, so that neither side pays for
-   a call through a pointer or for a wrapper. */
+/* Each side makes all calls of one kind on a load and returns the sum of the
+   results: call j on table i, that many of them. A macro writes the loop, so
+   that neither side pays for a call through a pointer or for a wrapper. */
+#define SIDE(NAME, CALLS, CALL)                   \
+    static uint64_t NAME(struct load *l)          \
+    {                                             \
+        uint64_t sum = 0;                         \
+                                                  \
+        for (uint32_t i = 0; i < TABLES; i++)     \
+            for (uint32_t j = 0; j < CALLS; j++)  \
+                sum += CALL;                      \
+        return sum;                               \
+    }
 
-static uint64_t ordinary_checks(struct load *l)
-{
-    uint64_t sum = 0;
+#define CHECK(FUNCTION) FUNCTION(l->tables[i], TABLE_WORDS)
+#define ADVANCE(FUNCTION) FUNCTION(l->tables[i], l->requests[i][j])
+#define STEP(FUNCTION) FUNCTION(l->tables[i], TABLE_WORDS, l->requests[i][j], REQUEST_WORDS)
+#define LIST(FUNCTION) \
+    FUNCTION(l->tables[i], TABLE_WORDS, l->users[i][j], list_room, MOST_ENTRIES * ENTRY_WORDS)
 
-    for (uint32_t i = 0; i < TABLES; i++)
-        for (uint32_t j = 0; j < CHECK_ROUNDS; j++)
-            sum += ordinary_check(l->tables[i], TABLE_WORDS);
-    return sum;
-}
+SIDE(ordinary_checks, CHECK_ROUNDS, CHECK(ordinary_check))
+SIDE(proved_checks, CHECK_ROUNDS, CHECK(mms_check) >> 32)
+SIDE(ordinary_advances, l->length, ADVANCE(ordinary_advance))
+SIDE(proved_advances, l->length, ADVANCE(proved_advance))
+SIDE(ordinary_steps, l->length, STEP(ordinary_step))
+SIDE(proved_steps, l->length, STEP(mms_step) >> 32)
 
-static uint64_t proved_checks(struct load *l)
-{
-    uint64_t sum = 0;
-
-    for (uint32_t i = 0; i < TABLES; i++)
-        for (uint32_t j = 0; j < CHECK_ROUNDS; j++)
-            sum += mms_check(l->tables[i], TABLE_WORDS) >> 32;
-    return sum;
-}
-
-static uint64_t ordinary_advances(struct load *l)
-{
-    uint64_t sum = 0;
-
-    for (uint32_t i = 0; i < TABLES; i++)
-        for (uint32_t j = 0; j < l->length; j++)
-            sum += ordinary_advance(l->tables[i], l->requests[i][j]);
-    return sum;
-}
-
-static uint64_t proved_advances(struct load *l)
-{
-    uint64_t sum = 0;
-
-    for (uint32_t i = 0; i < TABLES; i++)
-        for (uint32_t j = 0; j < l->length; j++)
-            sum += bench_advance(l->tables[i], TABLE_WORDS, l->requests[i][j], REQUEST_WORDS);
-    return sum;
-}
-
-static uint64_t ordinary_steps(struct load *l)
-{
-    uint64_t sum = 0;
-
-    for (uint32_t i = 0; i < TABLES; i++)
-        for (uint32_t j = 0; j < l->length; j++)
-            sum += ordinary_step(l->tables[i], TABLE_WORDS, l->requests[i][j], REQUEST_WORDS);
-    return sum;
-}
-
-static uint64_t proved_steps(struct load *l)
-{
-    uint64_t sum = 0;
-
-    for (uint32_t i = 0; i < TABLES; i++)
-        for (uint32_t j = 0; j < l->length; j++)
-            sum += mms_step(l->tables[i], TABLE_WORDS, l->requests[i][j], REQUEST_WORDS) >> 32;
-    return sum;
-}
-
-/* Both halves of a result go into the sum, so that the numbers must agree. */
-
-static uint64_t ordinary_lists(struct load *l)
-{
-    uint64_t sum = 0;
-
-    for (uint32_t i = 0; i < TABLES; i++)
-        for (uint32_t j = 0; j < l->length; j++)
-            sum += ordinary_list(l->tables[i], TABLE_WORDS, l->users[i][j], list_room,
-                                 MOST_ENTRIES * ENTRY_WORDS);
-    return sum;
-}
-
-static uint64_t lists_with_verdicts(struct load *l)
-{
-    uint64_t sum = 0;
-
-    for (uint32_t i = 0; i < TABLES; i++)
-        for (uint32_t j = 0; j < l->length; j++)
-            sum += verdicts_list(l->tables[i], TABLE_WORDS, l->users[i][j], list_room,
-                                 MOST_ENTRIES * ENTRY_WORDS);
-    return sum;
-}
-
-static uint64_t proved_lists(struct load *l)
-{
-    uint64_t sum = 0;
-
-    for (uint32_t i = 0; i < TABLES; i++)
-        for (uint32_t j = 0; j < l->length; j++)
-            sum += mms_list(l->tables[i], TABLE_WORDS, l->users[i][j], list_room,
-                            MOST_ENTRIES * ENTRY_WORDS);
-    return sum;
-}
+/* Both halves of a list's result go into the sum, so that the numbers must
+   agree. */
+SIDE(ordinary_lists, l->length, LIST(ordinary_list))
+SIDE(lists_with_verdicts, l->length, LIST(verdicts_list))
+SIDE(proved_lists, l->length, LIST(mms_list))
 
 /* A line of the output: two sides on one load. */
 struct contest {

@@ -8,10 +8,10 @@ use lib.Dec.{eqb, leb}
 use lib.ListN.{List·getD-eq-default, getD, length, length-set, set}
 use lib.Seq.{getD-set-other, getD-set-same}
 use borrow.Author.Tests.{leb-false, leb-true}
+use Rattle.model.specs.Basics.TestLaws.{only}
 use Rattle.model.specs.List.Admitted.{Admitted}
 use Rattle.disclosure.specs.Verdicts.{Guided, Judged, leads, listed, verdict}
 use Rattle.disclosure.specs.Visited.{followed}
-use Rattle.laws.specs.Bools.{only}
 use Rattle.model.specs.Basics.Choice.{Same, it, other, pick, same}
 use Rattle.model.specs.Level.{atMost}
 use Rattle.model.specs.List.ListingLaws.{ways-used}

@@ -5,11 +5,11 @@ use mathlib.Core.List.{List, [], _∷_}
 use mathlib.Core.Path.{_∙_, _≡_, ap, refl}
 use Prim.Native.Nat.{_≤_, suc, zero, ℕ}
 use native.Mathlib.Omega.{arith}
-use lib.Dec.{T, eqb, ltb}
+use lib.Dec.{eqb, ltb}
 use lib.ListN.{length}
 use Rattle.ladder.specs.Contract.{Passed}
-use Rattle.laws.specs.Bools.{fails}
 use Rattle.model.specs.Basics.Choice.{Below, Same, below, it, other, over, same, under}
+use Rattle.model.specs.Basics.Fails.{fails-no}
 use Rattle.model.specs.Request.Ladder.{Rung, answer, applies, ladder, never, notSecure, notWellFormed, rungAt}
 use Rattle.model.specs.Request.LadderLaws.{answer-is, answer-unique}
 use Rattle.model.specs.Request.RungLaws.{notSecure-fails, notWellFormed-fails}
@@ -60,14 +60,6 @@ module _ (d : Tables) (q : Request) where
   unfolding applies rungAt never ladder
   good-passed g zero h = refl
   good-passed g (suc zero) h = refl
-  good-passed g (suc (suc zero)) h = fails (notWellFormed d q) (λ t. go (notWellFormed d q) (notWellFormed-fails d q (wellFormed-bounded d (g .0)) .from (g .0)) t)
-    where
-      go : (b : Bool) → T (elim b [ true ↦ false | false ↦ true ]) → T b → ⊥
-      go true s t = s
-      go false s t = t
-  good-passed g (suc (suc (suc zero))) h = fails (notSecure d q) (λ t. go (notSecure d q) (notSecure-fails d q (g .0) .from (g .1)) t)
-    where
-      go : (b : Bool) → T (elim b [ true ↦ false | false ↦ true ]) → T b → ⊥
-      go true s t = s
-      go false s t = t
+  good-passed g (suc (suc zero)) h = fails-no (notWellFormed d q) (notWellFormed-fails d q (wellFormed-bounded d (g .0))) (g .0)
+  good-passed g (suc (suc (suc zero))) h = fails-no (notSecure d q) (notSecure-fails d q (g .0)) (g .1)
   good-passed g (suc (suc (suc (suc k)))) h = absurd (omega arith)

@@ -1,8 +1,8 @@
 -- Rules 5.2 and 5.4: the names of a reference are a part of the request's words.
-use mathlib.Core.Bool.{Bool, false, not, true}
+use mathlib.Core.Bool.{false}
 use mathlib.Core.List.{List, [], _∷_}
 use mathlib.Core.Option.{Option, none, some}
-use mathlib.Core.Path.{_∙_, _≡_, ap, refl, subst, sym}
+use mathlib.Core.Path.{_∙_, _≡_, ap, refl, subst}
 use Prim.Native.Nat.{_+_, _-_, _≤_, suc, zero, ℕ}
 use native.Mathlib.Omega.{arith}
 use lib.Dec.{T}
@@ -11,8 +11,9 @@ use lib.Seq.{drop-cons}
 use Rattle.ladder.specs.ClimbLaws.{passed-lower}
 use Rattle.ladder.specs.Contract.{Climbed, Passed}
 use Rattle.ladder.specs.Path.{arityOf}
-use Rattle.laws.specs.Bools.{T-l, T-r, passes}
+use Rattle.laws.specs.Bools.{not-no}
 use Rattle.model.specs.Basics.Agree.{agrees-and, agrees-le}
+use Rattle.model.specs.Basics.TestLaws.{T-l, T-r, is-true}
 use Rattle.model.specs.Request.Allowed.{arity}
 use Rattle.model.specs.Request.Conditions.{Kind}
 use Rattle.model.specs.Request.Ladder.{applies, fits, ladder, lengthFits, never, notUnderstood, ofOp, rungAt}
@@ -45,15 +46,11 @@ part-names q k m n e h z l =
     ∙ take-four n (getD q m 0) (getD q (suc m) 0) (getD q (suc (suc m)) 0) (getD q (suc (suc (suc m))) 0) (drop (suc (suc (suc (suc m)))) q) l
     ∙ rw (a, b, c, x, z)
 
--- a request that passes rung 5 fits its operation
+-- a request that is-true rung 5 fits its operation
 fitting : (d : Tables) (q : Request) (o : Op) → Passed 5 d q → opOf (q .operation) ≡ some o → T (fits o q)
 unfolding applies rungAt never ladder notUnderstood ofOp
 fitting d q o p e = subst (λ (m : Option Op). T (elim m [ none ↦ false | some o ↦ fits o q ])) e
-    (passes (ofOp q (λ o. fits o q)) (negated (ofOp q (λ o. fits o q)) (p 5 (omega arith))))
-  where
-    negated : (b : Bool) → not b ≡ false → b ≡ true
-    negated true h = refl
-    negated false h = sym h
+    (is-true (ofOp q (λ o. fits o q)) (not-no (ofOp q (λ o. fits o q)) (p 5 (omega arith))))
 
 -- a reference that is taken has one to four names
 taken-length : (r : Reference) (x : Kind) (xs : List Kind) → T (lengthFits 0 (x ∷ xs) r) → (1 ≤ r .length) × (r .length ≤ nameCount)

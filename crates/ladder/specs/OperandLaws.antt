@@ -9,12 +9,13 @@ use native.Mathlib.Omega.{arith}
 use lib.Dec.{eqb}
 use lib.ListN.{length}
 use borrow.Author.Tests.{eq-eqb, ne-eqb}
-use Rattle.laws.specs.Bools.{either, joined, only}
+use Rattle.laws.specs.Bools.{either, joined}
 use Rattle.ladder.specs.Path.{arityOf, operandOf, pairOf, pathAnswer}
 use Rattle.ladder.specs.PathLaws.{path-0, path-7, path-8, path-9}
 use Rattle.ladder.specs.declared.operands.Operand.the-variants.{Fine, No}
 use Rattle.ladder.specs.declared.operands.Pair.the-variants.{Both, Neither}
 use Rattle.levels.specs.declared.Entity.{Entity}
+use Rattle.model.specs.Basics.TestLaws.{only}
 use Rattle.model.specs.Request.Allowed.{arity}
 use Rattle.model.specs.Request.Asked.{asked, basisOf, operand}
 use Rattle.model.specs.Request.Conditions.{Kind}

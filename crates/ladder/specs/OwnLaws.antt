@@ -8,7 +8,8 @@ use native.Mathlib.Omega.{arith}
 use lib.Dec.{T, eqb}
 use Rattle.ladder.specs.ClimbLaws.{passed-all, passed-hit, passed-lower, passed-more}
 use Rattle.ladder.specs.Contract.{First, Passed, Refusing, Second, Stepped, Taking}
-use Rattle.laws.specs.Bools.{T-l, T-r, either, joined, only}
+use Rattle.laws.specs.Bools.{either, joined}
+use Rattle.model.specs.Basics.TestLaws.{T-l, T-r, only}
 use Rattle.model.specs.Basics.Tests.{every}
 use Rattle.model.specs.Request.After.{noticedOp}
 use Rattle.model.specs.Request.AfterLaws.{after-accepted, effect-by}

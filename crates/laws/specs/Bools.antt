@@ -5,16 +5,10 @@ use mathlib.Core.Path.{_∙_, _≡_, refl, subst, sym}
 use lib.Dec.{T}
 use Rattle.model.specs.Basics.Agree.{Agrees}
 use Rattle.model.specs.Basics.Choice.{pick}
+use Rattle.model.specs.Basics.TestLaws.{equal-bools, holds-true, only}
 use Rattle.model.specs.Basics.Tests.{imp}
 
--- a test that passes is true, one that fails is false
-pub holds : (b : Bool) → T b → b ≡ true
-holds true t = refl
-holds false t = absurd t
-
-pub passes : (b : Bool) → b ≡ true → T b
-passes b e = subst T (sym e) tt
-
+-- a test that never passes is false
 pub fails : (b : Bool) → (T b → ⊥) → b ≡ false
 fails true h = absurd (h tt)
 fails false h = refl
@@ -25,20 +19,13 @@ refuted b e t = subst T e t
 pub clash : {P : Type 0} (b : Bool) → b ≡ true → b ≡ false → P
 clash b t f = absurd (true≢false (sym t ∙ f))
 
--- two tests that pass for each other are one
-pub equal-bools : (a b : Bool) → (T a → T b) → (T b → T a) → a ≡ b
-equal-bools true true f g = refl
-equal-bools true false f g = absurd (f tt)
-equal-bools false true f g = absurd (g tt)
-equal-bools false false f g = refl
-
 -- two tests that agree with one statement are one
 pub agreed : (a b : Bool) {P : Type 0} → Agrees a P → Agrees b P → a ≡ b
 agreed a b p q = equal-bools a b (λ t. q .from (p .to t)) (λ t. p .from (q .to t))
 
 -- a test that was found true, or false, from a statement that it agrees with
 pub agreed-true : (b : Bool) {P : Type 0} → Agrees b P → P → true ≡ b
-agreed-true b a p = sym (holds b (a .from p))
+agreed-true b a p = sym (holds-true b (a .from p))
 
 pub agreed-false : (b : Bool) {P : Type 0} → Agrees b P → (P → ⊥) → false ≡ b
 agreed-false b a n = sym (fails b (λ t. n (a .to t)))
@@ -120,24 +107,12 @@ pub and-T : (a b : Bool) → T a → T b → T (a && b)
 and-T true b s t = t
 and-T false b s t = s
 
-pub T-l : (a b : Bool) → T (a && b) → T a
-T-l true b t = tt
-T-l false b t = t
-
-pub T-r : (a b : Bool) → T (a && b) → T b
-T-r true b t = t
-T-r false b t = absurd t
-
 -- three tests in a row
 pub and-assoc : (a b c : Bool) → ((a && b) && c) ≡ (a && (b && c))
 and-assoc true b c = refl
 and-assoc false b c = refl
 
--- a choice between true and false is its test, and two of them in a row are `or`
-pub only : (b : Bool) → elim b [ true ↦ true | false ↦ false ] ≡ b
-only true = refl
-only false = refl
-
+-- two choices in a row between true and false are `or`
 pub either : (a b : Bool) → elim a [ true ↦ true | false ↦ elim b [ true ↦ true | false ↦ false ] ] ≡ (a || b)
 either true b = refl
 either false b = only b
@@ -154,7 +129,7 @@ imp-both true a k b = refl
 imp-both false a true b = refl
 imp-both false a false b = refl
 
--- "where a and z, then b" holds once "not a, or b" does
+-- "where a and z, then b" holds-true once "not a, or b" does
 pub imp-quiet : (a b z : Bool) → (not a || b) ≡ true → imp a (imp z b) ≡ true
 unfolding imp
 imp-quiet true b true h = h

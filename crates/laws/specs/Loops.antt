@@ -7,17 +7,15 @@ use Prim.Native.Nat.{_+_, _<_, _≤_, suc, zero, ℕ}
 use native.Mathlib.Numerals.{add-one}
 use native.Mathlib.Omega.{arith}
 use lib.Dec.{T, eqb}
-use Rattle.laws.specs.Bools.{both, equal-bools, fails, holds}
-use Rattle.model.specs.Basics.Agree.{agrees-T, agrees-every}
-use Rattle.model.specs.Basics.Choice.{Same, it, other, pick, same}
+use Rattle.laws.specs.Bools.{both, fails}
+use Rattle.model.specs.Basics.Agree.{agrees-T, agrees-every, every-at}
+use Rattle.model.specs.Basics.Choice.{Same, it, other, same}
+use Rattle.model.specs.Basics.TestLaws.{holds-true}
 use Rattle.model.specs.Basics.Tests.{every, imp}
-use Rattle.model.specs.Tables.RowLaws.{sought}
+use Rattle.model.specs.Tables.RowLaws.{before, sought}
 use Rattle.model.specs.Tables.Rows.{Sought, seek}
 
--- what every number below n passes, i passes; and what each of them passes, every one does
-pub every-at : (n : ℕ) (p : ℕ → Bool) → T (every n p) → (i : ℕ) → i < n → T (p i)
-every-at n p = agrees-every n p (λ i. T (p i)) (λ i. agrees-T (p i)) .to
-
+-- what each number below n passes, every one does
 pub every-of : (n : ℕ) (p : ℕ → Bool) → ((i : ℕ) → i < n → T (p i)) → T (every n p)
 every-of n p = agrees-every n p (λ i. T (p i)) (λ i. agrees-T (p i)) .from
 
@@ -55,11 +53,6 @@ every-both (suc n) p q = go (p n) (q n) (every n p) (every n q) (every n (λ i. 
     go true false false d r e = refl
     go false b c d r e = refl
 
--- tests that are the same below n are the same for every number below n
-pub every-same : (n : ℕ) (p q : ℕ → Bool) → ((i : ℕ) → i < n → p i ≡ q i) → every n p ≡ every n q
-every-same n p q e = equal-bools (every n p) (every n q) (λ t. every-of n q (λ i h. subst T (e i h) (every-at n p t i h)))
-    (λ t. every-of n p (λ i h. subst T (sym (e i h)) (every-at n q t i h)))
-
 -- a loop that gathers `and` from the front
 pub every-gather : (i : ℕ) (p : ℕ → Bool) (a b : Bool) → a ≡ p i → b ≡ every i p → (a && b) ≡ every (i + 1) p
 unfolding every
@@ -71,7 +64,7 @@ every-gathered i n p b h l m = let e : n ≡ i = omega arith in rw e h
 
 -- what is true of all numbers is true of those below n
 every-true : (n : ℕ) → every n (λ i. true) ≡ true
-every-true n = holds (every n (λ i. true)) (every-of n (λ i. true) (λ i h. tt))
+every-true n = holds-true (every n (λ i. true)) (every-of n (λ i. true) (λ i h. tt))
 
 -- a condition on every number that does not depend on the number can be asked once
 pub imp-every : (k : Bool) (n : ℕ) (p : ℕ → Bool) → every n (λ i. imp k (p i)) ≡ imp k (every n p)
@@ -81,24 +74,12 @@ imp-every false n p = every-true n
 
 -- ---- seeking a word in a row
 
--- it does not stand before the place that was found
-pub seek-before : (v : ℕ) (row : ℕ → ℕ) (n i : ℕ) → i < seek v row n → row i ≢ v
-unfolding seek
-seek-before v row zero i h = absurd (omega arith)
-seek-before v row (suc n) i h = go (eqb (row 0) v) (same (row 0) v) (seek-before v (λ j. row (suc j)) n) i h
-  where
-    go : (b : Bool) → Same (row 0) v b → ((i : ℕ) → i < seek v (λ j. row (suc j)) n → row (suc i) ≢ v)
-        → (i : ℕ) → i < pick b 0 (suc (seek v (λ j. row (suc j)) n)) → row i ≢ v
-    go true (it e) f i h = absurd (omega arith)
-    go false (other e) f zero h = e
-    go false (other e) f (suc i) h = f i (omega arith)
-
 -- the place that was found is the first with v
 pub seek-here : (v : ℕ) (row : ℕ → ℕ) (n k : ℕ) → k < n → row k ≡ v → ((i : ℕ) → i < k → row i ≢ v) → k ≡ seek v row n
 seek-here v row n k h e f = go (sought v row n)
   where
     low : seek v row n ≤ k
-    low = let z : ¬ (k < seek v row n) = λ l. seek-before v row n k l e in omega arith
+    low = let z : ¬ (k < seek v row n) = λ l. before v row n k l e in omega arith
 
     go : Sought v row n (seek v row n) → k ≡ seek v row n
     go (inl s) = let z : ¬ (seek v row n < k) = λ l. f (seek v row n) l (s .1) in omega (arith, low)

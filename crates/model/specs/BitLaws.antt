@@ -1,6 +1,6 @@
 -- What the bits of a number say of it: its low part, its sets of bits and their masks, for any count of bits.
-use mathlib.Core.Bool.{Bool, _&&_, false, true}
-use mathlib.Core.Path.{_∙_, _≡_, ap, ap₂, refl, subst, sym}
+use mathlib.Core.Bool.{Bool, false, true}
+use mathlib.Core.Path.{_∙_, _≡_, ap, ap₂, subst, sym}
 use Prim.Native.Nat.{_%_, _*_, _+_, _-_, _/_, _<_, _^_, _≤_, suc, zero, ℕ}
 use native.Mathlib.Nat.{mod-one, mul-le-mul-right, zero-div}
 use native.Mathlib.Numerals.{one-add}
@@ -10,7 +10,8 @@ use lib.Dec.{T, eqb}
 use lib.Pow.{field, high, low, mod-mod-pow, mod-pow-add, ones-lt, ones-split}
 use Rattle.model.specs.Basics.Agree.{Agrees, agrees-T, agrees-as, agrees-eq, agrees-every, agrees-imp}
 use Rattle.model.specs.Basics.Choice.{Same, it, other, same}
-use Rattle.model.specs.Basics.Tests.{every, imp}
+use Rattle.model.specs.Basics.TestLaws.{equal-bools, every-same}
+use Rattle.model.specs.Basics.Tests.{imp}
 use Rattle.model.specs.Level.{Bit, Subset, bit, subset}
 
 -- bit i is the digit of weight 2 ^ i
@@ -82,12 +83,6 @@ subset-trans k a b c s t = subset-agrees k a c .from (λ i h x. subset-agrees k 
 pub subset-zero : (k b : ℕ) → Subset k 0 b
 subset-zero k b = subset-agrees k 0 b .from (λ i h t. absurd (bit-zero i t))
 
--- tests that are the same below n pass for every number below n alike
-every-same : (n : ℕ) (p q : ℕ → Bool) → ((i : ℕ) → i < n → p i ≡ q i) → every n p ≡ every n q
-unfolding every
-every-same zero p q e = refl
-every-same (suc n) p q e = ap₂ _&&_ (e n (omega arith)) (every-same n p q (λ i h. e i (omega arith)))
-
 -- only the low k bits are asked about
 pub subset-low : (k a b : ℕ) → subset k (a % 2 ^ k) (b % 2 ^ k) ≡ subset k a b
 unfolding subset
@@ -138,19 +133,12 @@ bit-and i a b = agrees-as {P = bitAnd a b / 2 ^ i % 2 ≡ 1} parts whole (bit-ag
     whole : Bit i a × Bit i b → bitAnd a b / 2 ^ i % 2 ≡ 1
     whole t = digit ∙ ap₂ bitAnd (bit-agrees i a .to (t .0)) (bit-agrees i b .to (t .1))
 
--- two tests that imply each other are one
-same-test : (a b : Bool) → (T a → T b) → (T b → T a) → a ≡ b
-same-test true true f g = refl
-same-test true false f g = absurd (f tt)
-same-test false true f g = absurd (g tt)
-same-test false false f g = refl
-
 -- a set is in another if its mask meets the other's in itself
 pub subset-mask : (k a b : ℕ) → Agrees (subset k a b) (bitAnd (a % 2 ^ k) (b % 2 ^ k) ≡ a % 2 ^ k)
 subset-mask k a b = agrees-as {P = (i : ℕ) → i < k → Bit i a → Bit i b} meet inside (subset-agrees k a b)
   where
     kept : ((i : ℕ) → i < k → Bit i a → Bit i b) → (i : ℕ) → i < k → bit i (bitAnd a b) ≡ bit i a
-    kept f i h = same-test (bit i (bitAnd a b)) (bit i a) (λ t. bit-and i a b .to t .0) (λ t. bit-and i a b .from (t, f i h t))
+    kept f i h = equal-bools (bit i (bitAnd a b)) (bit i a) (λ t. bit-and i a b .to t .0) (λ t. bit-and i a b .from (t, f i h t))
 
     meet : ((i : ℕ) → i < k → Bit i a → Bit i b) → bitAnd (a % 2 ^ k) (b % 2 ^ k) ≡ a % 2 ^ k
     meet f = sym (and-mod a b k) ∙ same-bits k (bitAnd a b) a (kept f)

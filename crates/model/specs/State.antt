@@ -10,5 +10,6 @@ pub mod Check
 pub mod AgreeRecords
 pub mod AgreeLinks
 pub mod Agree
+pub mod ParentLaws
 pub mod AgreeSecure
 pub mod LinksLaws

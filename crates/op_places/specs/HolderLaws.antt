@@ -1,6 +1,6 @@
 -- In well-formed tables: the container that an entity is in, what it is to leave it, and what lies in what.
 use mathlib.Core.Bool.{Bool, _&&_, false, not, true}
-use mathlib.Core.Logic.{_≢_, _⊎_, inl, inr}
+use mathlib.Core.Logic.{_≢_, inl, inr}
 use mathlib.Core.Path.{_∙_, _≡_, ap, fun-ext, refl, subst, sym}
 use Prim.Native.Nat.{_-_, _<_, _≤_, pred, suc, ℕ}
 use native.Mathlib.Omega.{arith}
@@ -9,19 +9,19 @@ use borrow.Author.Tests.{eq-eqb, lt-leb}
 use Rattle.model.specs.Basics.Choice.{Below, Same, below, it, other, over, pick, same}
 use Rattle.model.specs.Basics.TestLaws.{pick-same}
 use Rattle.model.specs.Effect.Places.{leave}
-use Rattle.model.specs.State.Agree.{wellFormed-bounded}
-use Rattle.model.specs.State.AgreeLinks.{boxed, in-agrees, member-agrees, parent-holds, parent-top}
+use Rattle.model.specs.State.AgreeLinks.{in-agrees, member-agrees}
 use Rattle.model.specs.State.Climb.{climb}
 use Rattle.model.specs.State.ClimbLaws.{climb-sound}
 use Rattle.model.specs.State.Depth.{Within}
 use Rattle.model.specs.State.DepthLaws.{holds-one}
+use Rattle.model.specs.State.ParentLaws.{parent-held, parent-none, parent-range, row-room}
 use Rattle.model.specs.State.WellFormed.{InTables, WellFormed}
 use Rattle.model.specs.Tables.Edits.{Edit, _and_, onEntity, row, word, written}
 use Rattle.model.specs.Tables.RowLaws.{without-none}
 use Rattle.model.specs.Tables.Rows.{close, left, seek}
 use Rattle.model.specs.Tables.StoreLaws.{twice}
-use Rattle.model.specs.Tables.Words.{EntityWord, Tables, containerKind, count, counts, device, devices, entityCount, kind, kinds, level, mark}
-use Rattle.model.specs.Tables.Words.{maximum, place, placeCount, places, releaser, shown, triple, type, value, userCount}
+use Rattle.model.specs.Tables.Words.{EntityWord, Tables, containerKind, count, counts, entityCount, kind, kinds, level, mark}
+use Rattle.model.specs.Tables.Words.{maximum, place, placeCount, places, releaser, shown, triple, type, value}
 use Rattle.model.specs.Theorem.FramedPlaces.{leave-left}
 use Rattle.model.specs.Theorem.MayChange.{contentWord, holder}
 use Rattle.op_places.specs.Standing.{parentIn}
@@ -31,37 +31,17 @@ no-and true b n = absurd (n tt)
 no-and false b n = tt
 
 module _ (d : Tables) (w : WellFormed d) where
-  entity-out : (e : ℕ) → (e ≡ 0) ⊎ (entityCount < e) → (kinds d e ≡ 0) × (counts d e ≡ 0)
-  entity-out e q = let o = wellFormed-bounded d w in (o .entityOut e q kind, o .entityOut e q count)
-
-  user-out : (u : ℕ) → (u ≡ 0) ⊎ (userCount < u) → devices d u ≡ 0
-  user-out u q = wellFormed-bounded d w .userOut u q device
-
-  room : (e : ℕ) → counts d e ≤ placeCount
-  room e = w .entities e .filled .packed .room
-
-  -- nothing holds a
-  top : (a : ℕ) → parentIn d a ≡ 0 → (x : ℕ) → InTables d x a → ⊥
-  top = parent-top (kinds d) (counts d) (places d) (devices d) entity-out user-out room
-
-  -- its container holds a
-  held : (a : ℕ) → parentIn d a ≢ 0 → InTables d (parentIn d a) a
-  held = parent-holds (kinds d) (counts d) (places d) (devices d) entity-out user-out room
-
-  in-range : (x a : ℕ) → InTables d x a → (1 ≤ x) × (x ≤ entityCount)
-  in-range = boxed (kinds d) (counts d) (places d) (devices d) entity-out user-out room
-
   module _ (e h : ℕ) (p : h ≡ parentIn d e) where
     held-here : h ≢ 0 → InTables d h e
-    held-here n = subst (λ (x : ℕ). InTables d x e) (sym p) (held e (λ z. n (p ∙ z)))
+    held-here n = subst (λ (x : ℕ). InTables d x e) (sym p) (parent-held d w e (λ z. n (p ∙ z)))
 
     -- another container does not hold it
     not-there : (x : ℕ) → x ≢ h → InTables d x e → ⊥
-    not-there x n i = n (w .links .oneContainer e x h i (held-here (λ z. top e (sym p ∙ z) x i)))
+    not-there x n i = n (w .links .oneContainer e x h i (held-here (λ z. parent-none d w e (sym p ∙ z) x i)))
 
     -- the container has a number, and e has a place in it
     pub holder-in : h ≢ 0 → (1 ≤ h) × (h ≤ entityCount)
-    holder-in n = in-range h e (held-here n)
+    holder-in n = parent-range d w h e (held-here n)
 
     pub place-in : h ≢ 0 → (n k : ℕ) → n ≡ counts d h → k ≡ seek e (places d h) n → k < n
     place-in z n k q r = rw (r, q) (ltb→lt (seek e (places d h) (counts d h)) (counts d h)
@@ -74,7 +54,7 @@ module _ (d : Tables) (w : WellFormed d) where
 
     -- what is in no container leaves none
     pub leave-none : h ≡ 0 → d ≡ leave e d
-    leave-none z = λ i. record { user = d .user; entity = (fun-ext λ x. fun-ext λ f. sym (leave-left d w e x f (unheld x f (top e (sym p ∙ z) x)))) i }
+    leave-none z = λ i. record { user = d .user; entity = (fun-ext λ x. fun-ext λ f. sym (leave-left d w e x f (unheld x f (parent-none d w e (sym p ∙ z) x)))) i }
 
     -- the count of its container is one less
     left-one : h ≢ 0 → left e (places d h) (counts d h) ≡ counts d h - 1
@@ -124,7 +104,7 @@ module _ (d : Tables) (w : WellFormed d) where
       where
         go : (b : Bool) → Same h c b → (not b && leb placeCount n) ≡ leb placeCount (left e (places d c) (counts d c))
         go true (it s) = sym (lt-leb placeCount (left e (places d c) (counts d c)) (subst (λ (x : ℕ). left e (places d x) (counts d x) < placeCount) s
-            (omega (arith, left-one (λ z. omega arith), room h, place-in (λ z. omega arith) (counts d h) (seek e (places d h) (counts d h)) refl refl))))
+            (omega (arith, left-one (λ z. omega arith), row-room d w h, place-in (λ z. omega arith) (counts d h) (seek e (places d h) (counts d h)) refl refl))))
         go false (other s) = ap (leb placeCount) (q ∙ sym (without-none e (places d c) (counts d c) (w .entities c .filled .packed)
             (λ m. not-there c (λ z. s (sym z)) (box, m)) .0))
 
@@ -134,7 +114,7 @@ module _ (d : Tables) (w : WellFormed d) where
   pub inside-empty : (e c n : ℕ) → n ≡ counts d e → n ≡ 0 → eqb c e ≡ climb (parentIn d) (suc entityCount) c e
   unfolding climb
   inside-empty e c n q z = go (eqb c e) (same c e)
-      (climb-sound entityCount (InTables d) (parentIn d) top held (w .links .oneContainer) in-range (suc entityCount) c e)
+      (climb-sound entityCount (InTables d) (parentIn d) (parent-none d w) (parent-held d w) (w .links .oneContainer) (parent-range d w) (suc entityCount) c e)
     where
       go : (b : Bool) → Same c e b
           → (T (pick b true (pick (eqb (parentIn d c) 0) false (climb (parentIn d) entityCount (parentIn d c) e))) → Within (InTables d) c e)

@@ -5,8 +5,8 @@ use mathlib.Core.Path.{_∙_, _≡_, ap, subst}
 use Prim.Native.Nat.{_%_, _*_, _+_, _-_, _<_, _≤_, ℕ}
 use native.Mathlib.Omega.{arith}
 use lib.Dec.{T}
-use Rattle.laws.specs.Bools.{equal-bools}
 use Rattle.model.specs.Basics.Agree.{Agrees, agrees-T, agrees-and, agrees-eq, agrees-le, agrees-or, agrees-some}
+use Rattle.model.specs.Basics.TestLaws.{equal-bools}
 use Rattle.model.specs.Basics.Tests.{every}
 use Rattle.model.specs.Level.{bit}
 use Rattle.model.specs.Request.Allowed.{Permitted}

@@ -8,9 +8,10 @@ use native.Mathlib.Omega.{arith}
 use lib.Dec.{eqb, eqb·suc-zero}
 use lib.ListN.{drop, getD, length, take}
 use lib.Seq.{take-all}
-use Rattle.laws.specs.Bools.{fails, holds}
+use Rattle.laws.specs.Bools.{fails}
 use Rattle.levels.specs.declared.Entity.{Entity}
 use Rattle.model.specs.Basics.Choice.{pick}
+use Rattle.model.specs.Basics.TestLaws.{holds-true}
 use Rattle.model.specs.Level.{atMost}
 use Rattle.model.specs.Request.Ladder.{bars}
 use Rattle.model.specs.Request.Reference.{Present, basis, follow, passed, placeTest, presentTest, resolve, standing}
@@ -89,7 +90,7 @@ module _ (d : Tables) (l : ℕ) where
       let m : p - 1 ≡ pred p = omega arith in
       let f : take (length (p ∷ ps) - 1) ps ≡ ps = take-all (length (p ∷ ps) - 1) ps (omega arith) in
       let z : c ≡ standing d e p = q ∙ ap (places d e) m in
-      rw (follow-yes d e p ps (holds (placeTest d e p) (place-agrees d e p .from (a, b))), f, z)
+      rw (follow-yes d e p ps (holds-true (placeTest d e p) (place-agrees d e p .from (a, b))), f, z)
       (ap (leading (follow d (standing d e p) ps)) (bars-more e (passed d (standing d e p) ps) o))
 
   -- ---- a whole reference
@@ -104,7 +105,7 @@ module _ (d : Tables) (l : ℕ) where
   resolve-on e [] q n h = absurd (omega arith)
   resolve-on e (p ∷ ps) q n h =
       let f : take (length (p ∷ ps) - 1) ps ≡ ps = take-all (length (p ∷ ps) - 1) ps (omega arith) in
-      rw (resolve-yes d p ps (holds (presentTest d p) (present-agrees d p .from (rw q at h))), q, f)
+      rw (resolve-yes d p ps (holds-true (presentTest d p) (present-agrees d p .from (rw q at h))), q, f)
 
   -- where there is one name only, that is all
   pub resolve-one : (e : Entity) (ns : List ℕ) → e .0 ≡ getD ns 0 0 → length ns ≡ 1 → Present d (e .0) → At e true ≡ found d l ns

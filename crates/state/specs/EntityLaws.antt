@@ -5,10 +5,11 @@ use mathlib.Core.Path.{_∙_, _≡_, ap, fun-ext, refl, subst, sym}
 use Prim.Native.Nat.{_<_, _≤_, suc, ℕ}
 use native.Mathlib.Omega.{arith}
 use lib.Dec.{T, eqb, eqb→eq, leb, lit<, ltb}
-use Rattle.laws.specs.Bools.{T-l, agrees-pick, and-T, equal-bools, or-imp, or-imp-not}
-use Rattle.laws.specs.Loops.{every-at, every-of}
-use Rattle.model.specs.Basics.Agree.{Agrees, agreement, agrees-T, agrees-and, agrees-eq, agrees-every, agrees-imp, agrees-le, agrees-not}
+use Rattle.laws.specs.Bools.{agrees-pick, and-T, or-imp, or-imp-not}
+use Rattle.laws.specs.Loops.{every-of}
+use Rattle.model.specs.Basics.Agree.{Agrees, agreement, agrees-T, agrees-and, agrees-eq, agrees-every, agrees-imp, agrees-le, agrees-not, every-at}
 use Rattle.model.specs.Basics.Choice.{Below, below, over, under}
+use Rattle.model.specs.Basics.TestLaws.{T-l, equal-bools}
 use Rattle.model.specs.Basics.Tests.{every}
 use Rattle.model.specs.State.Agree.{eights, zero-ok}
 use Rattle.model.specs.State.AgreeRecords.{entity-agrees, filled-agrees}

@@ -8,10 +8,10 @@ use native.Mathlib.Omega.{arith}
 use lib.Dec.{T, eqb, ltb}
 use lib.ListN.{getD, length, length-set, replicate, set}
 use lib.Seq.{getD-set-other, getD-set-same}
-use Rattle.laws.specs.Bools.{T-l, T-r, clash, fails, holds, passes}
-use Rattle.laws.specs.Loops.{every-at}
-use Rattle.model.specs.Basics.Agree.{Agrees}
+use Rattle.laws.specs.Bools.{clash, fails}
+use Rattle.model.specs.Basics.Agree.{Agrees, every-at}
 use Rattle.model.specs.Basics.Choice.{Below, Same, below, it, other, over, same, under}
+use Rattle.model.specs.Basics.TestLaws.{T-l, T-r, holds-true, is-true}
 use Rattle.model.specs.Basics.Tests.{every}
 use Rattle.model.specs.State.Agree.{eights}
 use Rattle.model.specs.State.AgreeLinks.{one-agrees, parent-holds, parent-top}
@@ -84,7 +84,7 @@ module _ (d : Tables) (o : Bounded d) (w : every entityCount (λ e. ownTest d (s
   -- entity e is in order
   own-at : (e : ℕ) → 1 ≤ e → e ≤ entityCount → T (ownTest d e)
   own-at zero l h = absurd (omega arith)
-  own-at (suc e) l h = every-at entityCount (λ e. ownTest d (suc e)) (passes (every entityCount (λ e. ownTest d (suc e))) w) e (omega arith)
+  own-at (suc e) l h = every-at entityCount (λ e. ownTest d (suc e)) (is-true (every entityCount (λ e. ownTest d (suc e))) w) e (omega arith)
 
   -- what is no entity has no places
   nothing-out : (e : ℕ) → (e ≡ 0) ⊎ (entityCount < e) → Packed (places d e) (counts d e)
@@ -218,7 +218,7 @@ module _ (d : Tables) (o : Bounded d) (w : every entityCount (λ e. ownTest d (s
 
     -- then nothing stands in two
     filled-one : oneTest (kinds d) (counts d) (places d) (devices d) ≡ true
-    filled-one = holds (oneTest (kinds d) (counts d) (places d) (devices d)) (one .from (λ x a b p q. sym (whole-at a x p) ∙ whole-at b x q))
+    filled-one = holds-true (oneTest (kinds d) (counts d) (places d) (devices d)) (one .from (λ x a b p q. sym (whole-at a x p) ∙ whole-at b x q))
 
     -- and the list is the model's `parent`
     filled-at : (x : ℕ) → getD h x 0 ≡ parent (kinds d) (counts d) (places d) x

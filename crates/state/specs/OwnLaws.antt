@@ -6,16 +6,17 @@ use Prim.Native.Nat.{_+_, _-_, _<_, _≤_, suc, zero, ℕ}
 use native.Mathlib.Omega.{arith}
 use lib.Dec.{eqb, ltb}
 use borrow.Author.Tests.{ne-eqb}
-use Rattle.laws.specs.Bools.{agrees-pick, equal-bools, imp-quiet, imp-shown, passes}
-use Rattle.laws.specs.Loops.{seek-before, seek-within}
+use Rattle.laws.specs.Bools.{agrees-pick, imp-quiet, imp-shown}
+use Rattle.laws.specs.Loops.{seek-within}
 use Rattle.model.specs.Basics.Agree.{Agrees, agrees-and, agrees-eq, agrees-every, agrees-le, agrees-or}
 use Rattle.model.specs.Basics.Choice.{Below, below, over, under}
+use Rattle.model.specs.Basics.TestLaws.{equal-bools, is-true}
 use Rattle.model.specs.Basics.Tests.{every, imp}
 use Rattle.model.specs.State.AgreeRecords.{Eight, access-agrees, good-agrees}
 use Rattle.model.specs.State.Tests.{accessTest, entityTest, filledTest, shapeTest}
 use Rattle.model.specs.State.WellFormed.{Access, GoodTriple}
 use Rattle.model.specs.Tables.Layout.{Bounded}
-use Rattle.model.specs.Tables.RowLaws.{sought}
+use Rattle.model.specs.Tables.RowLaws.{before, sought}
 use Rattle.model.specs.Tables.Rows.{Sought, seek}
 use Rattle.model.specs.Tables.Words.{Tables, counts, devices, kinds, level, mark, maximum, placeCount, places, releaser, sums}
 use Rattle.model.specs.Tables.Words.{triples, type, userCount, value}
@@ -53,7 +54,7 @@ module _ (row : ℕ → ℕ) (out : Eight row) where
   access-of f = record {
     packed = record {
       room = seek-within 0 row placeCount;
-      used = λ i h. let z : row i ≢ 0 = seek-before 0 row placeCount i h in omega arith;
+      used = λ i h. let z : row i ≢ 0 = before 0 row placeCount i h in omega arith;
       rest = λ i h. rest i h (sought 0 row placeCount);
       distinct = apart row (seek 0 row placeCount) (λ i h. named i h .1);
     };
@@ -61,7 +62,7 @@ module _ (row : ℕ → ℕ) (out : Eight row) where
   }
     where
       named : (i : ℕ) → i < seek 0 row placeCount → GoodTriple (row i) × ((j : ℕ) → j < i → row j ≡ row i → ⊥)
-      named i h = f i (omega (arith, seek-within 0 row placeCount)) .1 (seek-before 0 row placeCount i h)
+      named i h = f i (omega (arith, seek-within 0 row placeCount)) .1 (before 0 row placeCount i h)
 
       rest : (i : ℕ) → seek 0 row placeCount ≤ i → Sought 0 row placeCount (seek 0 row placeCount) → row i ≡ 0
       rest i h (inl s) = zero-up f (seek 0 row placeCount) (i - seek 0 row placeCount) i (s .1) (omega arith)
@@ -143,7 +144,7 @@ module _ (d : Tables) (o : Bounded d) (e k y l m v b x : ℕ) (ke : k ≡ kinds 
 
     -- no more than eight are used
     pub own-room : c ≡ true → n ≤ placeCount
-    own-room t = rw ne (count-agrees d o e .to (rw (← ke, ← ne) (passes (countTest k n) (sym ce ∙ t))) .0)
+    own-room t = rw ne (count-agrees d o e .to (rw (← ke, ← ne) (is-true (countTest k n) (sym ce ∙ t))) .0)
 
     module _ (ct : c ≡ true) (p : Bool) (pe : p ≡ every placeCount (placeTest d e)) where
       -- what is left from the places on

@@ -5,10 +5,10 @@ use mathlib.Core.Path.{_∙_, _≡_, ap, refl, sym}
 use Prim.Native.Nat.{_<_, pred, suc, zero, ℕ}
 use native.Mathlib.Omega.{arith}
 use lib.Dec.{T, eqb, ltb}
-use Rattle.laws.specs.Bools.{equal-bools}
 use Rattle.laws.specs.Loops.{every-both}
 use Rattle.model.specs.Basics.Agree.{Agrees, agrees-T, agrees-and, agrees-eq, agrees-every, agrees-imp, agrees-not, agrees-range}
 use Rattle.model.specs.Basics.Choice.{Below, below, over, under}
+use Rattle.model.specs.Basics.TestLaws.{equal-bools}
 use Rattle.model.specs.Basics.Tests.{every}
 use Rattle.model.specs.State.AgreeLinks.{alone-agrees, device-agrees}
 use Rattle.model.specs.State.Check.{aloneTest, contentsTest, deviceTest, idleTest, linksTest, loopTest, oneTest, wellFormedTest}

@@ -6,10 +6,11 @@ use Prim.Native.Nat.{_<_, _≤_, suc, ℕ}
 use native.Mathlib.Omega.{arith}
 use lib.Dec.{eqb, ltb}
 use borrow.Author.Tests.{eq-eqb, le-ltb, lt-ltb, ne-eqb}
-use Rattle.laws.specs.Bools.{and-assoc, equal-bools, holds, imp-both, or-imp}
-use Rattle.laws.specs.Loops.{every-at, every-both, every-of, every-same, imp-every}
-use Rattle.model.specs.Basics.Agree.{agrees-T, agrees-imp, agrees-le}
+use Rattle.laws.specs.Bools.{and-assoc, imp-both, or-imp}
+use Rattle.laws.specs.Loops.{every-both, every-of, imp-every}
+use Rattle.model.specs.Basics.Agree.{agrees-T, agrees-imp, agrees-le, every-at}
 use Rattle.model.specs.Basics.Choice.{Below, below, over, pick, under}
+use Rattle.model.specs.Basics.TestLaws.{equal-bools, every-same, holds-true}
 use Rattle.model.specs.Basics.Tests.{every, imp}
 use Rattle.model.specs.Level.{atMost, roleCount, subset}
 use Rattle.model.specs.State.Check.{ceilingTest, containedTest, labelledTest, rolesTest, secureTest, seenTest}
@@ -72,7 +73,7 @@ places-secure d e = capped-every (counts d e) (placeSecure d e)
     shown : ℕ → Bool
     shown i = imp (ltb i (counts d e)) (labelled (sums d e i))
 
--- the same of place i, which holds x of level m, in an entity of level l; v is shown of it
+-- the same of place i, which holds-true x of level m, in an entity of level l; v is shown of it
 pub place-secure : (d : Tables) (e i x m l v : ℕ) (a b s : Bool) → x ≡ places d e i → m ≡ d .entity x level → l ≡ d .entity e level → a ≡ atMost m l
     → v ≡ sums d e i → b ≡ labelled v → s ≡ eqb (kinds d e) deviceKind → (a && (not s || b)) ≡ placeSecure d e i
 unfolding placeSecure
@@ -116,7 +117,7 @@ seen-off d u q = rw (eq-eqb (devices d u) 0 q)
 -- nor does who is on what is no entity
 seen-beyond : (d : Tables) (u : ℕ) → counts d (devices d u) ≡ 0 → seenTest d u ≡ true
 unfolding seenTest
-seen-beyond d u z = holds (seenTest d u) (agrees-imp (agrees-T (not (eqb (devices d u) 0))) (agrees-T _) .from
+seen-beyond d u z = holds-true (seenTest d u) (agrees-imp (agrees-T (not (eqb (devices d u) 0))) (agrees-T _) .from
     (λ t. every-of placeCount _ (λ i h. agrees-imp (agrees-le (suc i) (counts d (devices d u))) (agrees-T _) .from (λ l. absurd (omega arith)))))
 
 -- else the first places of the device are compared with the clearance

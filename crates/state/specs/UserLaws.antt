@@ -6,10 +6,11 @@ use Prim.Native.Nat.{_+_, _<_, pred, suc, ℕ}
 use native.Mathlib.Omega.{arith}
 use lib.Dec.{T, eqb, eqb→eq, leb, lit<, ltb}
 use borrow.Author.Tests.{eq-eqb, ne-eqb}
-use Rattle.laws.specs.Bools.{equal-bools, or-imp}
-use Rattle.laws.specs.Loops.{every-at, every-of}
-use Rattle.model.specs.Basics.Agree.{agrees-eq}
+use Rattle.laws.specs.Bools.{or-imp}
+use Rattle.laws.specs.Loops.{every-of}
+use Rattle.model.specs.Basics.Agree.{agrees-eq, every-at}
 use Rattle.model.specs.Basics.Choice.{Below, below, over, under}
+use Rattle.model.specs.Basics.TestLaws.{equal-bools}
 use Rattle.model.specs.Basics.Tests.{every, imp}
 use Rattle.model.specs.Level.{levelCount, roleSets}
 use Rattle.model.specs.State.Agree.{zero-user}

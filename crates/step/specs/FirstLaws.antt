@@ -12,7 +12,8 @@ use lib.ListN.{getD, length}
 use Rattle.ladder.specs.ClimbLaws.{good-passed, passed-hit, passed-more}
 use Rattle.ladder.specs.Contract.{Climbed, Passed, Ready, Refusing, Stepped}
 use Rattle.ladder.specs.OwnLaws.{noticed-as}
-use Rattle.laws.specs.Loops.{every-at}
+use Rattle.laws.specs.Bools.{fails}
+use Rattle.model.specs.Basics.Agree.{every-at}
 use Rattle.model.specs.Basics.Choice.{pick}
 use Rattle.model.specs.Basics.Fails.{fails-holds, fails-no}
 use Rattle.model.specs.Basics.TestLaws.{is-false}
@@ -134,12 +135,8 @@ noticed-none q op e h = go (opOf (q .operation)) refl
 -- Rule 7.1: a slice of another length
 pub other-length : (t q : List ℕ) → ((length t ≡ wordCount) × (length q ≡ requestWords) → ⊥) → Settled t q 1 t
 other-length t q n =
-    let z = unsized t q (is-false (sized t q) (go (sized t q) (λ h. n (sized-agrees t q .to h)))) in
+    let z = unsized t q (is-false (sized t q) (fails (sized t q) (λ h. n (sized-agrees t q .to h)))) in
     record { answer = sym (z .0); words = sym (z .1) }
-  where
-    go : (b : Bool) → (T b → ⊥) → b ≡ false
-    go true f = absurd (f tt)
-    go false f = refl
 
 module _ (t q : List ℕ) (a : length t ≡ wordCount) (b : length q ≡ requestWords) where
   whole : T (sized t q)

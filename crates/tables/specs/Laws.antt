@@ -6,7 +6,7 @@ use Prim.Native.Nat.{_*_, _+_, _-_, _<_, ℕ}
 use native.Mathlib.Omega.{arith}
 use lib.Dec.{eqb, eqb→eq}
 use lib.ListN.{getD, set}
-use Rattle.laws.specs.Loops.{every-at}
+use Rattle.model.specs.Basics.Agree.{every-at}
 use Rattle.model.specs.Basics.Tests.{every}
 use Rattle.model.specs.Tables.Edits.{onEntity, onUser, userWord, word}
 use Rattle.model.specs.Tables.Layout.{entityAt, entityIn, entityWidth, offset, tablesOf, userAt, userIn, userOffset, userWidth}

@@ -128,3 +128,7 @@ pub agrees-T : (b : Bool) → Agrees b (T b)
 agrees-T b = record { to = λ t. t; from = λ t. t }
 
 pub ruleset agreement = (agrees-le, agrees-eq, agrees-not, agrees-and, agrees-imp, agrees-or, agrees-every)
+
+-- what every number below n passes, i passes
+pub every-at : (n : ℕ) (p : ℕ → Bool) → T (every n p) → (i : ℕ) → i < n → T (p i)
+every-at n p = agrees-every n p (λ i. T (p i)) (λ i. agrees-T (p i)) .to

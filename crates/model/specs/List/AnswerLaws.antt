@@ -8,6 +8,7 @@ use native.Mathlib.Omega.{arith}
 use lib.Dec.{eqb}
 use lib.ListN.{length}
 use Rattle.model.specs.Basics.Choice.{pick}
+use Rattle.model.specs.Basics.TestLaws.{only}
 use Rattle.model.specs.Basics.Tests.{every, imp}
 use Rattle.model.specs.Level.{atMost, bit}
 use Rattle.model.specs.List.Further.{further}
@@ -50,11 +51,7 @@ showing-fits u (a ∷ b ∷ c ∷ e ∷ f ∷ r) l h = absurd (omega arith)
 -- a question put to the only operand
 one-operand : (k : ℕ) (x : Kind) (p : ℕ → Kind → Bool) → someOperand k (x ∷ []) p ≡ p k x
 unfolding someOperand
-one-operand k x p = go (p k x)
-  where
-    go : (b : Bool) → elim b [ true ↦ true | false ↦ false ] ≡ b
-    go true = refl
-    go false = refl
+one-operand k x p = only (p k x)
 
 -- the lowest of a list of rungs, from the first of them and the lowest of the others
 lowest-first : (n : ℕ) (x : Rung) (xs : List Rung) (d : Tables) (q : Request) (b : Bool) (m : ℕ) → x d q ≡ b → lowest (suc n) xs d q ≡ m

@@ -16,15 +16,16 @@ use Rattle.model.specs.Request.Asked.{HasRole, hasRole}
 use Rattle.model.specs.Request.Conditions.{onScreen}
 use Rattle.model.specs.Request.Ladder.{bars, permits}
 use Rattle.model.specs.State.Agree.{wellFormed-bounded}
-use Rattle.model.specs.State.AgreeLinks.{boxed, member-agrees, parent-holds, parent-top}
+use Rattle.model.specs.State.AgreeLinks.{member-agrees}
 use Rattle.model.specs.State.Check.{parent}
 use Rattle.model.specs.State.Climb.{climb}
 use Rattle.model.specs.State.ClimbLaws.{climb-complete, climb-sound, complete}
 use Rattle.model.specs.State.Depth.{Within}
+use Rattle.model.specs.State.ParentLaws.{parent-held, parent-none, parent-range}
 use Rattle.model.specs.State.WellFormed.{Holds, InTables, WellFormed}
 use Rattle.model.specs.Tables.Layout.{Bounded}
 use Rattle.model.specs.Tables.Rows.{Member, seek}
-use Rattle.model.specs.Tables.Words.{Tables, clearance, count, counts, current, device, deviceKind, devices, entityCount, kind, kinds}
+use Rattle.model.specs.Tables.Words.{Tables, clearance, counts, current, device, deviceKind, devices, entityCount, kind, kinds}
 use Rattle.model.specs.Tables.Words.{level, mark, placeCount, places, tripleOf, triples, userCount, whoRole}
 
 -- Rule 5.6: the test is of current roles.
@@ -88,28 +89,13 @@ module _ (d : Tables) (w : WellFormed d) where
   -- Rule 6.3: the container is the entity, or inside it at any depth.
   pub inside-agrees : (c e : ℕ) → Agrees (climb (parent (kinds d) (counts d) (places d)) (suc entityCount) c e) (Within (InTables d) c e)
   inside-agrees c e = record {
-    to = climb-sound entityCount (InTables d) par top holds one range (suc entityCount) c e;
-    from = climb-complete entityCount (InTables d) par top holds one range (suc entityCount) c e
-        (complete entityCount (InTables d) par top holds one range (w .links .noLoop) c);
+    to = climb-sound entityCount (InTables d) par (parent-none d w) (parent-held d w) one (parent-range d w) (suc entityCount) c e;
+    from = climb-complete entityCount (InTables d) par (parent-none d w) (parent-held d w) one (parent-range d w) (suc entityCount) c e
+        (complete entityCount (InTables d) par (parent-none d w) (parent-held d w) one (parent-range d w) (w .links .noLoop) c);
   }
     where
       par : ℕ → ℕ
       par = parent (kinds d) (counts d) (places d)
 
-      out : (e : ℕ) → (e ≡ 0) ⊎ (entityCount < e) → (kinds d e ≡ 0) × (counts d e ≡ 0)
-      out e r = (bound .entityOut e r kind, bound .entityOut e r count)
-
-      room : (e : ℕ) → counts d e ≤ placeCount
-      room e = w .entities e .filled .packed .room
-
-      top : (a : ℕ) → par a ≡ 0 → (x : ℕ) → InTables d x a → ⊥
-      top = parent-top (kinds d) (counts d) (places d) (devices d) out (λ u r. bound .userOut u r device) room
-
-      holds : (a : ℕ) → par a ≢ 0 → InTables d (par a) a
-      holds = parent-holds (kinds d) (counts d) (places d) (devices d) out (λ u r. bound .userOut u r device) room
-
       one : (a x y : ℕ) → InTables d x a → InTables d y a → x ≡ y
       one = w .links .oneContainer
-
-      range : (x a : ℕ) → InTables d x a → (1 ≤ x) × (x ≤ entityCount)
-      range = boxed (kinds d) (counts d) (places d) (devices d) out (λ u r. bound .userOut u r device) room

@@ -3,7 +3,7 @@ use mathlib.Core.Bool.{Bool, false, true}
 use mathlib.Core.List.{List}
 use mathlib.Core.Logic.{_≢_, _⊎_, inl, inr}
 use mathlib.Core.Path.{_≡_, refl, subst}
-use Prim.Native.Nat.{_<_, _≤_, ℕ}
+use Prim.Native.Nat.{_<_, ℕ}
 use native.Mathlib.Omega.{arith}
 use lib.Dec.{T, eqb}
 use lib.ListN.{length}
@@ -14,28 +14,23 @@ use Rattle.model.specs.Level.{AtMost, Subset, roleCount, subset}
 use Rattle.model.specs.State.Agree.{wellFormed-agrees, wellFormed-bounded}
 use Rattle.model.specs.State.Check.{ceilingTest, check, containedTest, judge, labelledTest, rolesTest, secureTest, seenTest}
 use Rattle.model.specs.State.Check.{wellFormedTest}
+use Rattle.model.specs.State.ParentLaws.{entity-out, row-room}
 use Rattle.model.specs.State.Secure.{Good, Secure, labelled}
 use Rattle.model.specs.State.WellFormed.{Holds, WellFormed}
 use Rattle.model.specs.Tables.EditLaws.{case}
 use Rattle.model.specs.Tables.Layout.{Bounded, tablesOf, wordCount}
 use Rattle.model.specs.Tables.LayoutLaws.{bounded}
-use Rattle.model.specs.Tables.Words.{Tables, authorised, clearance, count, counts, current, device, deviceKind, devices, entityCount}
-use Rattle.model.specs.Tables.Words.{kind, kinds, level, maximum, placeCount, places, sums, userCount}
+use Rattle.model.specs.Tables.Words.{Tables, authorised, clearance, counts, current, device, deviceKind, devices, entityCount}
+use Rattle.model.specs.Tables.Words.{kinds, level, maximum, placeCount, places, sums, userCount}
 
 module _ (d : Tables) (w : WellFormed d) where
   o : Bounded d
   o = wellFormed-bounded d w
 
-  no-entity : (e : ℕ) → (e ≡ 0) ⊎ (entityCount < e) → (kinds d e ≡ 0) × (counts d e ≡ 0)
-  no-entity e q = (o .entityOut e q kind, o .entityOut e q count)
-
-  room : (e : ℕ) → counts d e ≤ placeCount
-  room e = w .entities e .filled .packed .room
-
   contained-agrees : (e : ℕ) → Agrees (containedTest d e) ((c : ℕ) → Holds d e c → AtMost (d .entity c level) (d .entity e level))
   unfolding containedTest
   contained-agrees e = agrees-as {P = (i : ℕ) → i < placeCount → i < counts d e → AtMost (d .entity (places d e i) level) (d .entity e level)}
-      (λ f c m. subst (λ (y : ℕ). AtMost (d .entity y level) (d .entity e level)) (m .2) (f (m .0) (omega (arith, m .1, room e)) (m .1)))
+      (λ f c m. subst (λ (y : ℕ). AtMost (d .entity y level) (d .entity e level)) (m .2) (f (m .0) (omega (arith, m .1, row-room d w e)) (m .1)))
       (λ s i h l. s (places d e i) (i, l, refl))
       (search (agreement, agrees-T))
 
@@ -44,14 +39,14 @@ module _ (d : Tables) (w : WellFormed d) where
   unfolding seenTest
   seen-agrees u = agrees-as {P = devices d u ≢ 0 → (i : ℕ) → i < placeCount → i < counts d (devices d u) → AtMost
       (d .entity (places d (devices d u) i) level) (d .user u clearance)}
-      (λ f c n m. subst (λ (y : ℕ). AtMost (d .entity y level) (d .user u clearance)) (m .2) (f n (m .0) (omega (arith, m .1, room (devices d u))) (m .1)))
+      (λ f c n m. subst (λ (y : ℕ). AtMost (d .entity y level) (d .user u clearance)) (m .2) (f n (m .0) (omega (arith, m .1, row-room d w (devices d u))) (m .1)))
       (λ s n i h l. s (places d (devices d u) i) n (i, l, refl))
       (search (agreement, agrees-T))
 
   labelled-agrees : (e : ℕ) → Agrees (labelledTest d e) ((i : ℕ) → kinds d e ≡ deviceKind → i < counts d e → T (labelled (sums d e i)))
   unfolding labelledTest
   labelled-agrees e = agrees-as {P = kinds d e ≡ deviceKind → (i : ℕ) → i < placeCount → i < counts d e → T (labelled (sums d e i))}
-      (λ f i k l. f k i (omega (arith, room e)) l)
+      (λ f i k l. f k i (omega (arith, row-room d w e)) l)
       (λ s k i h l. s i k l)
       (search (agreement, agrees-T))
 
@@ -75,16 +70,16 @@ module _ (d : Tables) (w : WellFormed d) where
       (λ z. record { contained = z .0; seen = z .1 .0; valueLabelled = z .1 .1 .0; roles = z .1 .1 .1 .0; ceiling = z .1 .1 .1 .1 })
       (λ s. (s .contained, (s .seen, (s .valueLabelled, (s .roles, s .ceiling)))))
       (agrees-and (agrees-range entityCount (containedTest d) (λ e. (c : ℕ) → Holds d e c → AtMost (d .entity c level) (d .entity e level)) contained-agrees
-      (λ c m. absurd (omega (arith, m .1, no-entity 0 (inl refl)))) (λ e q c m. absurd (omega (arith, m .1, no-entity e (inr q)))))
+      (λ c m. absurd (omega (arith, m .1, entity-out d w 0 (inl refl)))) (λ e q c m. absurd (omega (arith, m .1, entity-out d w e (inr q)))))
       (agrees-and (agrees-range userCount (seenTest d) (λ u. (c : ℕ) → devices d u ≢ 0 → Holds d (devices d u) c → AtMost (d .entity c level)
       (d .user u clearance)) seen-agrees
       (λ c n m. absurd (n (o .userOut 0 (inl refl) device))) (λ u q c n m. absurd (n (o .userOut u (inr q) device))))
       (agrees-and (agrees-range entityCount (labelledTest d) (λ e. (i : ℕ) → kinds d e ≡ deviceKind → i < counts d e → T (labelled (sums d e i))) labelled-agrees
-      (λ i k l. absurd (omega (arith, no-entity 0 (inl refl)))) (λ e q i k l. absurd (omega (arith, no-entity e (inr q)))))
+      (λ i k l. absurd (omega (arith, entity-out d w 0 (inl refl)))) (λ e q i k l. absurd (omega (arith, entity-out d w e (inr q)))))
       (agrees-and (agrees-range userCount (rolesTest d) (λ u. Subset roleCount (d .user u current) (d .user u authorised)) roles-agrees
       (no-roles 0 (inl refl)) (λ u q. no-roles u (inr q)))
       (agrees-range entityCount (ceilingTest d) (λ e. kinds d e ≡ deviceKind → AtMost (d .entity e level) (d .entity e maximum)) ceiling-agrees
-      (λ k. absurd (omega (arith, no-entity 0 (inl refl)))) (λ e q k. absurd (omega (arith, no-entity e (inr q)))))))))
+      (λ k. absurd (omega (arith, entity-out d w 0 (inl refl)))) (λ e q k. absurd (omega (arith, entity-out d w e (inr q)))))))))
     where
       no-roles : (u : ℕ) → (u ≡ 0) ⊎ (userCount < u) → Subset roleCount (d .user u current) (d .user u authorised)
       no-roles u q = rw (o .userOut u q current) (subset-zero roleCount (d .user u authorised))

@@ -1,10 +1,9 @@
 -- A word is known by its tag and its place in a row, and by its offset in the record; every offset is that of a word.
-use mathlib.Core.Bool.{Bool}
 use mathlib.Core.Path.{_∙_, _≡_, ap₂, refl, sym}
 use Prim.Native.Nat.{_%_, _+_, _-_, _/_, _<_, min, ℕ}
 use native.Mathlib.Omega.{arith}
-use lib.Dec.{T, eqb, eqb→eq, ltb, ltb→lt}
-use Rattle.model.specs.Basics.Agree.{agrees-T, agrees-every}
+use lib.Dec.{eqb, eqb→eq, ltb, ltb→lt}
+use Rattle.model.specs.Basics.Agree.{every-at}
 use Rattle.model.specs.Basics.Tests.{every}
 use Rattle.model.specs.Tables.Layout.{entityWidth, offset, userOffset, userWidth}
 use Rattle.model.specs.Tables.WordAt.{entityWordAt, entityWordOf, userWordAt, userWordOf}
@@ -89,21 +88,17 @@ pub entity-word-back : (f : EntityWord) → index f < placeCount → entityWordA
 unfolding entityWordAt
 entity-word-back f h = ap₂ entityWordOf (entity-parts f h .0) (entity-parts f h .1) ∙ entity-word-of f
 
--- what every number below n passes, i passes
-passes : (n : ℕ) (p : ℕ → Bool) → T (every n p) → (i : ℕ) → i < n → T (p i)
-passes n p = agrees-every n p (λ i. T (p i)) (λ i. agrees-T (p i)) .to
-
 -- every offset below a user's width is that of the word at it
 pub user-offset-at : (m : ℕ) → m < userWidth → userOffset (userWordAt m) ≡ m
 unfolding every userWordAt userWordOf
-user-offset-at m h = eqb→eq (userOffset (userWordAt m)) m (passes userWidth (λ i. eqb (userOffset (userWordAt i)) i) tt m h)
+user-offset-at m h = eqb→eq (userOffset (userWordAt m)) m (every-at userWidth (λ i. eqb (userOffset (userWordAt i)) i) tt m h)
 
 -- every offset below an entity's width is that of the word at it
 pub offset-at : (m : ℕ) → m < entityWidth → offset (entityWordAt m) ≡ m
 unfolding every entityWordAt entityWordOf
-offset-at m h = eqb→eq (offset (entityWordAt m)) m (passes entityWidth (λ i. eqb (offset (entityWordAt i)) i) tt m h)
+offset-at m h = eqb→eq (offset (entityWordAt m)) m (every-at entityWidth (λ i. eqb (offset (entityWordAt i)) i) tt m h)
 
 -- and that word is among the first eight places of its row
 pub index-below : (m : ℕ) → m < entityWidth → index (entityWordAt m) < placeCount
 unfolding every entityWordAt entityWordOf
-index-below m h = ltb→lt (index (entityWordAt m)) placeCount (passes entityWidth (λ i. ltb (index (entityWordAt i)) placeCount) tt m h)
+index-below m h = ltb→lt (index (entityWordAt m)) placeCount (every-at entityWidth (λ i. ltb (index (entityWordAt i)) placeCount) tt m h)

@@ -4,7 +4,7 @@ use mathlib.Core.Path.{_≡_, refl}
 use Prim.Native.Nat.{ℕ}
 use lib.Dec.{T, eqb}
 use Rattle.model.specs.Basics.Choice.{pick}
-use Rattle.model.specs.Basics.TestLaws.{and-l}
+use Rattle.model.specs.Basics.TestLaws.{T-l}
 use Rattle.model.specs.Tables.Edits.{Edit, _and_, edited, onEntity, onUser, row, userWord, word, written}
 use Rattle.model.specs.Tables.Words.{EntityWord, Tables, UserWord, index, tag, userIndex, userTag}
 use Rattle.model.specs.Theorem.MayChange.{userWordIs, wordOrRow}
@@ -26,7 +26,7 @@ pub record TouchesOnly {W : Type 0} (E : Edit W) (words : W → Bool) : Type 0 w
 
 -- One word of an entity is all that an edit of that word touches.
 pub word-only : (g : EntityWord) {v : ℕ} → TouchesOnly (word g v) (wordOrRow g)
-word-only g = record { only = λ f. and-l (eqb (tag f) (tag g)) (eqb (index f) (index g)) }
+word-only g = record { only = λ f. T-l (eqb (tag f) (tag g)) (eqb (index f) (index g)) }
 
 -- A row of an entity is all that an edit of that row touches.
 pub row-only : (g : ℕ → EntityWord) (r : ℕ → ℕ) → TouchesOnly (row g r) (wordOrRow (g 0))
@@ -34,7 +34,7 @@ row-only g r = record { only = λ f t. t }
 
 -- One word of a user is all that an edit of that word touches.
 pub user-word-only : (g : UserWord) {v : ℕ} → TouchesOnly (userWord g v) (userWordIs g)
-user-word-only g = record { only = λ f. and-l (eqb (userTag f) (userTag g)) (eqb (userIndex f) (userIndex g)) }
+user-word-only g = record { only = λ f. T-l (eqb (userTag f) (userTag g)) (eqb (userIndex f) (userIndex g)) }
 
 -- Two edits together touch what the one touches and what the other touches.
 pub both-only : {W : Type 0} {A B : Edit W} {a b : W → Bool} → TouchesOnly A a → TouchesOnly B b → TouchesOnly (A and B) (λ f. a f || b f)
