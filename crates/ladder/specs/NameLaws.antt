@@ -46,7 +46,7 @@ part-names q k m n e h z l =
     ∙ take-four n (getD q m 0) (getD q (suc m) 0) (getD q (suc (suc m)) 0) (getD q (suc (suc (suc m))) 0) (drop (suc (suc (suc (suc m)))) q) l
     ∙ rw (a, b, c, x, z)
 
--- a request that is-true rung 5 fits its operation
+-- a request that passes rung 5 fits its operation
 fitting : (d : Tables) (q : Request) (o : Op) → Passed 5 d q → opOf (q .operation) ≡ some o → T (fits o q)
 unfolding applies rungAt never ladder notUnderstood ofOp
 fitting d q o p e = subst (λ (m : Option Op). T (elim m [ none ↦ false | some o ↦ fits o q ])) e

@@ -129,7 +129,7 @@ imp-both true a k b = refl
 imp-both false a true b = refl
 imp-both false a false b = refl
 
--- "where a and z, then b" holds-true once "not a, or b" does
+-- "where a and z, then b" holds once "not a, or b" does
 pub imp-quiet : (a b z : Bool) → (not a || b) ≡ true → imp a (imp z b) ≡ true
 unfolding imp
 imp-quiet true b true h = h

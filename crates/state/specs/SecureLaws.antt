@@ -73,7 +73,7 @@ places-secure d e = capped-every (counts d e) (placeSecure d e)
     shown : ℕ → Bool
     shown i = imp (ltb i (counts d e)) (labelled (sums d e i))
 
--- the same of place i, which holds-true x of level m, in an entity of level l; v is shown of it
+-- the same of place i, which holds x of level m, in an entity of level l; v is shown of it
 pub place-secure : (d : Tables) (e i x m l v : ℕ) (a b s : Bool) → x ≡ places d e i → m ≡ d .entity x level → l ≡ d .entity e level → a ≡ atMost m l
     → v ≡ sums d e i → b ≡ labelled v → s ≡ eqb (kinds d e) deviceKind → (a && (not s || b)) ≡ placeSecure d e i
 unfolding placeSecure
