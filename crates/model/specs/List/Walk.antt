@@ -15,7 +15,7 @@ through zero f = []
 through (suc n) f = through n f ++ map (λ r. suc n ∷ r) (f (suc n))
 
 module _ (ways : ℕ → ℕ) (next : ℕ → ℕ → ℕ) (good : ℕ → Bool) where
-  -- A visit of an entity, then of its places, with one name fewer left: the continuations from e by at most k names.
+  -- The continuations from e by at most k names: e itself, then what each of its ways leads to by at most k - 1.
   unfoldable pub visit : ℕ → ℕ → List (List ℕ)
   visit zero e = here (good e)
   visit (suc k) e = here (good e) ++ through (ways e) (λ p. visit k (next e p))
