@@ -8,5 +8,7 @@ pub mod State
 pub mod Effect
 pub mod Request
 pub mod List
+pub mod Text
+pub mod Script
 pub mod Theorem
 pub mod Case

@@ -1,0 +1,25 @@
+-- Rules 12.2 to 12.4: a script is request after request, and each is answered by the tables that the requests before it have left.
+use mathlib.Core.List.{List, [], _++_, _∷_}
+use mathlib.Core.Path.{_≡_}
+use Prim.Native.Nat.{ℕ}
+use Rattle.model.specs.Request.Step.{afterOf}
+use Rattle.model.specs.Script.Reports.{Report, output, report, unread}
+use Rattle.model.specs.Text.Wording.{Wording, badLine, lines, readSeven, sixteen}
+
+-- Runs t s rs t′ s′: from the tables t on, the script s is answered with rs as far as s′, and then the tables are t′. A request's report is that of the
+-- tables it finds, and the next request finds what it leaves.
+pub data Runs : List ℕ → List ℕ → List Report → List ℕ → List ℕ → Type 0 where
+  stay : {t s : List ℕ} → Runs t s [] t s
+  turn : {t s x t′ s′ : List ℕ} {m : Wording} {rs : List Report} → readSeven s ≡ lines m x → Runs (afterOf t (sixteen m)) x rs t′ s′
+      → Runs t s (report t (sixteen m) ∷ rs) t′ s′
+
+-- Rules 12.2 and 12.4: all of a script: to its end, or to the first request that cannot be read, which is answered 18 and is the last.
+pub data Answered (t s : List ℕ) : List Report → Type 0 where
+  whole : {t′ : List ℕ} {rs : List Report} → Runs t s rs t′ [] → Answered t s rs
+  cut : {t′ x : List ℕ} {b k : ℕ} {rs : List Report} → Runs t s rs t′ (b ∷ x) → readSeven (b ∷ x) ≡ badLine k → Answered t s (rs ++ (unread ∷ []))
+
+-- Rule 12: what the program writes, o, of the tables t and the script s.
+pub record Writes (t s o : List ℕ) : Type 0 where
+  pub reports : List Report
+  pub answered : Answered t s reports
+  pub written : o ≡ output reports

@@ -1,0 +1,25 @@
+-- Rules 12.1 and 12.5: the tables as the bytes of a file.
+use mathlib.Core.List.{List, []}
+use Prim.Native.Nat.{_*_, _+_, ℕ}
+use lib.Dec.{eqb}
+use lib.ListN.{getD, length}
+use Rattle.model.specs.Basics.Choice.{pick}
+use Rattle.model.specs.Tables.Layout.{wordCount}
+use Rattle.model.specs.Tables.WordsOf.{firstValues}
+
+-- Rule 12.1: a word has four bytes, and the file 9,216.
+abbrev pub wordBytes : ℕ
+wordBytes = 4
+
+abbrev pub fileBytes : ℕ
+fileBytes = 9216
+
+-- Rule 12.1: word i of the bytes s, the lowest byte first.
+abbrev pub wordIn : List ℕ → ℕ → ℕ
+wordIn s i =
+    getD s (wordBytes * i) 0 + 256 * getD s (wordBytes * i + 1) 0
+    + 65536 * getD s (wordBytes * i + 2) 0 + 16777216 * getD s (wordBytes * i + 3) 0
+
+-- Rules 12.1 and 12.5: the tables that a file gives. Where its size is another there are none, and so no request finds 2,304 words.
+unfoldable pub stateOf : List ℕ → List ℕ
+stateOf s = pick (eqb (length s) fileBytes) (firstValues wordCount (wordIn s)) []
