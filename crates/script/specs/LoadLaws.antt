@@ -1,0 +1,42 @@
+-- The tables of a state file, filled word by word.
+use mathlib.Core.List.{List, [], _++_, _∷_}
+use mathlib.Core.Path.{_∙_, _≡_, ap, refl, subst, sym}
+use Prim.Native.Nat.{_+_, _<_, suc, zero, ℕ}
+use native.Mathlib.Omega.{arith}
+use native.Mathlib.Numerals.{add-one}
+use lib.ListN.{length, length-set, set, take}
+use lib.Seq.{getD-set-same, take-set-le, take-suc}
+use borrow.Author.Tests.{eq-eqb, ne-eqb}
+use Rattle.model.specs.Script.State.{fileBytes, stateOf, wordIn}
+use Rattle.model.specs.Tables.Layout.{wordCount}
+use Rattle.model.specs.Tables.WordsOf.{firstValues}
+
+-- one value more
+values-more : (n : ℕ) (g : ℕ → ℕ) → firstValues (suc n) g ≡ firstValues n g ++ (g n ∷ [])
+unfolding firstValues
+values-more zero g = refl
+values-more (suc n) g = ap (λ (l : List ℕ). g 0 ∷ l) (values-more n (λ i. g (suc i)))
+
+-- nothing is filled yet
+pub filled-none : (g : ℕ → ℕ) → [] ≡ firstValues 0 g
+unfolding firstValues
+filled-none g = refl
+
+-- the first i words are filled, and now word i is
+pub filled-more : (r : List ℕ) (g : ℕ → ℕ) (i v : ℕ) → i < length r → take i r ≡ firstValues i g → v ≡ g i
+    → take (i + 1) (set r i v) ≡ firstValues (i + 1) g
+filled-more r g i v h e q =
+    let z : i + 0 ≡ i = omega arith in
+    let kept : take i (set r i v) ≡ take i r = ap (λ (j : ℕ). take i (set r j v)) (sym z) ∙ take-set-le i r (i + 0) v (omega arith) in
+    rw (add-one i) (take-suc (set r i v) i 0 (rw (length-set r i v) h)
+    ∙ rw (kept, getD-set-same r i v 0 h, e, q) (sym (values-more i g)))
+
+-- all words are filled
+pub filled-all : (s r : List ℕ) (i : ℕ) → length s ≡ fileBytes → i ≡ wordCount → take i r ≡ firstValues i (wordIn s) → take wordCount r ≡ stateOf s
+unfolding stateOf
+filled-all s r i h n e = rw (eq-eqb (length s) fileBytes h) (subst (λ (k : ℕ). take k r ≡ firstValues k (wordIn s)) n e)
+
+-- a file of another size has no words
+pub filled-other : (s : List ℕ) → (length s ≡ fileBytes → ⊥) → [] ≡ stateOf s
+unfolding stateOf
+filled-other s h = rw (ne-eqb (length s) fileBytes h) refl

@@ -1,0 +1,2 @@
+// The program's work on bytes: the tables of a state file, a turn of the script, and a run of what has arrived of it.
+pub mod state;
