@@ -1,2 +1,3 @@
-// Numbers and lines of text, for any key: what writes them and what reads them.
+// Lines of text, for any key: a key, an equals sign, a value and LF, and the decimal numbers that stand in them.
+pub mod reading;
 pub mod writing;

@@ -1,0 +1,126 @@
+use mathlib.Core.Path.{_≡_, _∙_}
+use Prim.Native.Nat.{_-_, _≤_}
+use native.Mathlib.Omega.{arith}
+use lib.ListN.{drop, length}
+use borrow.Author.Needs.{needs}
+use Rattle.lines.specs.NumberAtLaws.{high, low, more-end, more-other, more-over, more-turn, number-bad, number-end, number-first, number-got, number-other, number-zero}
+use Rattle.model.specs.Text.Numbers.{more, most, number}
+use Rattle.lines.proofs.reading.read_number.Statement.{statement}
+use Rattle.lines.proofs.reading.read_number.Tie as tie
+use Rattle.lines.proofs.reading.read_number.Reads as reads
+use Rattle.lines.proofs.reading.read_number.Lts as lts
+use Rattle.lines.proofs.reading.value.Reads as value-reads
+use Rattle.lines.proofs.reading.wide.Reads as wide-reads
+
+abbrev Inv-loop : tie.InvT-loop
+Inv-loop s at first i₀ v₀ i v = (i ≤ length s) × (v ≤ most) × (number (drop at s) ≡ more v (drop i s))
+
+abbrev μ-loop : tie.MeasureT-loop
+μ-loop s at first i₀ v₀ i v = length s - i
+
+returns : tie.Need-returns Inv-loop μ-loop
+returns c = number-bad (number-end _ _ (c .if1 .taken))
+
+shared-slice-read-first : tie.Need-shared-slice-read-first Inv-loop μ-loop
+shared-slice-read-first c = search needs
+
+returns-2 : tie.Need-returns-2 Inv-loop μ-loop
+returns-2 c = number-bad (number-other _ _ (c .before .before .if1 .left) (low _ (c .if2 .taken)))
+
+returns-3 : tie.Need-returns-3 Inv-loop μ-loop
+returns-3 c = number-bad (number-other _ _ (c .before .before .before .if1 .left) (high _ (c .if3 .taken)))
+
+add-i : tie.Need-add-i Inv-loop μ-loop
+add-i c = search needs
+
+value-requires : tie.Need-value-requires Inv-loop μ-loop
+value-requires c κs = search needs
+
+returns-4 : tie.Need-returns-4 Inv-loop μ-loop
+returns-4 c = number-got (c .value .ensures) (omega arith) (number-zero _ _ (c .before .before .before .before .before .if1 .left) (c .before .if4 .taken))
+
+wide-requires : tie.Need-wide-requires Inv-loop μ-loop
+wide-requires c κs = search needs
+
+sub-v : tie.Need-sub-v Inv-loop μ-loop
+sub-v c = search needs
+
+loop-holds : tie.Need-loop-holds Inv-loop μ-loop
+loop-holds c = (omega arith, omega (arith, c .wide .ensures, c .before .before .if3 .left), rw (c .wide .ensures) (number-first _ _ (c .before .before .before .before .before .if1 .left) (c .before .before .before .if2 .left) (c .before .before .if3 .left) (c .before .if4 .left)))
+
+shared-slice-read-b : tie.Need-shared-slice-read-b Inv-loop μ-loop
+shared-slice-read-b c = search needs
+
+value-requires-2 : tie.Need-value-requires-2 Inv-loop μ-loop
+value-requires-2 c κs = search needs
+
+returns-5 : tie.Need-returns-5 Inv-loop μ-loop
+returns-5 c = number-got (c .value2 .ensures) (c .before .before .before .before .loop .inv .0) (c .before .before .before .before .loop .inv .2 ∙ more-other _ _ _ (c .before .before .before .loop-test .taken) (low _ (c .before .if5 .taken)))
+
+value-requires-3 : tie.Need-value-requires-3 Inv-loop μ-loop
+value-requires-3 c κs = search needs
+
+returns-6 : tie.Need-returns-6 Inv-loop μ-loop
+returns-6 c = number-got (c .value3 .ensures) (c .before .before .before .before .before .loop .inv .0) (c .before .before .before .before .before .loop .inv .2 ∙ more-other _ _ _ (c .before .before .before .before .loop-test .taken) (high _ (c .before .if6 .taken)))
+
+mul-v : tie.Need-mul-v Inv-loop μ-loop
+mul-v c = search needs
+
+wide-requires-2 : tie.Need-wide-requires-2 Inv-loop μ-loop
+wide-requires-2 c κs = search needs
+
+sub-v-2 : tie.Need-sub-v-2 Inv-loop μ-loop
+sub-v-2 c = search needs
+
+add-v : tie.Need-add-v Inv-loop μ-loop
+add-v c = search needs
+
+returns-7 : tie.Need-returns-7 Inv-loop μ-loop
+returns-7 c = number-bad (c .before .before .before .before .before .before .loop .inv .2 ∙ more-over _ _ _ (c .before .before .before .before .before .loop-test .taken) (c .before .before .before .if5 .left) (c .before .before .if6 .left) (rw (c .before .wide2 .ensures) at (c .if7 .taken)))
+
+add-i-2 : tie.Need-add-i-2 Inv-loop μ-loop
+add-i-2 c = search needs
+
+loop-less : tie.Need-loop-less Inv-loop μ-loop
+loop-less c = search needs
+
+loop-again : tie.Need-loop-again Inv-loop μ-loop
+loop-again c = (omega arith, c .if7 .left, rw (c .before .wide2 .ensures) (c .before .before .before .before .before .before .loop .inv .2 ∙ more-turn _ _ _ (c .before .before .before .before .before .loop-test .taken) (c .before .before .before .if5 .left) (c .before .before .if6 .left) (rw (c .before .wide2 .ensures) at (c .if7 .left))))
+
+value-requires-4 : tie.Need-value-requires-4 Inv-loop μ-loop
+value-requires-4 c κs = search needs
+
+returns-8 : tie.Need-returns-8 Inv-loop μ-loop
+returns-8 c = number-got (c .value4 .ensures) (c .before .before .loop .inv .0) (c .before .before .loop .inv .2 ∙ more-end _ _ _ (c .before .loop-test .left))
+
+pub read-number-spec : {M : Type 1} → statement M
+read-number-spec =
+    tie.close
+    (tie.spec
+    Inv-loop
+    μ-loop
+    returns
+    shared-slice-read-first
+    returns-2
+    returns-3
+    add-i
+    value-requires
+    returns-4
+    wide-requires
+    sub-v
+    loop-holds
+    shared-slice-read-b
+    value-requires-2
+    returns-5
+    value-requires-3
+    returns-6
+    mul-v
+    wide-requires-2
+    sub-v-2
+    add-v
+    returns-7
+    add-i-2
+    loop-less
+    loop-again
+    value-requires-4
+    returns-8)

@@ -1,0 +1,110 @@
+// Reading numbers and lines at an index of some bytes. Every answer says where reading goes on, or that what was looked for is not there.
+ghost use mathlib.Core.Path.{_≡_};
+ghost use Prim.Native.Nat.{_≤_};
+ghost use lib.ListN.{length};
+ghost use Rattle.lines.specs.LineAt.{KeyAt, LineAt};
+ghost use Rattle.lines.specs.NumberAt.{NumberAt};
+ghost use Rattle.lines.specs.declared.reading.Number.the-variants.{Value};
+ghost use Rattle.model.specs.Text.Numbers.{most};
+
+// A number and the index behind it, or that there is none.
+pub enum Number {
+    Value { v: u32, next: usize },
+    Bad,
+}
+
+// The index behind a key, or that it does not stand there.
+pub enum Found {
+    At(usize),
+    Nothing,
+}
+
+// A byte as a number that a digit can be put behind.
+fn wide(b: u8) -> u64
+    ensures { λ r. ⌜ r ≡ b ⌝ }
+{
+    b as u64
+}
+
+// The answer for a number that fits.
+fn value(v: u64, next: usize) -> Number
+    requires { ⌜ v ≤ most ⌝ }
+    ensures { λ r. ⌜ r ≡ Value v next ⌝ }
+{
+    let n = v as u32;
+    Number::Value { v: n, next }
+}
+
+// The number at an index: 0 alone, or digits of which the first is not 0, as far as they go and up to 4,294,967,295.
+pub fn read_number(s: &[u8], at: usize) -> Number
+    requires { ⌜ at ≤ length (now s) ⌝ }
+    ensures { λ r. ⌜ NumberAt (now (s .entry)) at r ⌝ }
+{
+    if s.len() <= at {
+        return Number::Bad;
+    }
+    let first = s[at];
+    if first < 48 {
+        return Number::Bad;
+    }
+    if 57 < first {
+        return Number::Bad;
+    }
+    let mut i = at + 1;
+    if first == 48 {
+        return value(0, i);
+    }
+    let mut v = wide(first) - 48;
+    while i < s.len() {
+        let b = s[i];
+        if b < 48 {
+            return value(v, i);
+        }
+        if 57 < b {
+            return value(v, i);
+        }
+        v = v * 10 + (wide(b) - 48);
+        if 4294967295 < v {
+            return Number::Bad;
+        }
+        i += 1;
+    }
+    value(v, i)
+}
+
+// The index behind a key that stands at an index.
+pub fn read_key(s: &[u8], at: usize, key: &[u8]) -> Found
+    requires { ⌜ at ≤ length (now s) ⌝ }
+    ensures { λ r. ⌜ KeyAt (now (s .entry)) at (now (key .entry)) r ⌝ }
+{
+    let mut i = 0;
+    let mut j = at;
+    while i < key.len() {
+        if s.len() <= j {
+            return Found::Nothing;
+        }
+        if s[j] != key[i] {
+            return Found::Nothing;
+        }
+        i += 1;
+        j += 1;
+    }
+    Found::At(j)
+}
+
+// The number of the line at an index: the key, the number and LF. The answer's index is that behind the line.
+pub fn read_line(s: &[u8], at: usize, key: &[u8]) -> Number
+    requires { ⌜ at ≤ length (now s) ⌝ }
+    ensures { λ r. ⌜ LineAt (now (s .entry)) at (now (key .entry)) r ⌝ }
+{
+    let Found::At(i) = read_key(s, at, key) else {
+        return Number::Bad;
+    };
+    let Number::Value { v, next } = read_number(s, i) else {
+        return Number::Bad;
+    };
+    let Found::At(j) = read_key(s, next, b"\n") else {
+        return Number::Bad;
+    };
+    Number::Value { v, next: j }
+}
