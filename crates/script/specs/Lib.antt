@@ -1,1 +1,3 @@
 pub mod LoadLaws
+pub mod Reported
+pub mod ReportLaws

@@ -1,0 +1,22 @@
+use borrow.Author.Needs.{needs}
+use Rattle.script.proofs.reports.full.Statement.{statement}
+use Rattle.script.proofs.reports.full.Tie as tie
+use Rattle.script.proofs.reports.full.Reads as reads
+use Rattle.script.proofs.reports.full.Lts as lts
+use Rattle.tables.proofs.held.Reads as held-reads
+use Rattle.tables.proofs.missed.Reads as missed-reads
+
+-- src/reports.rt:39:15
+held-requires : tie.Need-held-requires
+held-requires c κs = search needs
+
+-- src/reports.rt:40:17
+missed-requires : tie.Need-missed-requires
+missed-requires c κs = search needs
+
+-- src/reports.rt:32:1
+returns : tie.Need-returns
+returns c = ?
+
+pub full-spec : {M : Type 1} → statement M
+full-spec = tie.close (tie.spec held-requires missed-requires returns)

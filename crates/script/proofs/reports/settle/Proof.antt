@@ -1,0 +1,73 @@
+use borrow.Author.Needs.{needs}
+use Rattle.script.proofs.reports.settle.Statement.{statement}
+use Rattle.script.proofs.reports.settle.Tie as tie
+use Rattle.script.proofs.reports.settle.Reads as reads
+use Rattle.script.proofs.reports.settle.Lts as lts
+use Rattle.script.proofs.reports.bare.Reads as bare-reads
+use Rattle.script.proofs.reports.full.Reads as full-reads
+use Rattle.step.proofs.step.Reads as step-reads
+
+-- src/reports.rt:48:9
+step-requires : tie.Need-step-requires
+step-requires c κs = search needs
+
+-- src/reports.rt:50:29
+shared-slice-read-full : tie.Need-shared-slice-read-full
+shared-slice-read-full c = ?
+
+-- src/reports.rt:50:9
+full-requires : tie.Need-full-requires
+full-requires c κs = ?
+
+-- src/reports.rt:50:9
+same-length : tie.Need-same-length
+same-length c = search needs
+
+-- src/reports.rt:50:9
+returns : tie.Need-returns
+returns c = ?
+
+-- src/reports.rt:53:9
+bare-requires : tie.Need-bare-requires
+bare-requires c κs = search needs
+
+-- src/reports.rt:53:9
+same-length-2 : tie.Need-same-length-2
+same-length-2 c = search needs
+
+-- src/reports.rt:53:9
+returns-2 : tie.Need-returns-2
+returns-2 c = ?
+
+-- src/reports.rt:55:18
+shared-slice-read-full-2 : tie.Need-shared-slice-read-full-2
+shared-slice-read-full-2 c = ?
+
+-- src/reports.rt:55:5
+full-requires-2 : tie.Need-full-requires-2
+full-requires-2 c κs = ?
+
+-- src/reports.rt:45:1
+same-length-3 : tie.Need-same-length-3
+same-length-3 c = search needs
+
+-- src/reports.rt:45:1
+returns-3 : tie.Need-returns-3
+returns-3 c = ?
+
+pub settle-spec : {M : Type 1} → statement M
+settle-spec =
+    tie.close
+    (tie.spec
+    step-requires
+    shared-slice-read-full
+    full-requires
+    same-length
+    returns
+    bare-requires
+    same-length-2
+    returns-2
+    shared-slice-read-full-2
+    full-requires-2
+    same-length-3
+    returns-3)
