@@ -9,3 +9,4 @@ pub mod Wording
 pub mod WordingLaws
 pub mod Writing
 pub mod Reading
+pub mod WordsLaws
