@@ -10,3 +10,5 @@ pub mod WordingLaws
 pub mod Writing
 pub mod Reading
 pub mod WordsLaws
+pub mod Given
+pub mod GivenLaws
