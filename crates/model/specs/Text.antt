@@ -12,3 +12,5 @@ pub mod Reading
 pub mod WordsLaws
 pub mod Given
 pub mod GivenLaws
+pub mod CallLaws
+pub mod BothWays

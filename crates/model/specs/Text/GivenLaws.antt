@@ -78,13 +78,15 @@ written-small m ok =
       ),
     )
 
--- the names of a reference of at most four, each of 32 bits
-names-written : (r : Reference) → r .length ≤ nameCount → r .name 0 ≤ most → r .name 1 ≤ most → r .name 2 ≤ most → r .name 3 ≤ most
-    → (length (names r) ≤ 4) × AllFit (names r)
+-- A reference that says at most four has no more names.
+pub names-few : (r : Reference) → r .length ≤ nameCount → length (names r) ≤ nameCount
 unfolding names
-names-written r h a b c d =
-    let l : List ℕ = r .name 0 ∷ r .name 1 ∷ r .name 2 ∷ r .name 3 ∷ [] in
-    (omega (arith, length-take-le (r .length) l h), fit-take (r .length) l (a, (b, (c, (d, tt)))))
+names-few r h = omega (arith, length-take-le (r .length) (r .name 0 ∷ r .name 1 ∷ r .name 2 ∷ r .name 3 ∷ []) h)
+
+-- the names of such a reference, each of 32 bits
+names-fit : (r : Reference) → r .name 0 ≤ most → r .name 1 ≤ most → r .name 2 ≤ most → r .name 3 ≤ most → AllFit (names r)
+unfolding names
+names-fit r a b c d = fit-take (r .length) (r .name 0 ∷ r .name 1 ∷ r .name 2 ∷ r .name 3 ∷ []) (a, (b, (c, (d, tt))))
 
 -- the wording of small words that have a text
 small-written : (w : List ℕ) → Small w → hasText (requestOf w) ≡ true → Written (wordingOf (requestOf w))
@@ -94,8 +96,8 @@ small-written w s h =
     record {
       user = s 0;
       operation = s 1;
-      first = names-written (referenceAt w 2) (t .first-few) (s 3) (s 4) (s 5) (s 6);
-      second = names-written (referenceAt w 7) (t .second-few) (s 8) (s 9) (s 10) (s 11);
+      first = (names-few (referenceAt w 2) (t .first-few), names-fit (referenceAt w 2) (s 3) (s 4) (s 5) (s 6));
+      second = (names-few (referenceAt w 7) (t .second-few), names-fit (referenceAt w 7) (s 8) (s 9) (s 10) (s 11));
       a = s 12;
       b = s 13;
       c = s 14;
