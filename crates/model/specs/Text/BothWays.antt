@@ -2,7 +2,7 @@
 use mathlib.Core.Bool.{false, true}
 use mathlib.Core.List.{List, [], _++_, _∷_}
 use mathlib.Core.Logic.{_↔_}
-use mathlib.Core.Path.{_∙_, _≡_, ap, sym}
+use mathlib.Core.Path.{_∙_, _≡_, ap, refl, sym}
 use Prim.Native.Nat.{_*_, _+_, _<_, _≤_, ℕ}
 use native.Mathlib.Omega.{arith}
 use lib.Dec.{eqb}
@@ -19,11 +19,11 @@ use Rattle.model.specs.Text.GivenLaws.{gives-hasText, hasText-agrees, na
 use Rattle.model.specs.Text.LineLaws.{length-line}
 use Rattle.model.specs.Text.Lines.{line, readLine}
 use Rattle.model.specs.Text.NumberLaws.{length-most}
-use Rattle.model.specs.Text.Numbers.{Read, bad, digits, got, number}
+use Rattle.model.specs.Text.Numbers.{Read, bad, digits, got, most, number}
 use Rattle.model.specs.Text.Reading.{Reads, lineIn, readNumber}
 use Rattle.model.specs.Text.References.{dotted, joined, reference}
-use Rattle.model.specs.Text.Wording.{Lines, Wording, aKey, atEnd, bKey, badLine, cKey, lines, opKey, orLine, readSeven, readText, ref2Key, refKey, textOf}
-use Rattle.model.specs.Text.Wording.{userKey, wordingOf}
+use Rattle.model.specs.Text.Wording.{Lines, Wording, aKey, atEnd, bKey, badLine, cKey, lines, opKey, orLine, readSeven, readText, ref2Key}
+use Rattle.model.specs.Text.Wording.{refKey, textOf, userKey, wordingOf}
 use Rattle.model.specs.Text.WordingLaws.{text-length}
 use Rattle.model.specs.Text.WordsLaws.{Textual, hasText-says}
 use Rattle.model.specs.Text.Writing.{Writes, bytesAfter, hasText, textOfWords, withoutText, writeNumber}
@@ -92,7 +92,7 @@ number-line key n = omega (arith, length-line key (digits n), length-most n)
 reference-line : (key ns : List ℕ) → length ns ≤ nameCount → length (line key (joined ns)) ≤ length key + 44
 reference-line key ns h = omega (arith, length-line key (joined ns), joined-length ns h)
 
--- Rule 11.2: no text is longer than 166 bytes.
+-- Rule 11.2: no text is longer than 166 bytes,
 pub text-longest : (m : Wording) → length (m .first) ≤ nameCount → length (m .second) ≤ nameCount → length (textOf m) ≤ longest
 text-longest m h k =
     let l₁ : length (line userKey (digits (m .user))) ≤ 16 = number-line userKey (m .user) in
@@ -103,6 +103,23 @@ text-longest m h k =
     let l₆ : length (line bKey (digits (m .b))) ≤ 13 = number-line bKey (m .b) in
     let l₇ : length (line cKey (digits (m .c))) ≤ 13 = number-line cKey (m .c) in
     omega (arith, text-length m)
+
+-- and one has as many: that of the largest numbers and of two references with four such names.
+abbrev pub largest : Wording
+largest =
+    record {
+      user = most;
+      operation = most;
+      first = most ∷ most ∷ most ∷ most ∷ [];
+      second = most ∷ most ∷ most ∷ most ∷ [];
+      a = most;
+      b = most;
+      c = most;
+    }
+
+pub longest-text : length (textOf largest) ≡ longest
+unfolding textOf line digits
+longest-text = refl
 
 -- So the writer's number is 166 at most,
 pub write-number-small : (w : List ℕ) → writeNumber w ≤ longest
@@ -119,7 +136,8 @@ write-number-small w =
         text-longest (wordingOf (requestOf w)) (names-few (requestOf w .first) (t .first-few)) (names-few (requestOf w .second) (t .second-few))
 
 -- the line of seven at which reading stops
-orLine-most : {A : Type 0} (k : ℕ) (r : Read A) (f : A → List ℕ → Lines) → k ≤ 7 → ((a : A) (x : List ℕ) → lineIn (f a x) ≤ 7) → lineIn (orLine k r f) ≤ 7
+orLine-most : {A : Type 0} (k : ℕ) (r : Read A) (f : A → List ℕ → Lines) → k ≤ 7 → ((a : A) (x : List ℕ) → lineIn (f a x) ≤ 7)
+    → lineIn (orLine k r f) ≤ 7
 orLine-most k (got a x) f h g = g a x
 orLine-most k bad f h g = h
 

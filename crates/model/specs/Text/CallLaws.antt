@@ -60,7 +60,8 @@ pub gives-writes : {s w room r : List ℕ} {a k : ℕ} → Gives s w → Writes 
     → (a ≡ 0) × (k ≡ length s) × (r ≡ s ++ drop (length s) room)
 gives-writes {s} {w} {room} {r} {a} {k} g x l =
     let e : s ≡ textOfWords w = gives-text g in
-    let z : a ≡ 0 = x .answer ∙ write-fits w (gives-length g) (gives-hasText g) (length room) (subst (λ (t : List ℕ). length t ≤ length room) e l) in (
+    let f : length (textOfWords w) ≤ length room = subst (λ (t : List ℕ). length t ≤ length room) e l in
+    let z : a ≡ 0 = x .answer ∙ write-fits w (gives-length g) (gives-hasText g) (length room) f in (
       z,
       x .number ∙ write-counts w (gives-length g) (gives-hasText g) ∙ ap length (sym e),
       x .bytes ∙ ap (λ (b : ℕ). bytesAfter b w room) z ∙ ap (λ (t : List ℕ). t ++ drop (length t) room) (sym e),
@@ -71,7 +72,8 @@ pub gives-short : {s w room r : List ℕ} {a k : ℕ} → Gives s w → Writes w
     → (a ≡ roomShort) × (k ≡ length s) × (r ≡ room)
 gives-short {s} {w} {room} {r} {a} {k} g x l =
     let e : s ≡ textOfWords w = gives-text g in
-    let z : a ≡ roomShort = x .answer ∙ write-short w (gives-length g) (gives-hasText g) (length room) (subst (λ (t : List ℕ). length room < length t) e l) in (
+    let f : length room < length (textOfWords w) = subst (λ (t : List ℕ). length room < length t) e l in
+    let z : a ≡ roomShort = x .answer ∙ write-short w (gives-length g) (gives-hasText g) (length room) f in (
       z,
       x .number ∙ write-counts w (gives-length g) (gives-hasText g) ∙ ap length (sym e),
       x .bytes ∙ ap (λ (b : ℕ). bytesAfter b w room) z,

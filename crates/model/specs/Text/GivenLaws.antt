@@ -1,6 +1,6 @@
 -- A text gives the words whose text it is, and no others: the writer's test says exactly which words have a text.
 use mathlib.Core.Bool.{true}
-use mathlib.Core.List.{List, [], _∷_}
+use mathlib.Core.List.{List, [], _++_, _∷_}
 use mathlib.Core.Path.{_∙_, _≡_, ap, subst, sym}
 use Prim.Native.Nat.{_≤_, suc, zero, ℕ}
 use native.Mathlib.Omega.{arith}
@@ -8,6 +8,7 @@ use lib.ListN.{length, take}
 use lib.Seq.{length-take-le}
 use Rattle.model.specs.Basics.Agree.{Agrees}
 use Rattle.model.specs.Basics.TestLaws.{holds-true, is-true}
+use Rattle.model.specs.List.Listing.{entry}
 use Rattle.model.specs.Request.Words.{Reference, nameCount, names, referenceAt, requestOf, requestWords}
 use Rattle.model.specs.Text.Given.{Gives, HasText, Small}
 use Rattle.model.specs.Text.Numbers.{most}
@@ -34,49 +35,22 @@ fit-take zero l f = tt
 fit-take (suc n) [] f = tt
 fit-take (suc n) (x ∷ l) f = (f .0, fit-take n l (f .1))
 
+fit-append : (l r : List ℕ) → AllFit l → AllFit r → AllFit (l ++ r)
+fit-append [] r f g = g
+fit-append (x ∷ l) r f g = (f .0, fit-append l r (f .1) g)
+
+-- the five words of a reference
+entry-fit : (r : List ℕ) → (length r ≤ nameCount) × AllFit r → AllFit (entry r)
+entry-fit r ok = let s : Small r = fit-small r (ok .1) in (omega (arith, ok .0), (s 0, (s 1, (s 2, (s 3, tt)))))
+
 -- the sixteen words of a wording that is written
 written-small : (m : Wording) → Written m → Small (sixteen m)
 unfolding sixteen
 written-small m ok =
-    let r : Small (m .first) = fit-small (m .first) (ok .first .1) in
-    let t : Small (m .second) = fit-small (m .second) (ok .second .1) in
-    fit-small (sixteen m) (
-      ok .user,
-      (
-        ok .operation,
-        (
-          omega (arith, ok .first .0),
-          (
-            r 0,
-            (
-              r 1,
-              (
-                r 2,
-                (
-                  r 3,
-                  (
-                    omega (arith, ok .second .0),
-                    (
-                      t 0,
-                      (
-                        t 1,
-                        (
-                          t 2,
-                          (
-                            t 3,
-                            (ok .a, (ok .b, (ok .c, (omega arith, tt)))),
-                          ),
-                        ),
-                      ),
-                    ),
-                  ),
-                ),
-              ),
-            ),
-          ),
-        ),
-      ),
-    )
+    let x : List ℕ = m .a ∷ m .b ∷ m .c ∷ 0 ∷ [] in
+    let f : AllFit x = (ok .a, (ok .b, (ok .c, (omega arith, tt)))) in
+    let g : AllFit (entry (m .second) ++ x) = fit-append (entry (m .second)) x (entry-fit (m .second) (ok .second)) f in
+    fit-small (sixteen m) (ok .user, (ok .operation, fit-append (entry (m .first)) (entry (m .second) ++ x) (entry-fit (m .first) (ok .first)) g))
 
 -- A reference that says at most four has no more names.
 pub names-few : (r : Reference) → r .length ≤ nameCount → length (names r) ≤ nameCount
