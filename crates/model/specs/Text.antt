@@ -14,3 +14,5 @@ pub mod Given
 pub mod GivenLaws
 pub mod CallLaws
 pub mod BothWays
+pub mod Broken
+pub mod BrokenLaws
