@@ -2,4 +2,5 @@
 pub mod State
 pub mod Reports
 pub mod Runs
+pub mod RunsLaws
 pub mod Windows

@@ -7,6 +7,7 @@ pub mod References
 pub mod ReferenceLaws
 pub mod Wording
 pub mod WordingLaws
+pub mod NearLaws
 pub mod Writing
 pub mod Reading
 pub mod WordsLaws
