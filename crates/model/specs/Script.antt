@@ -4,3 +4,4 @@ pub mod Reports
 pub mod Runs
 pub mod RunsLaws
 pub mod Windows
+pub mod WindowLaws

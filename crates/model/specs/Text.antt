@@ -7,6 +7,8 @@ pub mod References
 pub mod ReferenceLaws
 pub mod Wording
 pub mod WordingLaws
+pub mod Unfinished
+pub mod WeightLaws
 pub mod NearLaws
 pub mod Writing
 pub mod Reading

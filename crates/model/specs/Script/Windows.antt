@@ -4,30 +4,14 @@ use mathlib.Core.Bool.{Bool, _&&_, _||_, false, not, true}
 use mathlib.Core.List.{List, [], _++_, _∷_}
 use mathlib.Core.Logic.{_≢_, _⊎_}
 use mathlib.Core.Path.{_≡_}
-use Prim.Native.Nat.{_+_, _-_, suc, zero, ℕ}
+use Prim.Native.Nat.{_-_, suc, zero, ℕ}
 use lib.Dec.{eqb, ltb}
 use lib.ListN.{length}
 use Rattle.model.specs.Basics.Choice.{pick}
 use Rattle.model.specs.Request.Step.{afterOf}
 use Rattle.model.specs.Script.Reports.{Report, report, reportText, unread}
-use Rattle.model.specs.Text.Lines.{lineEnd}
+use Rattle.model.specs.Text.Unfinished.{unfinished}
 use Rattle.model.specs.Text.Wording.{Lines, badLine, lines, readSeven, sixteen}
-
--- Rule 11.2: the longest request has 166 bytes. Rule 11.1: it has seven lines.
-abbrev pub longest : ℕ
-longest = 166
-
-abbrev pub lineTotal : ℕ
-lineTotal = 7
-
--- how many lines end in some bytes
-abbrev pub ends : List ℕ → ℕ
-ends [] = 0
-ends (b ∷ s) = pick (eqb b lineEnd) 1 0 + ends s
-
--- More bytes may make a request of these: they are fewer than the longest has, and fewer lines end in them.
-unfoldable pub unfinished : List ℕ → Bool
-unfinished s = ltb (length s) longest && ltb (ends s) lineTotal
 
 -- What is done with a window: the reports, the tables afterwards, the bytes that are left, and the line at which a request could not be
 -- read, 0 where all could.
@@ -69,6 +53,11 @@ run (suc k) last t s n = pick (idle n s) (stopped t s) (onward (run k last) t s 
 -- All requests of a window: it has no more of them than bytes.
 unfoldable pub ran : List ℕ → List ℕ → Bool → ℕ → Ran
 ran t s last n = run (length s) last t s n
+
+-- the bytes of pieces, one piece behind another
+abbrev pub together : List (List ℕ) → List ℕ
+together [] = []
+together (c ∷ cs) = c ++ together cs
 
 -- Fed n t w cs rs: with room for n bytes of reports at a time, the program holds the bytes w, gets the pieces cs one after another and then finds the end of
 -- the script; rs is all that it reports. Each time it puts what came behind what it holds, runs that, and keeps the rest; it ends with a request that could

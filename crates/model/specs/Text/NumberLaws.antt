@@ -88,7 +88,8 @@ number-there (suc n) x l t = number-digits 10 (suc n) x (omega arith) l (omega a
 
 -- ---- writing what was read
 
-digit-of : (b : ℕ) → isDigit b ≡ true → (48 ≤ b) × (b ≤ 57)
+-- a digit is one of ten bytes
+pub digit-of : (b : ℕ) → isDigit b ≡ true → (48 ≤ b) × (b ≤ 57)
 digit-of b e = go (ltb b 48) refl
   where
     go : (t : Bool) → ltb b 48 ≡ t → (48 ≤ b) × (b ≤ 57)
