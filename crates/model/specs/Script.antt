@@ -3,5 +3,6 @@ pub mod State
 pub mod Reports
 pub mod Runs
 pub mod RunsLaws
+pub mod StateLaws
 pub mod Windows
 pub mod WindowLaws

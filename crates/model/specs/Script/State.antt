@@ -1,6 +1,6 @@
 -- Rules 12.1 and 12.5: the tables as the bytes of a file.
-use mathlib.Core.List.{List, []}
-use Prim.Native.Nat.{_*_, _+_, ℕ}
+use mathlib.Core.List.{List, [], _∷_}
+use Prim.Native.Nat.{_%_, _*_, _+_, _/_, ℕ}
 use lib.Dec.{eqb}
 use lib.ListN.{getD, length}
 use Rattle.model.specs.Basics.Choice.{pick}
@@ -23,3 +23,8 @@ wordIn s i =
 -- Rules 12.1 and 12.5: the tables that a file gives. Where its size is another there are none, and so no request finds 2,304 words.
 unfoldable pub stateOf : List ℕ → List ℕ
 stateOf s = pick (eqb (length s) fileBytes) (firstValues wordCount (wordIn s)) []
+
+-- Rule 12.1: the bytes of some words, four a word and the lowest first.
+unfoldable pub bytesOf : List ℕ → List ℕ
+bytesOf [] = []
+bytesOf (w ∷ ws) = (w % 256) ∷ (w / 256 % 256) ∷ (w / 65536 % 256) ∷ (w / 16777216 % 256) ∷ bytesOf ws

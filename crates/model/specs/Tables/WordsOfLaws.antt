@@ -23,13 +23,13 @@ use Rattle.model.specs.Tables.Words.{spare, triple, type, userCount, val
 use Rattle.model.specs.Tables.WordsOf.{entityAtIndex, firstValues, userAtIndex, wordAtIndex, wordsOf}
 
 -- the first n values are n
-values-length : (n : ℕ) (g : ℕ → ℕ) → length (firstValues n g) ≡ n
+pub values-length : (n : ℕ) (g : ℕ → ℕ) → length (firstValues n g) ≡ n
 unfolding firstValues
 values-length zero g = refl
 values-length (suc n) g = ap suc (values-length n (λ i. g (suc i)))
 
 -- and each is the value at its place
-values-at : (n : ℕ) (g : ℕ → ℕ) (i : ℕ) → i < n → getD (firstValues n g) i 0 ≡ g i
+pub values-at : (n : ℕ) (g : ℕ → ℕ) (i : ℕ) → i < n → getD (firstValues n g) i 0 ≡ g i
 unfolding firstValues
 values-at zero g i h = absurd (not-suc-le-zero h)
 values-at (suc n) g zero h = refl

@@ -1,0 +1,105 @@
+-- The laws of the file (rules 12.1 and 12.5): its bytes give the words that were put there, and a file of another size gives no tables, so that every
+-- request which can be read is answered 1.
+use mathlib.Core.List.{List, [], _∷_}
+use mathlib.Core.Logic.{_≢_}
+use mathlib.Core.Path.{_∙_, _≡_, ap, refl, sym}
+use Prim.Native.Nat.{_%_, _*_, _+_, _/_, _<_, _≤_, suc, zero, ℕ}
+use native.Mathlib.Omega.{arith}
+use lib.ListN.{getD, length}
+use lib.Seq.{ext-getD}
+use borrow.Author.Tests.{eq-eqb, ne-eqb}
+use Rattle.model.specs.Request.Step.{afterOf, answerOf, sized}
+use Rattle.model.specs.Script.Reports.{Report, bare, report, unread, untold}
+use Rattle.model.specs.Script.Runs.{Runs, stay, turn}
+use Rattle.model.specs.Script.State.{bytesOf, fileBytes, stateOf, wordBytes, wordIn}
+use Rattle.model.specs.Tables.Layout.{wordCount}
+use Rattle.model.specs.Tables.WordsOf.{firstValues}
+use Rattle.model.specs.Tables.WordsOfLaws.{values-at, values-length}
+use Rattle.model.specs.Text.Numbers.{most}
+use Rattle.model.specs.Text.Wording.{sixteen}
+use Rattle.model.specs.Theorem.Steps.{unsized}
+
+-- ---- the tables of a file
+
+-- a file of 9,216 bytes gives 2,304 words, four bytes each,
+state-is : (s : List ℕ) → length s ≡ fileBytes → stateOf s ≡ firstValues wordCount (wordIn s)
+unfolding stateOf
+state-is s h = rw (eq-eqb (length s) fileBytes h)
+
+pub state-length : (s : List ℕ) → length s ≡ fileBytes → length (stateOf s) ≡ wordCount
+state-length s h = ap length (state-is s h) ∙ values-length wordCount (wordIn s)
+
+pub state-at : (s : List ℕ) (i : ℕ) → length s ≡ fileBytes → i < wordCount → getD (stateOf s) i 0 ≡ wordIn s i
+state-at s i h l = ap (λ t. getD t i 0) (state-is s h) ∙ values-at wordCount (wordIn s) i l
+
+-- and one of another size gives none.
+pub state-other : (s : List ℕ) → length s ≢ fileBytes → stateOf s ≡ []
+unfolding stateOf
+state-other s h = rw (ne-eqb (length s) fileBytes h)
+
+-- ---- no tables
+
+-- Rules 7.1 and 12.5: without tables every request is answered 1, and there are none afterwards.
+pub no-state : (q : List ℕ) → answerOf [] q ≡ 1
+unfolding sized
+no-state q = unsized [] q tt .0
+
+no-state-after : (q : List ℕ) → afterOf [] q ≡ []
+unfolding sized
+no-state-after q = unsized [] q tt .1
+
+no-state-report : (q : List ℕ) → report [] q ≡ bare 1
+unfolding report untold
+no-state-report q = rw (no-state q)
+
+no-state-runs : {t s t′ x : List ℕ} {rs : List Report} → Runs t s rs t′ x → t ≡ [] → (i : ℕ) → i < length rs → getD rs i unread ≡ bare 1
+no-state-runs stay e i h = absurd (omega arith)
+no-state-runs (turn {m = m} f r) e zero h = ap (λ u. report u (sixteen m)) e ∙ no-state-report (sixteen m)
+no-state-runs (turn {m = m} f r) e (suc i) h = no-state-runs r (ap (λ u. afterOf u (sixteen m)) e ∙ no-state-after (sixteen m)) i (omega arith)
+
+-- Rule 12.5: with a file of another size every request that can be read is reported with 1 and nothing more.
+pub other-size-reports : (s : List ℕ) {c t′ x : List ℕ} {rs : List Report} → length s ≢ fileBytes → Runs (stateOf s) c rs t′ x
+    → (i : ℕ) → i < length rs → getD rs i unread ≡ bare 1
+other-size-reports s h r = no-state-runs r (state-other s h)
+
+-- ---- the bytes of words
+
+pub bytes-length : (w : List ℕ) → length (bytesOf w) ≡ wordBytes * length w
+unfolding bytesOf
+bytes-length [] = refl
+bytes-length (v ∷ w) = omega (arith, bytes-length w)
+
+-- a place behind the first four bytes
+later : (a b c d : ℕ) (s : List ℕ) (i j : ℕ) → i ≡ suc (suc (suc (suc j))) → getD (a ∷ b ∷ c ∷ d ∷ s) i 0 ≡ getD s j 0
+later a b c d s i j e = rw e
+
+word-later : (a b c d : ℕ) (s : List ℕ) (i : ℕ) → wordIn (a ∷ b ∷ c ∷ d ∷ s) (suc i) ≡ wordIn s i
+word-later a b c d s i = rw (
+  later a b c d s (wordBytes * suc i) (wordBytes * i) (omega arith),
+  later a b c d s (wordBytes * suc i + 1) (wordBytes * i + 1) (omega arith),
+  later a b c d s (wordBytes * suc i + 2) (wordBytes * i + 2) (omega arith),
+  later a b c d s (wordBytes * suc i + 3) (wordBytes * i + 3) (omega arith),
+)
+
+four-sum : (w a b c d p q : ℕ) → w ≡ a + 256 * p → p ≡ b + 256 * q → q ≡ c + 256 * d → a + 256 * b + 65536 * c + 16777216 * d ≡ w
+four-sum w a b c d p q e f g = omega arith
+
+four-bytes : (w : ℕ) → w ≤ most → w % 256 + 256 * (w / 256 % 256) + 65536 * (w / 65536 % 256) + 16777216 * (w / 16777216 % 256) ≡ w
+four-bytes w h =
+    let last : w / 16777216 % 256 ≡ w / 16777216 = omega arith in
+    rw last
+    (four-sum w (w % 256) (w / 256 % 256) (w / 65536 % 256) (w / 16777216) (w / 256) (w / 65536) (omega arith) (omega arith) (omega arith))
+
+bytes-at : (w : List ℕ) → ((i : ℕ) → getD w i 0 ≤ most) → (i : ℕ) → wordIn (bytesOf w) i ≡ getD w i 0
+unfolding bytesOf
+bytes-at [] h i = refl
+bytes-at (v ∷ w) h zero = four-bytes v (h 0)
+bytes-at (v ∷ w) h (suc i) =
+    word-later (v % 256) (v / 256 % 256) (v / 65536 % 256) (v / 16777216 % 256) (bytesOf w) i ∙ bytes-at w (λ j. h (suc j)) i
+
+-- Rule 12.1: a file with the bytes of 2,304 words gives those words.
+pub state-bytes : (w : List ℕ) → length w ≡ wordCount → ((i : ℕ) → getD w i 0 ≤ most) → stateOf (bytesOf w) ≡ w
+state-bytes w h small =
+    let n : length (bytesOf w) ≡ fileBytes = omega (arith, bytes-length w) in
+    ext-getD 0 (stateOf (bytesOf w)) w (state-length (bytesOf w) n ∙ sym h)
+    (λ i l. state-at (bytesOf w) i n (omega (arith, state-length (bytesOf w) n)) ∙ bytes-at w small i)
