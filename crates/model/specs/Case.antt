@@ -6,6 +6,7 @@ pub mod S1
 pub mod S1Holds
 pub mod S1Words
 pub mod S1List
+pub mod S1Script
 pub mod Condemned
 pub mod CondemnedFlows
 pub mod CondemnedLists

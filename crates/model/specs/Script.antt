@@ -5,4 +5,5 @@ pub mod Runs
 pub mod RunsLaws
 pub mod StateLaws
 pub mod Windows
+pub mod ReportLaws
 pub mod WindowLaws

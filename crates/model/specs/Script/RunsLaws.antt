@@ -1,5 +1,5 @@
--- The laws of runs: one run behind another, further bytes behind a run, and that every script has exactly one list of reports, in which each report is
--- that of the tables after exactly the requests before it.
+-- The laws of runs: one run behind another, further bytes behind a run, and that every script has exactly one list of reports, in which each
+-- report is that of the tables after exactly the requests before it.
 use mathlib.Core.List.{List, [], _++_, _∷_, append-assoc, append-nil}
 use mathlib.Core.Path.{_∙_, _≡_, ap, ap₂, refl, sym}
 use Prim.Native.Nat.{_<_, suc, zero, ℕ}
@@ -72,7 +72,8 @@ record Halted (t s : List ℕ) (rs : List Report) : Type 0 where
   all : rs ≡ before ++ closing rest
 
 answered-halted : {t s : List ℕ} {rs : List Report} → Answered t s rs → Halted t s rs
-answered-halted (whole {t′ = t′} {rs = rs} r) = record { before = rs; tables = t′; rest = []; runs = r; stuck = stuck-empty; all = sym (append-nil rs) }
+answered-halted (whole {t′ = t′} {rs = rs} r) =
+    record { before = rs; tables = t′; rest = []; runs = r; stuck = stuck-empty; all = sym (append-nil rs) }
 answered-halted (cut {t′ = t′} {x = x} {b = b} {k = k} {rs = rs} r e) =
     record { before = rs; tables = t′; rest = b ∷ x; runs = r; stuck = record { line = k; bad = e }; all = refl }
 
@@ -113,10 +114,11 @@ answered-empty p = answered-unique p (whole stay)
 pub writes-unique : {t s o o′ : List ℕ} → Writes t s o → Writes t s o′ → o ≡ o′
 writes-unique p q = p .written ∙ ap output (answered-unique (p .answered) (q .answered)) ∙ sym (q .written)
 
+-- and there is one;
 pub writes-some : (t s : List ℕ) → (o : List ℕ) × Writes t s o
 writes-some t s = let w = answered-some t s in (output (w .0), record { reports = w .0; answered = w .1; written = refl })
 
--- Rule 12.2: and of a script of no bytes it is nothing.
+-- of a script of no bytes it is nothing (rule 12.2).
 pub writes-empty : {t o : List ℕ} → Writes t [] o → o ≡ []
 unfolding output
 writes-empty p = p .written ∙ ap output (answered-empty (p .answered))

@@ -12,15 +12,13 @@ use borrow.Author.Tests.{eqb-false, eqb-true, ltb-false, ltb-true}
 use Rattle.model.specs.Basics.Cases.{cases, true-or-false}
 use Rattle.model.specs.Basics.Choice.{pick}
 use Rattle.model.specs.Request.Step.{afterOf}
-use Rattle.model.specs.Script.Reports.{Report, answerKey, heldKey, missedKey, output, report, reportText, unread}
+use Rattle.model.specs.Script.ReportLaws.{report-length}
+use Rattle.model.specs.Script.Reports.{Report, output, report, reportText, unread}
 use Rattle.model.specs.Script.Runs.{Answered, Runs, cut, stay, turn, whole}
 use Rattle.model.specs.Script.RunsLaws.{runs-answered, runs-longer}
-use Rattle.model.specs.Script.Windows.{Fed, Ran, again, broken, done, idle, onward, over, piece, preceded, ran, reportBytes, run, stopped, together}
-use Rattle.model.specs.Text.LineLaws.{length-line}
-use Rattle.model.specs.Text.Lines.{line}
+use Rattle.model.specs.Script.Windows.{Fed, Ran, again, broken, done, idle, onward, over, piece, preceded, ran, reportBytes, run}
+use Rattle.model.specs.Script.Windows.{stopped, together}
 use Rattle.model.specs.Text.NearLaws.{read-bad, read-near-bad, read-shorter}
-use Rattle.model.specs.Text.NumberLaws.{length-most}
-use Rattle.model.specs.Text.Numbers.{digits}
 use Rattle.model.specs.Text.Unfinished.{unfinished}
 use Rattle.model.specs.Text.Wording.{Lines, Wording, badLine, lines, readSeven, sixteen}
 
@@ -111,6 +109,7 @@ course-onward on last t s n c h (badLine k) e = go (not last && unfinished s) re
     go true f = course-stopped last t s
     go false f = course-broken last t s k h e (given-up last (unfinished s) f)
 
+-- so does a window with any number of turns,
 pub run-course : (k : ℕ) (last : Bool) (t s : List ℕ) (n : ℕ) → Course last t s (run k last t s n)
 unfolding run
 run-course zero last t s n = course-stopped last t s
@@ -121,9 +120,10 @@ run-course (suc k) last t s n = go (λ t s n. run-course k last t s n) (idle n s
     go c true e = course-stopped last t s
     go c false e = course-onward (run k last) last t s n c (idle-not n s e .1) (readSeven s) refl
 
-pub ran-course : (t s : List ℕ) (last : Bool) (n : ℕ) → Course last t s (ran t s last n)
+-- and one with as many as it has bytes.
+pub ran-runs : (t s : List ℕ) (last : Bool) (n : ℕ) → Course last t s (ran t s last n)
 unfolding ran
-ran-course t s last n = run-course (length s) last t s n
+ran-runs t s last n = run-course (length s) last t s n
 
 -- ---- fuel: more turns than bytes change nothing
 
@@ -137,6 +137,7 @@ onward-same : (on on′ : List ℕ → List ℕ → ℕ → Ran) (t s : List ℕ
 onward-same on on′ t s last n (lines m x) f = ap (preceded (report t (sixteen m))) (f m x refl (afterOf t (sixteen m)) _)
 onward-same on on′ t s last n (badLine k) f = refl
 
+-- any two numbers of turns, each at least as many as the window has bytes, do the same
 pub run-fuel : (k j : ℕ) (last : Bool) (t s : List ℕ) (n : ℕ) → length s ≤ k → length s ≤ j → run k last t s n ≡ run j last t s n
 unfolding run
 run-fuel zero j last t s n h g = rw (no-bytes s h) (sym (run-empty j last t n))
@@ -152,27 +153,9 @@ ran-fuel k last t s n h = run-fuel k (length s) last t s n h (omega arith)
 
 -- ---- room
 
--- three lines have at most 52 bytes
-pub report-length : (r : Report) → length (reportText r) ≤ reportBytes
-unfolding reportText
-report-length r =
-    let a = digits (r .answer) in
-    let h = digits (r .held) in
-    let m = digits (r .missed) in
-    rw (length-append (line answerKey a) (line heldKey h ++ line missedKey m), length-append (line heldKey h) (line missedKey m))
-    (omega (
-      arith,
-      length-line answerKey a,
-      length-line heldKey h,
-      length-line missedKey m,
-      length-most (r .answer),
-      length-most (r .held),
-      length-most (r .missed),
-    ))
-
 -- the reports of a window fit in its room
-onward-fits : (on : List ℕ → List ℕ → ℕ → Ran) (last : Bool) (t s : List ℕ) (n : ℕ) → ((t s : List ℕ) (n : ℕ) → length (output (on t s n .reports)) ≤ n)
-    → reportBytes ≤ n → (l : Lines) → length (output (onward on t s last n l .reports)) ≤ n
+onward-fits : (on : List ℕ → List ℕ → ℕ → Ran) (last : Bool) (t s : List ℕ) (n : ℕ)
+    → ((t s : List ℕ) (n : ℕ) → length (output (on t s n .reports)) ≤ n) → reportBytes ≤ n → (l : Lines) → length (output (onward on t s last n l .reports)) ≤ n
 unfolding output
 onward-fits on last t s n f h (lines m x) =
     let r = report t (sixteen m) in
@@ -243,9 +226,11 @@ broke-last : (last : Bool) (t s : List ℕ) (n : Ran) → Broke last t s n → A
 broke-last last t s n b = rw (b .reports) (cut-at (n .rest) (n .line) (b .some) (b .runs) (b .bad))
 
 broke-early : (t s : List ℕ) (n : Ran) (x : List ℕ) → Broke false t s n → Answered t (s ++ x) (n .reports)
-broke-early t s n x b = rw (b .reports)
-    (cut-at (n .rest ++ x) (n .line) (omega (arith, length-append (n .rest) x, b .some)) (runs-longer (b .runs) x) (read-near-bad (n .rest) (n .line) sure (b .bad) x))
+broke-early t s n x b = rw (b .reports) (cut-at (n .rest ++ x) (n .line) some (runs-longer (b .runs) x) (read-near-bad (n .rest) (n .line) sure (b .bad) x))
   where
+    some : 0 < length (n .rest ++ x)
+    some = omega (arith, length-append (n .rest) x, b .some)
+
     sure : unfinished (n .rest) ≡ false
     sure = cases (b .sure) (λ h. let z : _≡_ {A = ℕ} 0 1 = cc in absurd (omega arith)) (λ h. h)
 
@@ -264,9 +249,9 @@ course-last t s n c w = go (eqb (n .line) 0) refl
 pub fed-answered : {n : ℕ} {t w : List ℕ} {cs : List (List ℕ)} {rs : List Report} → Fed n t w cs rs → Answered t (w ++ together cs) rs
 fed-answered {n = n} (piece {t = t} {w = w} {c = c} {cs = cs} e f) =
     rw (← append-assoc w c (together cs))
-    (runs-answered (runs-longer (ran-course t (w ++ c) false n .good e) (together cs)) (fed-answered f))
+    (runs-answered (runs-longer (ran-runs t (w ++ c) false n .good e) (together cs)) (fed-answered f))
 fed-answered {n = n} (over {t = t} {w = w} {c = c} {cs = cs} h) =
     rw (← append-assoc w c (together cs))
-    (broke-early t (w ++ c) (ran t (w ++ c) false n) (together cs) (ran-course t (w ++ c) false n .broke h))
-fed-answered {n = n} (again {t = t} {w = w} e h f) = runs-answered (runs-longer (ran-course t w true n .good e) []) (fed-answered f)
-fed-answered {n = n} (done {t = t} {w = w} h) = rw (append-nil w) (course-last t w (ran t w true n) (ran-course t w true n) h)
+    (broke-early t (w ++ c) (ran t (w ++ c) false n) (together cs) (ran-runs t (w ++ c) false n .broke h))
+fed-answered {n = n} (again {t = t} {w = w} e h f) = runs-answered (runs-longer (ran-runs t w true n .good e) []) (fed-answered f)
+fed-answered {n = n} (done {t = t} {w = w} h) = rw (append-nil w) (course-last t w (ran t w true n) (ran-runs t w true n) h)

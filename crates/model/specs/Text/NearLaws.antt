@@ -17,7 +17,8 @@ use Rattle.model.specs.Text.Numbers.{Read, bad, got, isDigit, number}
 use Rattle.model.specs.Text.References.{reference}
 use Rattle.model.specs.Text.Unfinished.{ends, extended, lineTotal, longest, unfinished}
 use Rattle.model.specs.Text.WeightLaws.{seven-near, weight}
-use Rattle.model.specs.Text.Wording.{Lines, Wording, aKey, bKey, badLine, cKey, lines, opKey, orLine, readSeven, ref2Key, refKey, textOf, userKey}
+use Rattle.model.specs.Text.Wording.{Lines, Wording, aKey, bKey, badLine, cKey, lines, opKey, orLine, readSeven, ref2Key, refKey}
+use Rattle.model.specs.Text.Wording.{textOf, userKey}
 use Rattle.model.specs.Text.WordingLaws.{Written, text-back, text-some, text-there}
 
 -- a request that was read is read in front of any further bytes, too
@@ -79,7 +80,7 @@ near-length = seven-near every 1 (λ b h. omega arith) (omega arith) (omega arit
 near-ends : (w x : List ℕ) → (readSeven (w ++ x) ≡ extended (readSeven w) x) ⊎ (weight endOnly w < lineTotal)
 near-ends = seven-near endOnly 0 digit-inside (omega arith) (omega arith)
 
--- Of bytes that are not unfinished, the same is read whatever follows them: they have as many bytes as the longest request, or seven lines end in them.
+-- Of bytes that are not unfinished, the same is read whatever follows them: they are as many as the longest request has, or seven lines end in them.
 pub read-near : (w x : List ℕ) → unfinished w ≡ false → readSeven (w ++ x) ≡ extended (readSeven w) x
 unfolding unfinished
 read-near w x u = go (ltb (length w) longest) refl u

@@ -151,7 +151,9 @@ module _ (f : ℕ → ℕ) (d : ℕ) (digit : (b : ℕ) → isDigit b ≡ true �
       cases (true-or-false (isDigit b))
       (λ g. cases (true-or-false (eqb b zeroByte))
       (λ l. inl (rw (g, l)))
-      (λ l. cases (more-near 9 (b - zeroByte) s x (first-digit b g (eqb-false b zeroByte l))) (λ c. inl (rw (g, l) c)) (λ c. inr (omega (arith, digit b g)))))
+      (λ l. cases (more-near 9 (b - zeroByte) s x (first-digit b g (eqb-false b zeroByte l)))
+      (λ c. inl (rw (g, l) c))
+      (λ c. inr (omega (arith, digit b g)))))
       (λ g. inl (rw g))
 
   number-uses : (s : List ℕ) (n : ℕ) (u : List ℕ) → number s ≡ got n u → weight f s ≤ times digitCount d + weight f u
