@@ -43,6 +43,7 @@ told d q =
     (bare (answer d q))
     (record { answer = answer d q; held = after d q .user (q .user) held; missed = after d q .user (q .user) missed })
 
+-- is that on any words of these tables
 pub report-told : (t q : List ℕ) (d : Tables) → length t ≡ wordCount → length q ≡ requestWords → tablesOf t ≡ d → report t q ≡ told d (requestOf q)
 unfolding report
 report-told t q d h g e =

@@ -123,7 +123,7 @@ pub writes-empty : {t o : List ℕ} → Writes t [] o → o ≡ []
 unfolding output
 writes-empty p = p .written ∙ ap output (answered-empty (p .answered))
 
--- Rule 12.3: each report of a run is that of the tables after exactly the requests before it.
+-- one request more in front
 reported-turn : {t s x t′ s′ : List ℕ} {m : Wording} {rs : List Report} → readSeven s ≡ lines m x → Reported (afterOf t (sixteen m)) x rs t′ s′
     → Reported t s (report t (sixteen m) ∷ rs) t′ s′
 unfolding afterWords
@@ -142,6 +142,7 @@ reported-turn {t = t} {s = s} {x = x} {s′ = s′} {m = m} {rs = rs} e w =
     at zero h = refl
     at (suc i) h = w .each i (omega arith)
 
+-- Rule 12.3: each report of a run is that of the tables after exactly the requests before it.
 pub runs-report : {t s t′ s′ : List ℕ} {rs : List Report} → Runs t s rs t′ s′ → Reported t s rs t′ s′
 unfolding afterWords
 runs-report stay = record { wordings = []; text = refl; many = refl; each = λ i h. absurd (omega arith); after = refl }

@@ -109,7 +109,7 @@ course-onward on last t s n c h (badLine k) e = go (not last && unfinished s) re
     go true f = course-stopped last t s
     go false f = course-broken last t s k h e (given-up last (unfinished s) f)
 
--- so does a window with any number of turns,
+-- What any number of turns does with a window is such a course,
 pub run-course : (k : ℕ) (last : Bool) (t s : List ℕ) (n : ℕ) → Course last t s (run k last t s n)
 unfolding run
 run-course zero last t s n = course-stopped last t s
@@ -120,7 +120,7 @@ run-course (suc k) last t s n = go (λ t s n. run-course k last t s n) (idle n s
     go c true e = course-stopped last t s
     go c false e = course-onward (run k last) last t s n c (idle-not n s e .1) (readSeven s) refl
 
--- and one with as many as it has bytes.
+-- and so is what is done with all of it.
 pub ran-runs : (t s : List ℕ) (last : Bool) (n : ℕ) → Course last t s (ran t s last n)
 unfolding ran
 ran-runs t s last n = run-course (length s) last t s n
@@ -153,7 +153,6 @@ ran-fuel k last t s n h = run-fuel k (length s) last t s n h (omega arith)
 
 -- ---- room
 
--- the reports of a window fit in its room
 onward-fits : (on : List ℕ → List ℕ → ℕ → Ran) (last : Bool) (t s : List ℕ) (n : ℕ)
     → ((t s : List ℕ) (n : ℕ) → length (output (on t s n .reports)) ≤ n) → reportBytes ≤ n → (l : Lines) → length (output (onward on t s last n l .reports)) ≤ n
 unfolding output
@@ -167,6 +166,7 @@ onward-fits on last t s n f h (badLine k) = go (not last && unfinished s)
     go true = omega arith
     go false = rw (append-nil (reportText unread)) (omega (arith, report-length unread))
 
+-- The reports of a window fit in its room, whatever the number of turns.
 pub run-fits : (k : ℕ) (last : Bool) (t s : List ℕ) (n : ℕ) → length (output (run k last t s n .reports)) ≤ n
 unfolding run output
 run-fits zero last t s n = omega arith
@@ -177,6 +177,7 @@ run-fits (suc k) last t s n = go (λ t s n. run-fits k last t s n) (idle n s) re
     go f true e = omega arith
     go f false e = onward-fits (run k last) last t s n f (idle-not n s e .0) (readSeven s)
 
+-- So do all of them.
 pub ran-fits : (t s : List ℕ) (last : Bool) (n : ℕ) → length (output (ran t s last n .reports)) ≤ n
 unfolding ran
 ran-fits t s last n = run-fits (length s) last t s n
@@ -199,6 +200,7 @@ onward-short on last t s n (badLine k) e f h g = go (not last && unfinished s) r
     go true q h g = inr (waited last (unfinished s) q)
     go false q h g = let b = read-bad s k e in absurd (omega arith)
 
+-- so with at least as many turns as the window has bytes,
 pub run-short : (k : ℕ) (last : Bool) (t s : List ℕ) (n : ℕ) → length s ≤ k → Short last n (run k last t s n)
 unfolding run output
 run-short zero last t s n l h g = inl (no-bytes s l)
@@ -210,6 +212,7 @@ run-short (suc k) last t s n l h g =
     go f true e h g = cases (idle-why n s e) (λ q. absurd (omega arith)) (λ q. inl q)
     go f false e h g = onward-short (run k last) last t s n (readSeven s) refl f h g
 
+-- and with exactly as many.
 pub ran-rest-short : (t s : List ℕ) (last : Bool) (n : ℕ) → Short last n (ran t s last n)
 unfolding ran
 ran-rest-short t s last n = run-short (length s) last t s n (omega arith)
@@ -221,7 +224,7 @@ cut-at : {t s t′ : List ℕ} {rs : List Report} (x : List ℕ) (k : ℕ) → 0
 cut-at [] k h r e = absurd (omega arith)
 cut-at (b ∷ x) k h r e = cut r e
 
--- a window that broke, where nothing follows or where what follows does not matter
+-- a window that broke is the end of the script's answers: where nothing follows, and where something does
 broke-last : (last : Bool) (t s : List ℕ) (n : Ran) → Broke last t s n → Answered t s (n .reports)
 broke-last last t s n b = rw (b .reports) (cut-at (n .rest) (n .line) (b .some) (b .runs) (b .bad))
 
