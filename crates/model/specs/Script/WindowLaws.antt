@@ -154,7 +154,8 @@ ran-fuel k last t s n h = run-fuel k (length s) last t s n h (omega arith)
 -- ---- room
 
 onward-fits : (on : List ℕ → List ℕ → ℕ → Ran) (last : Bool) (t s : List ℕ) (n : ℕ)
-    → ((t s : List ℕ) (n : ℕ) → length (output (on t s n .reports)) ≤ n) → reportBytes ≤ n → (l : Lines) → length (output (onward on t s last n l .reports)) ≤ n
+    → ((t s : List ℕ) (n : ℕ) → length (output (on t s n .reports)) ≤ n) → reportBytes ≤ n → (l : Lines)
+    → length (output (onward on t s last n l .reports)) ≤ n
 unfolding output
 onward-fits on last t s n f h (lines m x) =
     let r = report t (sixteen m) in
