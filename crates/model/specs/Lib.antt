@@ -9,6 +9,6 @@ pub mod Effect
 pub mod Request
 pub mod List
 pub mod Text
-pub mod Script
 pub mod Theorem
+pub mod Script
 pub mod Case

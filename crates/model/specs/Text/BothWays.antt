@@ -12,7 +12,7 @@ use Rattle.model.specs.Basics.Cases.{cases, lt-or-le, true-or-false}
 use Rattle.model.specs.Basics.TestLaws.{fails-false}
 use Rattle.model.specs.List.Listing.{roomShort}
 use Rattle.model.specs.Request.Words.{nameCount, requestOf, requestWords}
-use Rattle.model.specs.Script.Windows.{longest}
+use Rattle.model.specs.Text.Unfinished.{longest}
 use Rattle.model.specs.Text.CallLaws.{gives-reads, gives-short, gives-writes, reads-gives, write-fits, write-short, write-without, writes-gives}
 use Rattle.model.specs.Text.Given.{HasText, Small}
 use Rattle.model.specs.Text.GivenLaws.{gives-hasText, hasText-agrees, names-few}
