@@ -1,0 +1,26 @@
+-- Rules 12.2 to 12.4: one turn of a script s at a place, on the tables t.
+use mathlib.Core.List.{List}
+use Prim.Native.Nat.{_-_, ℕ}
+use lib.ListN.{drop, length}
+use Rattle.model.specs.Request.Step.{afterOf}
+use Rattle.model.specs.Script.Reports.{report, unread}
+use Rattle.model.specs.Text.Wording.{Lines, badLine, lines, readSeven, sixteen}
+use Rattle.script.specs.Reported.{inCode}
+use Rattle.script.specs.declared.turns.Place.{Place}
+use Rattle.script.specs.declared.turns.Turned.{Turned}
+
+-- What reading the next seven lines gives, as a turn: n is the script's length, of which x is left.
+abbrev pub turnedBy : List ℕ → ℕ → Place → Lines → Turned
+turnedBy t n p (lines m x) = record { place = record { at = n - length x; line = 0 }; report = inCode (report t (sixteen m)) }
+turnedBy t n p (badLine k) = record { place = record { at = p .at; line = k }; report = inCode unread }
+
+-- The tables afterwards: those after this one request, and no other.
+abbrev pub leftBy : List ℕ → Lines → List ℕ
+leftBy t (lines m x) = afterOf t (sixteen m)
+leftBy t (badLine k) = t
+
+abbrev pub turnedOf : List ℕ → List ℕ → Place → Turned
+turnedOf t s p = turnedBy t (length s) p (readSeven (drop (p .at) s))
+
+abbrev pub leftOf : List ℕ → List ℕ → Place → List ℕ
+leftOf t s p = leftBy t (readSeven (drop (p .at) s))

@@ -1,0 +1,78 @@
+// One turn of the script: the request at its place is settled, and the place goes on (rules 12.2 to 12.4). First by value, where all the work is
+// done; then on a place that is lent and changed where it stands.
+use crate::reports::Report;
+use request_text::reading::Seven;
+ghost use mathlib.Core.Path.{_≡_};
+ghost use Prim.Native.Nat.{_≤_};
+ghost use lib.ListN.{length};
+ghost use Rattle.model.specs.Request.Step.{afterOf};
+ghost use Rattle.model.specs.Request.Words.{requestWords};
+ghost use Rattle.model.specs.Script.Reports.{report, unread};
+ghost use Rattle.script.specs.Reported.{inCode};
+ghost use Rattle.script.specs.Turn.{leftOf, turnedOf};
+
+// How far a script has been read: the index of its next byte, and the line at which a request could not be read, 0 while all could.
+pub struct Place {
+    pub at: usize,
+    pub line: u32,
+}
+
+// What a turn gives: the place behind the request, and the report of it.
+pub struct Turned {
+    pub place: Place,
+    pub report: Report,
+}
+
+// The turn at a request that cannot be read: the place stays, and says at which line.
+fn stuck(at: usize, line: u32) -> Turned
+    ensures { λ r. ⌜ r ≡ record { place = record { at = at; line = line }; report = inCode unread } ⌝ }
+{
+    Turned {
+        place: Place { at, line },
+        report: crate::reports::bare(18),
+    }
+}
+
+// The turn at a request whose words were read, up to the index next.
+fn settled(tables: &mut [u32], words: &[u32], next: usize) -> Turned
+    ensures { λ r. ⌜ (r ≡ record { place = record { at = next; line = 0 }; report = inCode (report (now (tables .entry)) (now (words .entry))) }) × (now (tables .exit) ≡ afterOf (now (tables .entry)) (now (words .entry))) ⌝ }
+{
+    let report = crate::reports::settle(tables, words);
+    Turned {
+        place: Place { at: next, line: 0 },
+        report,
+    }
+}
+
+// The turn by value: the next seven lines of the script are read, and the step answers them.
+pub fn turn_at(tables: &mut [u32], script: &[u8], p: Place) -> Turned
+    requires { ⌜ p .at ≤ length (now script) ⌝ }
+    ensures { λ r. ⌜ (r ≡ turnedOf (now (tables .entry)) (now (script .entry)) p) × (now (tables .exit) ≡ leftOf (now (tables .entry)) (now (script .entry)) p) ⌝ }
+{
+    let at = p.at;
+    let mut words = [0u32; 16];
+    match request_text::reading::read_seven(script, at, &mut words) {
+        Seven::BadLine(k) => stuck(at, k),
+        Seven::Next(next) => settled(tables, &words, next),
+    }
+}
+
+// The same turn on a place that is lent, and changed where it stands.
+pub fn turn(tables: &mut [u32], script: &[u8], p: &mut Place) -> Report
+    requires { ⌜ now p .at ≤ length (now script) ⌝ }
+    ensures { λ r. ⌜ (r ≡ turnedOf (now (tables .entry)) (now (script .entry)) (now (p .entry)) .report) × (now (p .exit) ≡ turnedOf (now (tables .entry)) (now (script .entry)) (now (p .entry)) .place) × (now (tables .exit) ≡ leftOf (now (tables .entry)) (now (script .entry)) (now (p .entry))) ⌝ }
+{
+    let t = turn_at(tables, script, *p);
+    *p = t.place;
+    t.report
+}
+
+// From a place by value to one that is lent, and back: a loop calls this one, since its contract speaks of no reference to a place.
+pub fn one_turn(tables: &mut [u32], script: &[u8], p: Place) -> Turned
+    requires { ⌜ p .at ≤ length (now script) ⌝ }
+    ensures { λ r. ⌜ (r ≡ turnedOf (now (tables .entry)) (now (script .entry)) p) × (now (tables .exit) ≡ leftOf (now (tables .entry)) (now (script .entry)) p) ⌝ }
+{
+    let mut q = p;
+    let report = turn(tables, script, &mut q);
+    Turned { place: q, report }
+}
