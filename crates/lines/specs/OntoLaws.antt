@@ -82,6 +82,10 @@ puts {s} {d} {ys} {at} {n} w =
     let e : ys ≡ onto s (drop at d) = w .now-is ∙ rw (part-is d at) in
     record { many = rw (w .many); now-is = rw (part-last d at, append-nil, e) }
 
+-- there is room at the index behind s where the room had enough for both
+pub puts-room : {s d e : List ℕ} {a : ℕ} (t : List ℕ) → Wrote s d e a → length s + length t ≤ length d → a + length t ≤ length e
+puts-room t w h = omega (arith, w .many, wrote-length w (omega (arith, w .many)))
+
 -- a write at the index behind what was written before
 pub wrote-puts : {s t d e f : List ℕ} {a r : ℕ} → Wrote s d e a → Puts t e a f r → Wrote (s ++ t) d f r
 wrote-puts {s} {t} {d} {e} {f} {a} {r} w p =

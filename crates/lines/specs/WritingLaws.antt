@@ -4,7 +4,7 @@ use mathlib.Core.Path.{_≡_, refl}
 use Prim.Native.Nat.{_%_, _+_, _-_, _/_, _<_, _≤_, ℕ}
 use native.Mathlib.Omega.{arith}
 use lib.ListN.{drop, length, set, take}
-use Rattle.lines.specs.Onto.{Wrote, onto}
+use Rattle.lines.specs.Onto.{Wrote}
 use Rattle.lines.specs.OntoLaws.{onto-snoc, wrote-behind, wrote-byte, wrote-length}
 use Rattle.model.specs.Text.LineLaws.{is-line, length-line}
 use Rattle.model.specs.Text.Lines.{line, lineEnd}

@@ -1,6 +1,5 @@
-use Prim.Native.Nat.{_+_, _≤_}
 use native.Mathlib.Omega.{arith}
-use lib.ListN.{length, length-set}
+use lib.ListN.{length-set}
 use Rattle.lines.specs.OntoLaws.{length-part}
 use Rattle.lines.specs.WritingLaws.{LineWrote, line-wrote}
 use Rattle.model.specs.Text.LineLaws.{length-line}

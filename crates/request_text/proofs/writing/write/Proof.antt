@@ -1,0 +1,55 @@
+use mathlib.Core.Path.{_∙_, sym}
+use native.Mathlib.Omega.{arith}
+use borrow.Author.Tests.{not-false, not-true}
+use Rattle.request_text.specs.EndLaws.{end-short, end-size, end-textless, end-written}
+use Rattle.request_text.specs.FitLaws.{has-sixteen}
+use Rattle.request_text.specs.NeedLaws.{need-most}
+use borrow.Author.Needs.{needs}
+use Rattle.request_text.proofs.writing.write.Statement.{statement}
+use Rattle.request_text.proofs.writing.write.Tie as tie
+use Rattle.request_text.proofs.writing.write.Reads as reads
+use Rattle.request_text.proofs.writing.write.Lts as lts
+use Rattle.request_text.proofs.writing.has_text.Reads as has-text-reads
+use Rattle.request_text.proofs.writing.need.Reads as need-reads
+use Rattle.request_text.proofs.writing.write_text.Reads as write-text-reads
+
+returns : tie.Need-returns
+returns c = end-size _ _ (c .if1 .taken)
+
+has-text-requires : tie.Need-has-text-requires
+has-text-requires c κs = search needs
+
+returns-2 : tie.Need-returns-2
+returns-2 c = end-textless _ _ (c .before .before .if1 .left) (sym (c .before .has-text .ensures) ∙ not-true (c .before .has-text .result) (c .if2 .taken))
+
+need-requires : tie.Need-need-requires
+need-requires c κs = has-sixteen _ (c .before .before .if1 .left) (sym (c .before .has-text .ensures) ∙ not-false (c .before .has-text .result) (c .if2 .left))
+
+cast-bytes : tie.Need-cast-bytes
+cast-bytes c = omega (arith, c .need .ensures, need-most _ (has-sixteen _ (c .before .before .before .if1 .left) (sym (c .before .before .has-text .ensures) ∙ not-false (c .before .before .has-text .result) (c .before .if2 .left))))
+
+returns-3 : tie.Need-returns-3
+returns-3 c = end-short _ _ (c .before .before .before .before .if1 .left) (sym (c .before .before .before .has-text .ensures) ∙ not-false (c .before .before .before .has-text .result) (c .before .before .if2 .left)) _ (c .before .need .ensures) (c .if3 .taken)
+
+write-text-requires : tie.Need-write-text-requires
+write-text-requires c κs = (has-sixteen _ (c .before .before .before .before .before .if1 .left) (sym (c .before .before .before .before .has-text .ensures) ∙ not-false (c .before .before .before .before .has-text .result) (c .before .before .before .if2 .left)), omega (arith, c .before .before .need .ensures, c .before .if3 .left))
+
+same-length : tie.Need-same-length
+same-length c = search needs
+
+returns-4 : tie.Need-returns-4
+returns-4 c = end-written _ _ (c .before .before .before .before .before .before .before .before .if1 .left) (sym (c .before .before .before .before .before .before .before .has-text .ensures) ∙ not-false (c .before .before .before .before .before .before .before .has-text .result) (c .before .before .before .before .before .before .if2 .left)) _ (c .before .before .before .before .before .need .ensures) _ _ (c .before .before .before .before .if3 .left) (c .before .before .write-text .ensures)
+
+pub write-spec : {M : Type 1} → statement M
+write-spec =
+    tie.close
+    (tie.spec
+    returns
+    has-text-requires
+    returns-2
+    need-requires
+    cast-bytes
+    returns-3
+    write-text-requires
+    same-length
+    returns-4)

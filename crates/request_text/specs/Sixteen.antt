@@ -1,0 +1,12 @@
+-- Words that the writer can go through: the lengths of their references stay inside them.
+use mathlib.Core.List.{List}
+use mathlib.Core.Path.{_≡_}
+use Prim.Native.Nat.{_≤_, ℕ}
+use lib.ListN.{getD, length}
+use Rattle.model.specs.Request.Words.{nameCount, requestWords}
+
+-- Rules 5.1 and 5.2: sixteen words, neither reference longer than four names.
+pub record Sixteen (w : List ℕ) : Type 0 where
+  pub long : length w ≡ requestWords
+  pub first : getD w 2 0 ≤ nameCount
+  pub second : getD w 7 0 ≤ nameCount

@@ -1,0 +1,2 @@
+// The text of a request: sixteen words are written as seven lines, and seven lines are read as sixteen words.
+pub mod writing;
