@@ -1,7 +1,17 @@
--- What the writer of a request's text cites beyond the model.
+-- What the writer of a request's text cites beyond the model,
 pub mod Sixteen
 pub mod NameLaws
 pub mod TextLaws
 pub mod NeedLaws
 pub mod FitLaws
 pub mod EndLaws
+-- and what its readers ask and promise.
+pub mod NamesAt
+pub mod NamesAtLaws
+pub mod RefAt
+pub mod RefAtLaws
+pub mod Seven
+pub mod SevenLaws
+pub mod CopyLaws
+pub mod FillLaws
+pub mod ReadLaws

@@ -1,0 +1,63 @@
+use mathlib.Core.Path.{_≡_, refl, _∙_, ap}
+use Prim.Native.Nat.{_-_, _≤_}
+use native.Mathlib.Omega.{arith}
+use lib.ListN.{getD, length, length-set, set}
+use borrow.Author.Needs.{needs}
+use Rattle.request_text.specs.CopyLaws.{copied, copied-all, copied-turn}
+use Rattle.request_text.proofs.reading.copy_words.Statement.{statement}
+use Rattle.request_text.proofs.reading.copy_words.Tie as tie
+use Rattle.request_text.proofs.reading.copy_words.Reads as reads
+use Rattle.request_text.proofs.reading.copy_words.Lts as lts
+
+abbrev Inv-loop : tie.InvT-loop
+Inv-loop out₀ src i₀ out i = (i ≤ length src) × (length out ≡ length out₀) × (out ≡ copied src out₀ i)
+
+abbrev μ-loop : tie.MeasureT-loop
+μ-loop out₀ src i₀ out i = length src - i
+
+loop-holds : tie.Need-loop-holds Inv-loop μ-loop
+loop-holds c = (omega arith, refl, refl)
+
+mul-out : tie.Need-mul-out Inv-loop μ-loop
+mul-out c = search needs
+
+shared-slice-read-out : tie.Need-shared-slice-read-out Inv-loop μ-loop
+shared-slice-read-out c = search needs
+
+mul-out-2 : tie.Need-mul-out-2 Inv-loop μ-loop
+mul-out-2 c = search needs
+
+slice-write-out : tie.Need-slice-write-out Inv-loop μ-loop
+slice-write-out c = search needs
+
+add-i : tie.Need-add-i Inv-loop μ-loop
+add-i c = search needs
+
+loop-less : tie.Need-loop-less Inv-loop μ-loop
+loop-less c = search needs
+
+loop-again : tie.Need-loop-again Inv-loop μ-loop
+loop-again c = (omega arith, simp length-set (c .before .before .loop .inv .1), ap (λ d. set d (c .before .before .loop .i) (getD (c .before .before .before .args .src .now) (c .before .before .loop .i) 0)) (c .before .before .loop .inv .2) ∙ copied-turn _ _ _ (c .before .before .before .pre) (c .before .loop-test .taken))
+
+same-length : tie.Need-same-length Inv-loop μ-loop
+same-length c = search needs
+
+returns : tie.Need-returns Inv-loop μ-loop
+returns c = c .before .loop .inv .2 ∙ copied-all _ _ _ (c .before .before .pre) (c .loop-test .left)
+
+pub copy-words-spec : {M : Type 1} → statement M
+copy-words-spec =
+    tie.close
+    (tie.spec
+    Inv-loop
+    μ-loop
+    loop-holds
+    mul-out
+    shared-slice-read-out
+    mul-out-2
+    slice-write-out
+    add-i
+    loop-less
+    loop-again
+    same-length
+    returns)

@@ -1,0 +1,41 @@
+use Rattle.lines.specs.NumberAtLaws.{high, low}
+use Rattle.request_text.specs.NamesAtLaws.{ref-end, ref-first, ref-other}
+use borrow.Author.Needs.{needs}
+use Rattle.request_text.proofs.reading.read_names.Statement.{statement}
+use Rattle.request_text.proofs.reading.read_names.Tie as tie
+use Rattle.request_text.proofs.reading.read_names.Reads as reads
+use Rattle.request_text.proofs.reading.read_names.Lts as lts
+use Rattle.request_text.proofs.reading.first_names.Reads as first-names-reads
+
+returns : tie.Need-returns
+returns c = ref-end (c .before .before .before .args .s .now) (c .before .before .before .args .at) (c .before .before .before .args .out .now) (c .before .before .before .pre .0) (c .if1 .taken)
+
+shared-slice-read-b : tie.Need-shared-slice-read-b
+shared-slice-read-b c = search needs
+
+returns-2 : tie.Need-returns-2
+returns-2 c = ref-other (c .before .before .before .before .before .args .s .now) (c .before .before .before .before .before .args .at) (c .before .before .before .before .before .args .out .now) (c .before .before .if1 .left) (low _ (c .if2 .taken))
+
+returns-3 : tie.Need-returns-3
+returns-3 c = ref-other (c .before .before .before .before .before .before .args .s .now) (c .before .before .before .before .before .before .args .at) (c .before .before .before .before .before .before .args .out .now) (c .before .before .before .if1 .left) (high _ (c .if3 .taken))
+
+first-names-requires : tie.Need-first-names-requires
+first-names-requires c κs = search needs
+
+same-length : tie.Need-same-length
+same-length c = search needs
+
+returns-4 : tie.Need-returns-4
+returns-4 c = ref-first (c .before .before .before .before .before .before .before .before .before .before .args .s .now) (c .before .before .before .before .before .before .before .before .before .before .args .at) (c .before .before .before .before .before .before .before .if1 .left) (c .before .before .before .before .before .if2 .left) (c .before .before .before .before .if3 .left) (c .before .before .first-names .ensures)
+
+pub read-names-spec : {M : Type 1} → statement M
+read-names-spec =
+    tie.close
+    (tie.spec
+    returns
+    shared-slice-read-b
+    returns-2
+    returns-3
+    first-names-requires
+    same-length
+    returns-4)
