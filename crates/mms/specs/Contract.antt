@@ -6,6 +6,8 @@ use Rattle.mms.specs.declared.Answer.{Answer}
 use Rattle.model.specs.List.Listing.{Lists}
 use Rattle.model.specs.Request.Step.{afterOf, answerOf}
 use Rattle.model.specs.State.Check.{check}
+use Rattle.model.specs.Text.Reading.{Reads}
+use Rattle.model.specs.Text.Writing.{Writes}
 
 -- Rule 8.5: the state check of any words.
 abbrev pub checking : List ℕ → Answer
@@ -24,6 +26,14 @@ pub record Stepping (t q : List ℕ) (a : Answer) (r : List ℕ) : Type 0 where
 abbrev pub Listing : List ℕ → ℕ → List ℕ → Answer → List ℕ → Type 0
 Listing t u room a r = Lists t u room (a .no) (a .number) r
 
+-- Rule 11.4: the answer a, and the words r that stand in the request afterwards. The text is only read.
+abbrev pub Reading : List ℕ → List ℕ → Answer → List ℕ → Type 0
+Reading s w a r = Reads s w (a .no) (a .number) r
+
+-- Rule 11.3: the answer a, and the bytes r that stand in the room afterwards. The request is only read.
+abbrev pub Writing : List ℕ → List ℕ → Answer → List ℕ → Type 0
+Writing w room a r = Writes w room (a .no) (a .number) r
+
 -- An answer in one word of 64 bits, as C gets it.
 abbrev pub exported : Answer → ℕ
 exported a = a .no * 4294967296 + a .number
@@ -33,8 +43,8 @@ pub record Exporting (t q : List ℕ) (a : ℕ) (r : List ℕ) : Type 0 where
   pub answer : a ≡ exported (stepping t q)
   pub words : r ≡ afterOf t q
 
--- The list for C.
-pub record ExportingList (t : List ℕ) (u : ℕ) (room : List ℕ) (a : ℕ) (r : List ℕ) : Type 0 where
+-- A call that promises P of its answer and of what stands afterwards in the slice that it writes, for C: the answer comes in one word.
+pub record Exports (P : Answer → List ℕ → Type 0) (a : ℕ) (r : List ℕ) : Type 0 where
   pub answer : Answer
-  pub listed : Listing t u room answer r
+  pub called : P answer r
   pub word : a ≡ exported answer

@@ -2,3 +2,4 @@
 pub mod Contract
 pub mod Unique
 pub mod Cases
+pub mod RoundTrip

@@ -5,12 +5,13 @@ use mathlib.Core.Path.{_∙_, _≡_, ap, sym}
 use Prim.Native.Nat.{_%_, _*_, _+_, _/_, _<_, ℕ}
 use native.Mathlib.Omega.{arith}
 use lib.ListN.{length}
-use Rattle.mms.specs.Contract.{Exporting, ExportingList, Listing, Stepping, checking, exported}
+use Rattle.mms.specs.Contract.{Exporting, Exports, Listing, Reading, Stepping, Writing, checking, exported}
 use Rattle.mms.specs.declared.Answer.{Answer}
 use Rattle.model.specs.List.Complete.{Complete}
 use Rattle.model.specs.List.Listing.{barred, listAnswer, listNumber, opens, roomAfter}
 use Rattle.model.specs.List.ListingLaws.{lists-any, lists-small, lists-unique}
 use Rattle.model.specs.Request.Step.{Settles, afterOf, answerOf}
+use Rattle.model.specs.Text.BothWays.{read-number-small, reads-unique, write-number-small, writes-unique}
 use Rattle.model.specs.Theorem.Unique.{settles, settles-unique}
 
 -- The state check has one answer.
@@ -42,6 +43,18 @@ pub list-any : (t : List ℕ) (u : ℕ) (room : List ℕ) (a : Answer) (r : List
     → (a .no ≡ listAnswer (barred t u) l (length room)) × (a .number ≡ listNumber (barred t u) l) × (r ≡ roomAfter (a .no) l room)
 list-any t u room a r x l c = lists-any x l c
 
+-- The reader has one answer, and leaves one list of words.
+pub read-unique : (s w : List ℕ) (a b : Answer) (u v : List ℕ) → Reading s w a u → Reading s w b v → (a ≡ b) × (u ≡ v)
+read-unique s w a b u v x y =
+    let z = reads-unique x y in
+    (λ i. record { no = z .0 i; number = z .1 i }, z .2)
+
+-- The writer has one answer, and leaves one room.
+pub write-unique : (w room : List ℕ) (a b : Answer) (r s : List ℕ) → Writing w room a r → Writing w room b s → (a ≡ b) × (r ≡ s)
+write-unique w room a b r s x y =
+    let z = writes-unique x y in
+    (λ i. record { no = z .0 i; number = z .1 i }, z .2)
+
 -- Two answers of 32 bits each are one where C gets one word.
 pub exported-unique : (a b : Answer) → a .number < 4294967296 → b .number < 4294967296 → exported a ≡ exported b → a ≡ b
 exported-unique a b h k e =
@@ -53,17 +66,42 @@ exported-unique a b h k e =
 pub exported-step-unique : (t q : List ℕ) (a b : ℕ) (r s : List ℕ) → Exporting t q a r → Exporting t q b s → (a ≡ b) × (r ≡ s)
 exported-step-unique t q a b r s x y = (x .answer ∙ sym (y .answer), x .words ∙ sym (y .words))
 
--- The list for C has one answer, and leaves one room;
-pub exported-list-unique : (t : List ℕ) (u : ℕ) (room : List ℕ) (a b : ℕ) (r s : List ℕ) → ExportingList t u room a r → ExportingList t u room b s
-    → (a ≡ b) × (r ≡ s)
-exported-list-unique t u room a b r s x y =
-    let z = list-unique t u room (x .answer) (y .answer) r s (x .listed) (y .listed) in
+-- Whatever has one answer and leaves one slice has them for C too,
+pub exports-unique : (P : Answer → List ℕ → Type 0) → ((a b : Answer) (r s : List ℕ) → P a r → P b s → (a ≡ b) × (r ≡ s))
+    → (a b : ℕ) (r s : List ℕ) → Exports P a r → Exports P b s → (a ≡ b) × (r ≡ s)
+exports-unique P one a b r s x y =
+    let z = one (x .answer) (y .answer) r s (x .called) (y .called) in
     (x .word ∙ ap (λ (c : Answer). exported c) (z .0) ∙ sym (y .word), z .1)
 
--- and the pair can be told from the word.
-pub exported-list-parts : (t : List ℕ) (u : ℕ) (room : List ℕ) (a : ℕ) (r : List ℕ) (x : ExportingList t u room a r)
+-- and where the number has 32 bits the pair can be told from the word.
+exports-parts : (P : Answer → List ℕ → Type 0) → ((a : Answer) (r : List ℕ) → P a r → a .number < 4294967296) → (a : ℕ) (r : List ℕ) (x : Exports P a r)
     → (a / 4294967296 ≡ x .answer .no) × (a % 4294967296 ≡ x .answer .number)
-exported-list-parts t u room a r x =
-    let n = lists-small (x .listed) in
+exports-parts P small a r x =
+    let n = small (x .answer) r (x .called) in
     let w : a ≡ x .answer .no * 4294967296 + x .answer .number = x .word in
     (omega arith, omega arith)
+
+-- So it is with the list,
+pub exported-list-unique : (t : List ℕ) (u : ℕ) (room : List ℕ) (a b : ℕ) (r s : List ℕ) → Exports (Listing t u room) a r → Exports (Listing t u room) b s
+    → (a ≡ b) × (r ≡ s)
+exported-list-unique t u room = exports-unique (Listing t u room) (list-unique t u room)
+
+pub exported-list-parts : (t : List ℕ) (u : ℕ) (room : List ℕ) (a : ℕ) (r : List ℕ) (x : Exports (Listing t u room) a r)
+    → (a / 4294967296 ≡ x .answer .no) × (a % 4294967296 ≡ x .answer .number)
+exported-list-parts t u room = exports-parts (Listing t u room) (λ a r y. lists-small y)
+
+-- with the reader,
+pub exported-read-unique : (s w : List ℕ) (a b : ℕ) (u v : List ℕ) → Exports (Reading s w) a u → Exports (Reading s w) b v → (a ≡ b) × (u ≡ v)
+exported-read-unique s w = exports-unique (Reading s w) (read-unique s w)
+
+pub exported-read-parts : (s w : List ℕ) (a : ℕ) (u : List ℕ) (x : Exports (Reading s w) a u)
+    → (a / 4294967296 ≡ x .answer .no) × (a % 4294967296 ≡ x .answer .number)
+exported-read-parts s w = exports-parts (Reading s w) (λ a u y. omega (arith, y .number, read-number-small s w))
+
+-- and with the writer.
+pub exported-write-unique : (w room : List ℕ) (a b : ℕ) (r s : List ℕ) → Exports (Writing w room) a r → Exports (Writing w room) b s → (a ≡ b) × (r ≡ s)
+exported-write-unique w room = exports-unique (Writing w room) (write-unique w room)
+
+pub exported-write-parts : (w room : List ℕ) (a : ℕ) (r : List ℕ) (x : Exports (Writing w room) a r)
+    → (a / 4294967296 ≡ x .answer .no) × (a % 4294967296 ≡ x .answer .number)
+exported-write-parts w room = exports-parts (Writing w room) (λ a r y. omega (arith, y .number, write-number-small w))

@@ -1,7 +1,7 @@
-// The desk's public calls, and their C exports. Each takes any words, and none asks anything of them. An answer is a pair: document 01's
-// number, and a count or a place that goes with some of them, which is 0 for the check and the step.
+// The desk's public calls, and their C exports. Each takes any words or bytes, and none asks anything of them. An answer is a pair: document
+// 01's number, and a count, a need or a line that goes with some of them, which is 0 for the check and the step.
 ghost use mathlib.Core.Path.{_≡_};
-ghost use Rattle.mms.specs.Contract.{Exporting, ExportingList, Listing, Stepping, checking, exported};
+ghost use Rattle.mms.specs.Contract.{Exporting, Exports, Listing, Reading, Stepping, Writing, checking, exported};
 
 pub struct Answer {
     pub no: u32,
@@ -36,6 +36,30 @@ pub fn list(tables: &[u32], user: u32, room: &mut [u32]) -> Answer
     }
 }
 
+// The request of a text: its sixteen words, or 18 and the first line that is bad or missing, 8 where something follows the seventh; the words
+// change only with 0.
+pub fn read(text: &[u8], request: &mut [u32]) -> Answer
+    ensures { λ r. ⌜ Reading (now (text .entry)) (now (request .entry)) r (now (request .exit)) ⌝ }
+{
+    let p = request_text::reading::read(text, request);
+    Answer {
+        no: p.answer,
+        number: p.line,
+    }
+}
+
+// The text of a request at the front of the room, and its bytes; 5 where no text has these words; with 17 the bytes that it needs, and the
+// room as it was.
+pub fn write(request: &[u32], room: &mut [u8]) -> Answer
+    ensures { λ r. ⌜ Writing (now (request .entry)) (now (room .entry)) r (now (room .exit)) ⌝ }
+{
+    let w = request_text::writing::write(request, room);
+    Answer {
+        no: w.answer,
+        number: w.bytes,
+    }
+}
+
 // The answer in one word: the number in the upper half, what goes with it in the lower.
 fn packed(no: u32, number: u32) -> u64
     ensures { λ r. ⌜ r ≡ exported (record { no = no; number = number }) ⌝ }
@@ -64,8 +88,26 @@ pub extern "C" fn mms_step(tables: &mut [u32], request: &[u32]) -> u64
 // `list` for C.
 #[no_mangle]
 pub extern "C" fn mms_list(tables: &[u32], user: u32, room: &mut [u32]) -> u64
-    ensures { λ r. ⌜ ExportingList (now (tables .entry)) user (now (room .entry)) r (now (room .exit)) ⌝ }
+    ensures { λ r. ⌜ Exports (Listing (now (tables .entry)) user (now (room .entry))) r (now (room .exit)) ⌝ }
 {
     let a = list(tables, user, room);
+    packed(a.no, a.number)
+}
+
+// `read` for C.
+#[no_mangle]
+pub extern "C" fn mms_read(text: &[u8], request: &mut [u32]) -> u64
+    ensures { λ r. ⌜ Exports (Reading (now (text .entry)) (now (request .entry))) r (now (request .exit)) ⌝ }
+{
+    let a = read(text, request);
+    packed(a.no, a.number)
+}
+
+// `write` for C.
+#[no_mangle]
+pub extern "C" fn mms_write(request: &[u32], room: &mut [u8]) -> u64
+    ensures { λ r. ⌜ Exports (Writing (now (request .entry)) (now (room .entry))) r (now (room .exit)) ⌝ }
+{
+    let a = write(request, room);
     packed(a.no, a.number)
 }

@@ -35,16 +35,14 @@ here i = record { at = i; line = 0 }
 
 -- the run begins
 pub going-start : (t s : List ℕ) (last : Bool) (room : List ℕ) → Going t s last room t 0 room 0
+unfolding output
 going-start t s last room = record {
   within = omega arith;
   fits = omega arith;
   reports = [];
   so-far = refl;
-  wrote = subst (λ (l : List ℕ). Wrote l room room 0) (sym none) (wrote-none room);
+  wrote = wrote-none room;
 }
-  where
-    none : output [] ≡ []
-    none = refl
 
 module _ {t₀ s : List ℕ} {last : Bool} {room t : List ℕ} {at : ℕ} {out : List ℕ} {n : ℕ} (g : Going t₀ s last room t at out n) where
   -- the room is as long as it was
@@ -66,3 +64,101 @@ module _ {t₀ s : List ℕ} {last : Bool} {room t : List ℕ} {at : ℕ} {out :
           let a : x .place .line ≡ k = ap (λ (v : Turned). v .place .line) p in
           let f = read-bad (drop at s) k r in
           absurd (omega arith)
+
+  -- what was run so far, and one report more
+  after-more : (rs : List model.Report) (r : model.Report) (k : windows.Ran) → after rs (preceded r k) ≡ after (rs ++ (r ∷ [])) k
+  after-more rs r k = ap (λ (l : List model.Report). record { reports = l; tables = k .tables; rest = k .rest; line = k .line }) (sym (append-assoc rs (r ∷ []) (k .reports)))
+
+  settled-on : (x : Turned) (u out′ : List ℕ) (n′ : ℕ) (m : Wording) (y : List ℕ) → readSeven (drop at s) ≡ lines m y → at < length s → reportBytes ≤ length room - n
+      → x ≡ turnedBy t (length s) (here at) (lines m y) → u ≡ afterOf t (sixteen m) → Puts (reportText (fromCode (x .report))) out n out′ n′
+      → Going t₀ s last room u (x .place .at) out′ n′
+  settled-on x u out′ n′ m y r h room52 e f p =
+      let w : model.Report = report t (sixteen m) in
+      let a : x .place .at ≡ length s - length y = ap (λ (v : Turned). v .place .at) e in
+      let q : fromCode (x .report) ≡ w = ap (λ (v : Turned). fromCode (v .report)) e in
+      let p′ : Puts (reportText w) out n out′ n′ = subst (λ (v : model.Report). Puts (reportText v) out n out′ n′) q p in
+      let rest = seven-rest s at m y r in
+      let d : drop (x .place .at) s ≡ y = rw a (rest .0) in
+      let many : n′ ≡ n + length (reportText w) = p′ .many in
+      let len = report-length w in
+      let busy : idle (length room - n) (drop at s) ≡ false = idle-go (length room - n) (drop at s) room52 (rw (length-drop at s) (omega arith)) in
+      let left : length room - n - length (reportText w) ≡ length room - n′ = omega arith in
+      record {
+        within = omega arith;
+        fits = omega arith;
+        reports = g .reports ++ (w ∷ []);
+        so-far = g .so-far ∙ ap (after (g .reports)) (ran-turn t (drop at s) last (length room - n) m y busy r) ∙ after-more (g .reports) w _ ∙ rw (f, d, left) refl;
+        wrote = rw (output-more (g .reports) w) (wrote-puts (g .wrote) p′);
+      }
+
+  -- one request more is settled, and its report is written
+  pub going-turn : (x : Turned) (u out′ : List ℕ) (n′ : ℕ) → at < length s → reportBytes ≤ length room - n → x ≡ turnedOf t s (here at) → u ≡ leftOf t s (here at)
+      → x .place .line ≡ 0 → Puts (reportText (fromCode (x .report))) out n out′ n′ → Going t₀ s last room u (x .place .at) out′ n′
+  going-turn x u out′ n′ h room52 e f z p = go (readSeven (drop at s)) refl
+    where
+      go : (l : Lines) → readSeven (drop at s) ≡ l → Going t₀ s last room u (x .place .at) out′ n′
+      go (lines m y) r =
+          settled-on x u out′ n′ m y r h room52
+          (e ∙ ap (turnedBy t (length s) (here at)) r) (f ∙ ap (leftBy t) r) p
+      go (badLine k) r =
+          let q : x ≡ turnedBy t (length s) (here at) (badLine k) = e ∙ ap (turnedBy t (length s) (here at)) r in
+          let a : x .place .line ≡ k = ap (λ (v : Turned). v .place .line) q in
+          let b = read-bad (drop at s) k r in
+          absurd (omega arith)
+
+  -- nothing more is begun: the run ends where it is
+  stop-here : ran t (drop at s) last (length room - n) ≡ stopped t (drop at s) → RunsOn t₀ s last room (record { place = here at; bytes = n }) t out
+  stop-here e =
+      let whole : ran t₀ s last (length room) ≡ after (g .reports) (stopped t (drop at s)) = g .so-far ∙ ap (after (g .reports)) e in
+      let i : at ≡ length s - length (drop at s) = omega (arith, length-drop at s, g .within) in
+      record {
+        tables = sym (ap (λ (k : windows.Ran). k .tables) whole);
+        place = rw whole (ap here i);
+        wrote = rw (whole, append-nil (g .reports)) (g .wrote);
+      }
+
+  pub going-full : length room - n < reportBytes → RunsOn t₀ s last room (record { place = here at; bytes = n }) t out
+  going-full h = stop-here (ran-idle t (drop at s) last (length room - n) (idle-full (length room - n) (drop at s) h))
+
+  pub going-end : length s ≤ at → RunsOn t₀ s last room (record { place = here at; bytes = n }) t out
+  going-end h = stop-here (ran-idle t (drop at s) last (length room - n) (idle-end (length room - n) (drop at s) (omega (arith, length-drop at s))))
+
+  halted : (x : Turned) (u out′ : List ℕ) (r : Ran) (k : ℕ) → readSeven (drop at s) ≡ badLine k → at < length s → reportBytes ≤ length room - n
+      → x ≡ turnedBy t (length s) (here at) (badLine k) → u ≡ t → Halts s last out n at x r out′ → RunsOn t₀ s last room r u out′
+  halted x u out′ r k q h room52 e f halts = cases (true-or-false (not last && unfinished (drop at s))) waits stops
+    where
+      busy : idle (length room - n) (drop at s) ≡ false
+      busy = idle-go (length room - n) (drop at s) room52 (rw (length-drop at s) (omega arith))
+
+      is-bad : ran t (drop at s) last (length room - n) ≡ pick (not last && unfinished (drop at s)) (stopped t (drop at s)) (broken t (drop at s) k)
+      is-bad = ran-bad t (drop at s) last (length room - n) k busy q
+
+      waits : (not last && unfinished (drop at s)) ≡ true → RunsOn t₀ s last room r u out′
+      waits b =
+          let w = halts .waits b in
+          rw (w .0, w .1, f) (stop-here (is-bad ∙ rw b refl))
+
+      stops : (not last && unfinished (drop at s)) ≡ false → RunsOn t₀ s last room r u out′
+      stops b =
+          let w = halts .stops b in
+          let whole : ran t₀ s last (length room) ≡ after (g .reports) (broken t (drop at s) k) = g .so-far ∙ ap (after (g .reports)) (is-bad ∙ rw b refl) in
+          let i : at ≡ length s - length (drop at s) = omega (arith, length-drop at s, g .within) in
+          let p : r .place ≡ record { at = at; line = k } = w .0 ∙ ap (λ (v : Turned). v .place) e in
+          let o : Puts (reportText unread) out n out′ (r .bytes) = subst (λ (v : Turned). Puts (reportText (fromCode (v .report))) out n out′ (r .bytes)) e (w .1) in
+          record {
+            tables = f ∙ sym (ap (λ (j : windows.Ran). j .tables) whole);
+            place = rw whole (p ∙ ap (λ (j : ℕ). record { at = j; line = k }) i);
+            wrote = rw (whole, output-more (g .reports) unread) (wrote-puts (g .wrote) o);
+          }
+
+  -- a request cannot be read: the run ends with that, unless the request may be unfinished
+  pub going-halt : (x : Turned) (u out′ : List ℕ) (r : Ran) → at < length s → reportBytes ≤ length room - n → x ≡ turnedOf t s (here at) → u ≡ leftOf t s (here at)
+      → x .place .line ≢ 0 → Halts s last out n at x r out′ → RunsOn t₀ s last room r u out′
+  going-halt x u out′ r h room52 e f z halts = go (readSeven (drop at s)) refl
+    where
+      go : (l : Lines) → readSeven (drop at s) ≡ l → RunsOn t₀ s last room r u out′
+      go (lines m y) q =
+          let a : x ≡ turnedBy t (length s) (here at) (lines m y) = e ∙ ap (turnedBy t (length s) (here at)) q in
+          absurd (z (ap (λ (v : Turned). v .place .line) a))
+      go (badLine k) q =
+          halted x u out′ r k q h room52 (e ∙ ap (turnedBy t (length s) (here at)) q) (f ∙ ap (leftBy t) q) halts

@@ -1,3 +1,10 @@
-pub mod LoadLaws
 pub mod Reported
+pub mod Turn
+pub mod Running
+pub mod Going
+pub mod LoadLaws
+pub mod MoveLaws
 pub mod ReportLaws
+pub mod TurnLaws
+pub mod RunLaws
+pub mod GoingLaws

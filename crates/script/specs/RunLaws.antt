@@ -1,5 +1,5 @@
 -- The run of a window, one turn at a time.
-use mathlib.Core.Bool.{Bool, _&&_, false, not, true}
+use mathlib.Core.Bool.{Bool, _&&_, _||_, false, not, true}
 use mathlib.Core.List.{List, [], _++_, _∷_, append-assoc, append-nil}
 use mathlib.Core.Logic.{_⊎_, _≢_, inl, inr}
 use mathlib.Core.Path.{_∙_, _≡_, ap, refl, subst, sym}
@@ -54,7 +54,7 @@ pub idle-end : (n : ℕ) (s : List ℕ) → length s ≡ 0 → idle n s ≡ true
 unfolding idle
 idle-end n s h = rw h (go (ltb n reportBytes))
   where
-    go : (b : Bool) → (elim b [ true ↦ true | false ↦ true ]) ≡ true
+    go : (b : Bool) → (b || true) ≡ true
     go true = refl
     go false = refl
 

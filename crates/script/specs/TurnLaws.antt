@@ -1,8 +1,9 @@
 -- A turn, from what the reader of seven lines answers.
 use mathlib.Core.List.{List}
 use mathlib.Core.Path.{_∙_, _≡_, ap, refl, sym}
-use Prim.Native.Nat.{ℕ}
+use Prim.Native.Nat.{_-_, ℕ}
 use native.Mathlib.Omega.{arith}
+use lib.ListN.{length}
 use Rattle.model.specs.Request.Step.{afterOf}
 use Rattle.model.specs.Script.Reports.{report, unread}
 use Rattle.model.specs.Text.Reading.{wordsIn}

@@ -50,11 +50,10 @@ fn reported(out: &mut [u8], n: usize, t: Turned) -> Ran
     requires { ⌜ n + reportBytes ≤ length (now out) ⌝ }
     ensures { λ r. ⌜ (r .place ≡ t .place) × Puts (reportText (fromCode (t .report))) (now (out .entry)) n (now (out .exit)) (r .bytes) ⌝ }
 {
-    let bytes = crate::reports::put_report(out, n, t.report);
-    Ran {
-        place: t.place,
-        bytes,
-    }
+    let report = t.report;
+    let bytes = crate::reports::put_report(out, n, report);
+    let place = t.place;
+    Ran { place, bytes }
 }
 
 // The end of a run at a request that could not be read: that is reported, unless the request may be unfinished.
@@ -93,7 +92,8 @@ pub fn run(tables: &mut [u32], script: &[u8], last: bool, out: &mut [u8]) -> Ran
         if next.line != 0 {
             return halt(script, last, out, n, at, t);
         }
-        n = crate::reports::put_report(out, n, t.report);
+        let report = t.report;
+        n = crate::reports::put_report(out, n, report);
         at = next.at;
     }
     Ran {

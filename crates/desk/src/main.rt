@@ -1,0 +1,65 @@
+// The desk as a program: the tables come from the file state.words, the requests from standard input, and the reports go to standard output. All that is decided
+// is decided by the functions of `script`; here bytes are moved.
+use libc::STDIN_FILENO;
+use libc::STDOUT_FILENO;
+ghost use Prim.Native.Nat.{_≤_};
+ghost use lib.ListN.{length};
+
+// The bytes of the state file at the front of the room, and how many there are: none where there is no such file, or it cannot be read.
+fn read_state(room: &mut [u8]) -> usize
+    ensures { λ r. ⌜ r ≤ length (now (room .exit)) ⌝ }
+{
+    let fd = os::open_read(b"state.words");
+    if fd < 0 {
+        return 0;
+    }
+    let n = io::read_full(fd, room);
+    libc::close(fd);
+    n
+}
+
+// Reads once behind the first len bytes of the window, if more are wanted, and answers how many bytes there are then.
+fn fetch(window: &mut [u8], len: usize, wanted: bool) -> usize
+    requires { ⌜ len ≤ length (now window) ⌝ }
+    ensures { λ r. ⌜ (len ≤ r) × (r ≤ length (now (window .entry))) ⌝ }
+{
+    if !wanted {
+        return len;
+    }
+    let got = libc::read(STDIN_FILENO, &mut window[len..]);
+    len + io::count(got, &window[len..])
+}
+
+// Runs what arrives of the script, piece by piece, and writes the reports of each piece before it asks for the next. A loop must be seen to
+// end, and nothing says that input does: so it counts down from a number that no script uses up.
+fn serve(tables: &mut [u32], window: &mut [u8], out: &mut [u8]) {
+    let mut turns = u64::MAX;
+    let mut len: usize = 0;
+    let mut wanted = true;
+    let mut last = false;
+    while turns > 0 {
+        let filled = fetch(window, len, wanted);
+        last = last | wanted & (filled == len);
+        let r = script::runs::run(tables, &window[..filled], last, out);
+        if !io::write_all(STDOUT_FILENO, &out[..r.bytes]) {
+            return;
+        }
+        let place = r.place;
+        if script::windows::is_over(place, filled, last) {
+            return;
+        }
+        wanted = script::windows::had_room(r.bytes, out.len());
+        len = script::windows::keep(window, place.at, filled);
+        turns -= 1;
+    }
+}
+
+fn main() {
+    let mut file = [0u8; 9217];
+    let size = read_state(&mut file);
+    let mut tables = [0u32; 2304];
+    let n = script::state::load(&file[..size], &mut tables);
+    let mut window = io::large_buffer();
+    let mut out = io::large_buffer();
+    serve(&mut tables[..n], &mut window, &mut out);
+}

@@ -1,0 +1,21 @@
+use borrow.Author.Needs.{needs}
+use Rattle.script.proofs.turns.settled.Statement.{statement}
+use Rattle.script.proofs.turns.settled.Tie as tie
+use Rattle.script.proofs.turns.settled.Reads as reads
+use Rattle.script.proofs.turns.settled.Lts as lts
+use Rattle.script.proofs.reports.settle.Reads as settle-reads
+
+-- src/turns.rt:40:9
+settle-requires : tie.Need-settle-requires
+settle-requires c κs = search needs
+
+-- src/turns.rt:37:1
+same-length : tie.Need-same-length
+same-length c = search needs
+
+-- src/turns.rt:37:1
+returns : tie.Need-returns
+returns c = ?
+
+pub settled-spec : {M : Type 1} → statement M
+settled-spec = tie.close (tie.spec settle-requires same-length returns)

@@ -1,0 +1,63 @@
+use borrow.Author.Needs.{needs}
+use Rattle.script.proofs.turns.turn_at.Statement.{statement}
+use Rattle.script.proofs.turns.turn_at.Tie as tie
+use Rattle.script.proofs.turns.turn_at.Reads as reads
+use Rattle.script.proofs.turns.turn_at.Lts as lts
+use Rattle.request_text.proofs.reading.read_seven.Reads as read-seven-reads
+use Rattle.script.proofs.turns.settled.Reads as settled-reads
+use Rattle.script.proofs.turns.stuck.Reads as stuck-reads
+
+-- src/turns.rt:54:57
+slice-aggregate-read-seven : tie.Need-slice-aggregate-read-seven
+slice-aggregate-read-seven c = search needs
+
+-- src/turns.rt:54:11
+read-seven-requires : tie.Need-read-seven-requires
+read-seven-requires c κs = search needs
+
+-- src/turns.rt:55:24
+enum-known-k : tie.Need-enum-known-k
+enum-known-k c = search needs
+
+-- src/turns.rt:55:30
+stuck-requires : tie.Need-stuck-requires
+stuck-requires c κs = search needs
+
+-- src/turns.rt:56:21
+enum-known-next : tie.Need-enum-known-next
+enum-known-next c = search needs
+
+-- src/turns.rt:56:46
+slice-aggregate-settled : tie.Need-slice-aggregate-settled
+slice-aggregate-settled c = search needs
+
+-- src/turns.rt:56:30
+settled-requires : tie.Need-settled-requires
+settled-requires c κs = search needs
+
+-- src/turns.rt:48:1
+returns : tie.Need-returns
+returns c = ?
+
+-- src/turns.rt:48:1
+same-length : tie.Need-same-length
+same-length c = search needs
+
+-- src/turns.rt:48:1
+returns-2 : tie.Need-returns-2
+returns-2 c = ?
+
+pub turn-at-spec : {M : Type 1} → statement M
+turn-at-spec =
+    tie.close
+    (tie.spec
+    slice-aggregate-read-seven
+    read-seven-requires
+    enum-known-k
+    stuck-requires
+    enum-known-next
+    slice-aggregate-settled
+    settled-requires
+    returns
+    same-length
+    returns-2)

@@ -1,0 +1,16 @@
+use borrow.Author.Needs.{needs}
+use Rattle.script.proofs.windows.had_room.Statement.{statement}
+use Rattle.script.proofs.windows.had_room.Tie as tie
+use Rattle.script.proofs.windows.had_room.Reads as reads
+use Rattle.script.proofs.windows.had_room.Lts as lts
+
+-- src/windows.rt:38:9
+returns : tie.Need-returns
+returns c = ?
+
+-- src/windows.rt:34:1
+returns-2 : tie.Need-returns-2
+returns-2 c = search needs
+
+pub had-room-spec : {M : Type 1} → statement M
+had-room-spec = tie.close (tie.spec returns returns-2)
