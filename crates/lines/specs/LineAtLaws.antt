@@ -11,7 +11,7 @@ use Rattle.lines.specs.NumberAt.{NumberAt}
 use Rattle.lines.specs.declared.reading.Found.the-variants.{At, Nothing}
 use Rattle.lines.specs.declared.reading.Number.the-variants.{Bad, Value}
 use Rattle.model.specs.Text.Lines.{behind, lineEnd, readLine}
-use Rattle.model.specs.Text.Numbers.{Read, bad, got}
+use Rattle.model.specs.Text.Numbers.{bad, got}
 
 -- a key does not stand there, or it does
 pub key-nothing : {s : List ℕ} {at : ℕ} {key : List ℕ} → behind key (drop at s) ≡ bad → KeyAt s at key Nothing

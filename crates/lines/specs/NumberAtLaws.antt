@@ -11,7 +11,7 @@ use borrow.Author.Tests.{le-leb, le-ltb, lt-leb, lt-ltb, ne-eqb}
 use Rattle.lines.specs.NumberAt.{NumberAt}
 use Rattle.lines.specs.declared.reading.Number.{Number}
 use Rattle.lines.specs.declared.reading.Number.the-variants.{Bad, Value}
-use Rattle.model.specs.Text.Numbers.{Read, bad, got, isDigit, more, most, nineByte, number, zeroByte}
+use Rattle.model.specs.Text.Numbers.{bad, got, isDigit, more, most, nineByte, number, zeroByte}
 
 -- the byte at an index
 abbrev pub byte : List ℕ → ℕ → ℕ

@@ -1,6 +1,6 @@
 -- Copying a list into a room of the same length, one element after another.
 use mathlib.Core.List.{List, [], _++_, _∷_, append-assoc, append-nil}
-use mathlib.Core.Path.{_∙_, _≡_, ap, sym}
+use mathlib.Core.Path.{_≡_, sym}
 use Prim.Native.Nat.{_+_, _<_, _≤_, suc, ℕ}
 use native.Mathlib.Numerals.{add-one}
 use native.Mathlib.Omega.{arith}
@@ -13,7 +13,12 @@ copied src d i = take i src ++ drop i d
 
 pub copied-turn : (src d : List ℕ) (i : ℕ) → length d ≡ length src → i < length src → set (copied src d i) i (getD src i 0) ≡ copied src d (i + 1)
 copied-turn src d i l h =
-    rw (add-one i, drop-cons d i 0 (omega arith), set-at (take i src) (getD d i 0) (drop (suc i) d) (getD src i 0) i (length-take-le i src (omega arith)), take-suc src i 0 h)
+    rw (
+      add-one i,
+      drop-cons d i 0 (omega arith),
+      set-at (take i src) (getD d i 0) (drop (suc i) d) (getD src i 0) i (length-take-le i src (omega arith)),
+      take-suc src i 0 h,
+    )
     (sym (append-assoc (take i src) (getD src i 0 ∷ []) (drop (suc i) d)))
 
 pub copied-all : (src d : List ℕ) (i : ℕ) → length d ≡ length src → length src ≤ i → copied src d i ≡ src

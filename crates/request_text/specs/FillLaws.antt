@@ -1,6 +1,6 @@
 -- The eight ways in which reading seven lines ends, and the sixteen words where all were good.
 use mathlib.Core.List.{List, [], _++_, _∷_}
-use mathlib.Core.Path.{_∙_, _≡_, ap, refl, sym}
+use mathlib.Core.Path.{_∙_, _≡_, ap, refl}
 use Prim.Native.Nat.{_≤_, suc, zero, ℕ}
 use native.Mathlib.Omega.{arith}
 use lib.ListN.{drop, length, replicate, set, take}
@@ -8,10 +8,7 @@ use Rattle.lines.specs.LineAt.{LineAt}
 use Rattle.lines.specs.declared.reading.Number.the-variants.{Bad, Value}
 use Rattle.model.specs.List.Listing.{entry}
 use Rattle.model.specs.Request.Words.{nameCount, requestWords}
-use Rattle.model.specs.Text.Numbers.{Read, bad, got, number}
-use Rattle.model.specs.Text.Lines.{readLine}
-use Rattle.model.specs.Text.References.{reference}
-use Rattle.model.specs.Text.Wording.{Lines, Wording, aKey, bKey, badLine, cKey, lines, opKey, orLine, readSeven, ref2Key, refKey, sixteen, userKey}
+use Rattle.model.specs.Text.Wording.{aKey, bKey, badLine, cKey, lines, opKey, readSeven, ref2Key, refKey, sixteen, userKey}
 use Rattle.request_text.specs.RefAt.{RefAt}
 use Rattle.request_text.specs.Seven.{fresh}
 use Rattle.request_text.specs.declared.reading.Names.the-variants.{Are, Wrong}
@@ -52,7 +49,8 @@ module _ {s : List ℕ} {at : ℕ} where
               bad7 e7 = rw (← e1 .is, ← e2 .is, ← e3 .is, ← e4 .is, ← e5 .is, ← e6 .is, ← e7 .is)
 
               pub read7 : {v7 i7 : ℕ} → LineAt s i6 cKey (Value v7 i7)
-                  → readSeven (drop at s) ≡ lines (record { user = v1; operation = v2; first = take v3 p3; second = take v4 p4; a = v5; b = v6; c = v7 }) (drop i7 s)
+                  → readSeven (drop at s)
+                  ≡ lines (record { user = v1; operation = v2; first = take v3 p3; second = take v4 p4; a = v5; b = v6; c = v7 }) (drop i7 s)
               unfolding readSeven
               read7 e7 = rw (← e1 .is, ← e2 .is, ← e3 .is, ← e4 .is, ← e5 .is, ← e6 .is, ← e7 .is)
 
@@ -124,7 +122,8 @@ stored v user op n m a b c = set (set (set (set (set (set (set v 0 user) 1 op) 2
 pub stored-is : (w x y : List ℕ) (user op n m a b c : ℕ) → w ≡ fresh
     → length x ≡ length (firstPart w) → n ≤ nameCount → drop n x ≡ drop n (firstPart w)
     → length y ≡ length (secondPart w x) → m ≤ nameCount → drop m y ≡ drop m (secondPart w x)
-    → stored (withBoth w x y) user op n m a b c ≡ sixteen (record { user = user; operation = op; first = take n x; second = take m y; a = a; b = b; c = c })
+    → stored (withBoth w x y) user op n m a b c
+    ≡ sixteen (record { user = user; operation = op; first = take n x; second = take m y; a = a; b = b; c = c })
 unfolding sixteen
 stored-is w x y user op n m a b c f lx hn kx ly hm ky =
     let h : length x ≡ nameCount = lx ∙ ap length (first-part w f) in
@@ -146,5 +145,5 @@ stored-is w x y user op n m a b c f lx hn kx ly hm ky =
     go : (x y : List ℕ) → length x ≡ nameCount → length y ≡ nameCount → drop n x ≡ drop n zeros → drop m y ≡ drop m zeros → Is x y
     go x y h k =
         of-four (λ (x : List ℕ). drop n x ≡ drop n zeros → drop m y ≡ drop m zeros → Is x y) x h (λ x₁ x₂ x₃ x₄.
-        of-four (λ (y : List ℕ). drop n (x₁ ∷ x₂ ∷ x₃ ∷ x₄ ∷ []) ≡ drop n zeros → drop m y ≡ drop m zeros → Is (x₁ ∷ x₂ ∷ x₃ ∷ x₄ ∷ []) y) y k (λ y₁ y₂ y₃ y₄.
-        both x₁ x₂ x₃ x₄ y₁ y₂ y₃ y₄))
+        of-four (λ (y : List ℕ). drop n (x₁ ∷ x₂ ∷ x₃ ∷ x₄ ∷ []) ≡ drop n zeros → drop m y ≡ drop m zeros → Is (x₁ ∷ x₂ ∷ x₃ ∷ x₄ ∷ []) y) y k
+        (λ y₁ y₂ y₃ y₄. both x₁ x₂ x₃ x₄ y₁ y₂ y₃ y₄))

@@ -5,14 +5,15 @@ use mathlib.Core.Path.{_∙_, _≡_, refl}
 use Prim.Native.Nat.{_+_, _-_, _<_, _≤_, suc, zero, zero-le, ℕ}
 use native.Mathlib.Numerals.{add-one}
 use native.Mathlib.Omega.{arith}
-use lib.ListN.{drop, drop-of-length-le, getD, length, length-drop, set, take}
+use lib.ListN.{drop, drop-of-length-le, getD, length, length-drop, length-set, set, take}
 use lib.Seq.{drop-cons, take-all}
 use borrow.Author.Tests.{ne-eqb}
+use borrow.Rule.Slice.PartMut.{same-len-mid}
 use Rattle.lines.specs.NumberAt.{NumberAt}
 use Rattle.lines.specs.NumberAtLaws.{digit}
 use Rattle.lines.specs.declared.reading.Number.the-variants.{Bad, Value}
 use Rattle.model.specs.Request.Words.{nameCount}
-use Rattle.model.specs.Text.Numbers.{Read, bad, got, isDigit, nineByte, zeroByte}
+use Rattle.model.specs.Text.Numbers.{Read, got, isDigit, nineByte, zeroByte}
 use Rattle.model.specs.Text.References.{dotByte, further, nameAnd, reference}
 use Rattle.request_text.specs.NamesAt.{NamesIs}
 use Rattle.request_text.specs.declared.reading.Names.{Names}
@@ -22,8 +23,14 @@ use Rattle.request_text.specs.declared.reading.Names.the-variants.{Are, 
 part-is : (xs : List ℕ) (a : ℕ) → take (length xs - a) (drop a xs) ≡ drop a xs
 part-is xs a = take-all (length xs - a) (drop a xs) (omega (arith, length-drop a xs))
 
-pub length-part : (xs : List ℕ) (a : ℕ) → length (take (length xs - a) (drop a xs)) ≡ length xs - a
-length-part xs a = rw (part-is xs a) (length-drop a xs)
+-- a room after its first word was stored: the part behind it has place for one name less,
+pub part-room : (o : List ℕ) (v k : ℕ) → k + 1 ≤ length o → k ≤ length (take (length (set o 0 v) - 1) (drop 1 (set o 0 v)))
+part-room o v k h = rw (part-is (set o 0 v) 1, length-drop 1 (set o 0 v), length-set o 0 v) (omega arith)
+
+-- and when that part is back the room is as long as it was
+pub part-back : (o ys : List ℕ) (v : ℕ) → length ys ≡ length (take (length (set o 0 v) - 1) (drop 1 (set o 0 v)))
+    → length (take 1 (set o 0 v) ++ (ys ++ drop (length (set o 0 v) - 1) (drop 1 (set o 0 v)))) ≡ length o
+part-back o ys v e = same-len-mid 1 (length (set o 0 v) - 1) (set o 0 v) ys e ∙ length-set o 0 v
 
 module _ (s : List ℕ) (at : ℕ) where
   -- no name is read, and the room stays

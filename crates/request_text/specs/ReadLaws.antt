@@ -1,13 +1,13 @@
 -- The four ways in which reading a whole text ends (rule 11.4).
 use mathlib.Core.List.{List, [], _∷_}
-use mathlib.Core.Path.{_∙_, _≡_, refl, sym}
+use mathlib.Core.Path.{_≡_, refl}
 use Prim.Native.Nat.{_-_, _<_, _≤_, ℕ}
 use native.Mathlib.Omega.{arith}
 use lib.ListN.{length}
 use borrow.Author.Tests.{eq-eqb, ne-eqb}
 use Rattle.model.specs.Request.Words.{requestWords}
 use Rattle.model.specs.Text.Reading.{Reads, notRead, readAnswer, readNumber, wordsAfter, wordsIn}
-use Rattle.model.specs.Text.Wording.{Lines, Wording, atEnd, badLine, lines, readSeven, readText}
+use Rattle.model.specs.Text.Wording.{Lines, badLine, lines, readSeven, readText}
 use Rattle.model.specs.Text.Writing.{wrongSize}
 use Rattle.request_text.specs.Seven.{SevenAt, sevenOf}
 use Rattle.request_text.specs.SevenLaws.{seven-rest}

@@ -1,5 +1,5 @@
 -- Seven lines that were read: what is left behind them, and what the answer tells of the words.
-use mathlib.Core.List.{List, [], _++_}
+use mathlib.Core.List.{List, _++_}
 use mathlib.Core.Path.{_∙_, _≡_, ap, refl, sym}
 use Prim.Native.Nat.{_+_, _-_, _<_, _≤_, ℕ}
 use native.Mathlib.Omega.{arith}
@@ -26,7 +26,8 @@ seven-rest s at m x e =
     let b : Written m × (drop at s ≡ textOf m ++ x) = text-back (drop at s) m x e in
     let l : length s ≡ at + (length (textOf m) + length x) = text-span s at m x (b .1) in
     let i : length s - length x ≡ at + length (textOf m) = omega arith in
-    (rw i (sym (drop-drop (length (textOf m)) at s) ∙ ap (drop (length (textOf m))) (b .1) ∙ drop-at (textOf m) x (length (textOf m)) refl), omega arith)
+    let n : ℕ = length (textOf m) in
+    (rw i (sym (drop-drop n at s) ∙ ap (drop n) (b .1) ∙ drop-at (textOf m) x n refl), omega arith)
 
 -- and that index is further on.
 pub seven-further : (s : List ℕ) (at : ℕ) (m : Wording) (x : List ℕ) → at ≤ length s → readSeven (drop at s) ≡ lines m x → at < length s - length x

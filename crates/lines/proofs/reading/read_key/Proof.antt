@@ -29,7 +29,12 @@ shared-slice-read-if2-2 : tie.Need-shared-slice-read-if2-2 Inv-loop μ-loop
 shared-slice-read-if2-2 c = search needs
 
 returns-2 : tie.Need-returns-2 Inv-loop μ-loop
-returns-2 c = key-nothing (c .before .before .before .before .before .loop .inv .2 ∙ behind-differs _ _ _ _ (c .before .before .before .before .loop-test .taken) (c .before .before .before .if1 .left) (c .if2 .taken))
+returns-2 c =
+    let if2 = c .if2 in
+    let if1 = c .before .before .before .if1 in
+    let test = c .before .before .before .before .loop-test in
+    let l = c .before .before .before .before .before .loop in
+    key-nothing (l .inv .2 ∙ behind-differs _ _ _ _ (test .taken) (if1 .left) (if2 .taken))
 
 add-i : tie.Need-add-i Inv-loop μ-loop
 add-i c = search needs
@@ -41,10 +46,19 @@ loop-less : tie.Need-loop-less Inv-loop μ-loop
 loop-less c = search needs
 
 loop-again : tie.Need-loop-again Inv-loop μ-loop
-loop-again c = (omega arith, omega arith, c .before .before .before .before .before .loop .inv .2 ∙ behind-turn _ _ _ _ (c .before .before .before .before .loop-test .taken) (c .before .before .before .if1 .left) (c .if2 .left))
+loop-again c =
+    let if2 = c .if2 in
+    let if1 = c .before .before .before .if1 in
+    let test = c .before .before .before .before .loop-test in
+    let l = c .before .before .before .before .before .loop in
+    (omega arith, omega arith, l .inv .2 ∙ behind-turn _ _ _ _ (test .taken) (if1 .left) (if2 .left))
 
 returns-3 : tie.Need-returns-3 Inv-loop μ-loop
-returns-3 c = key-at (c .before .loop .inv .1) (c .before .loop .inv .2 ∙ behind-end (c .before .before .args .s .now) _ _ (c .before .loop .j) (c .loop-test .left))
+returns-3 c =
+    let test = c .loop-test in
+    let l = c .before .loop in
+    let a = c .before .before .args in
+    key-at (l .inv .1) (l .inv .2 ∙ behind-end (a .s .now) _ _ (l .j) (test .left))
 
 pub read-key-spec : {M : Type 1} → statement M
 read-key-spec =

@@ -29,7 +29,12 @@ enum-told-2 : tie.Need-enum-told-2
 enum-told-2 c = search needs
 
 returns-2 : tie.Need-returns-2
-returns-2 c = line-no-number (rw (c .before .before .before .before .i .given .1) at (c .before .before .before .before .before .before .read-key .ensures)) (rw (c .enum-told2 .given .1) at (c .before .before .read-number .ensures))
+returns-2 c =
+    let enum-told2 = c .enum-told2 in
+    let read-number = c .before .before .read-number in
+    let i = c .before .before .before .before .i in
+    let read-key = c .before .before .before .before .before .before .read-key in
+    line-no-number (rw (i .given .1) at (read-key .ensures)) (rw (enum-told2 .given .1) at (read-number .ensures))
 
 slice-aggregate-read-key : tie.Need-slice-aggregate-read-key
 slice-aggregate-read-key c = search needs
@@ -44,10 +49,24 @@ enum-told-3 : tie.Need-enum-told-3
 enum-told-3 c = search needs
 
 returns-3 : tie.Need-returns-3
-returns-3 c = line-no-end (rw (c .before .before .before .before .before .before .before .before .before .i .given .1) at (c .before .before .before .before .before .before .before .before .before .before .before .read-key .ensures)) (rw (c .before .before .before .before .before .v .given .1) at (c .before .before .before .before .before .before .before .read-number .ensures)) (rw (c .enum-told3 .given .1) at (c .before .before .read-key2 .ensures))
+returns-3 c =
+    let enum-told3 = c .enum-told3 in
+    let read-key2 = c .before .before .read-key2 in
+    let v = c .before .before .before .before .before .v in
+    let read-number = c .before .before .before .before .before .before .before .read-number in
+    let i = c .before .before .before .before .before .before .before .before .before .i in
+    let read-key = c .before .before .before .before .before .before .before .before .before .before .before .read-key in
+    line-no-end (rw (i .given .1) at (read-key .ensures)) (rw (v .given .1) at (read-number .ensures)) (rw (enum-told3 .given .1) at (read-key2 .ensures))
 
 returns-4 : tie.Need-returns-4
-returns-4 c = line-read (rw (c .before .before .before .before .before .before .before .before .before .before .i .given .1) at (c .before .before .before .before .before .before .before .before .before .before .before .before .read-key .ensures)) (rw (c .before .before .before .before .before .before .v .given .1) at (c .before .before .before .before .before .before .before .before .read-number .ensures)) (rw (c .before .j .given .1) at (c .before .before .before .read-key2 .ensures))
+returns-4 c =
+    let j = c .before .j in
+    let read-key2 = c .before .before .before .read-key2 in
+    let v = c .before .before .before .before .before .before .v in
+    let read-number = c .before .before .before .before .before .before .before .before .read-number in
+    let i = c .before .before .before .before .before .before .before .before .before .before .i in
+    let read-key = c .before .before .before .before .before .before .before .before .before .before .before .before .read-key in
+    line-read (rw (i .given .1) at (read-key .ensures)) (rw (v .given .1) at (read-number .ensures)) (rw (j .given .1) at (read-key2 .ensures))
 
 pub read-line-spec : {M : Type 1} → statement M
 read-line-spec =

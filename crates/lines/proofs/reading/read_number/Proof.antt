@@ -37,7 +37,11 @@ value-requires : tie.Need-value-requires Inv-loop μ-loop
 value-requires c κs = search needs
 
 returns-4 : tie.Need-returns-4 Inv-loop μ-loop
-returns-4 c = number-got (c .value .ensures) (omega arith) (number-zero _ _ (c .before .before .before .before .before .if1 .left) (c .before .if4 .taken))
+returns-4 c =
+    let value = c .value in
+    let if4 = c .before .if4 in
+    let if1 = c .before .before .before .before .before .if1 in
+    number-got (value .ensures) (omega arith) (number-zero _ _ (if1 .left) (if4 .taken))
 
 wide-requires : tie.Need-wide-requires Inv-loop μ-loop
 wide-requires c κs = search needs
@@ -46,7 +50,13 @@ sub-v : tie.Need-sub-v Inv-loop μ-loop
 sub-v c = search needs
 
 loop-holds : tie.Need-loop-holds Inv-loop μ-loop
-loop-holds c = (omega arith, omega (arith, c .wide .ensures, c .before .before .if3 .left), rw (c .wide .ensures) (number-first _ _ (c .before .before .before .before .before .if1 .left) (c .before .before .before .if2 .left) (c .before .before .if3 .left) (c .before .if4 .left)))
+loop-holds c =
+    let wide = c .wide in
+    let if4 = c .before .if4 in
+    let if3 = c .before .before .if3 in
+    let if2 = c .before .before .before .if2 in
+    let if1 = c .before .before .before .before .before .if1 in
+    (omega arith, omega (arith, wide .ensures, if3 .left), rw (wide .ensures) (number-first _ _ (if1 .left) (if2 .left) (if3 .left) (if4 .left)))
 
 shared-slice-read-b : tie.Need-shared-slice-read-b Inv-loop μ-loop
 shared-slice-read-b c = search needs
@@ -55,13 +65,23 @@ value-requires-2 : tie.Need-value-requires-2 Inv-loop μ-loop
 value-requires-2 c κs = search needs
 
 returns-5 : tie.Need-returns-5 Inv-loop μ-loop
-returns-5 c = number-got (c .value2 .ensures) (c .before .before .before .before .loop .inv .0) (c .before .before .before .before .loop .inv .2 ∙ more-other _ _ _ (c .before .before .before .loop-test .taken) (low _ (c .before .if5 .taken)))
+returns-5 c =
+    let value2 = c .value2 in
+    let if5 = c .before .if5 in
+    let test = c .before .before .before .loop-test in
+    let l = c .before .before .before .before .loop in
+    number-got (value2 .ensures) (l .inv .0) (l .inv .2 ∙ more-other _ _ _ (test .taken) (low _ (if5 .taken)))
 
 value-requires-3 : tie.Need-value-requires-3 Inv-loop μ-loop
 value-requires-3 c κs = search needs
 
 returns-6 : tie.Need-returns-6 Inv-loop μ-loop
-returns-6 c = number-got (c .value3 .ensures) (c .before .before .before .before .before .loop .inv .0) (c .before .before .before .before .before .loop .inv .2 ∙ more-other _ _ _ (c .before .before .before .before .loop-test .taken) (high _ (c .before .if6 .taken)))
+returns-6 c =
+    let value3 = c .value3 in
+    let if6 = c .before .if6 in
+    let test = c .before .before .before .before .loop-test in
+    let l = c .before .before .before .before .before .loop in
+    number-got (value3 .ensures) (l .inv .0) (l .inv .2 ∙ more-other _ _ _ (test .taken) (high _ (if6 .taken)))
 
 mul-v : tie.Need-mul-v Inv-loop μ-loop
 mul-v c = search needs
@@ -76,7 +96,14 @@ add-v : tie.Need-add-v Inv-loop μ-loop
 add-v c = search needs
 
 returns-7 : tie.Need-returns-7 Inv-loop μ-loop
-returns-7 c = number-bad (c .before .before .before .before .before .before .loop .inv .2 ∙ more-over _ _ _ (c .before .before .before .before .before .loop-test .taken) (c .before .before .before .if5 .left) (c .before .before .if6 .left) (rw (c .before .wide2 .ensures) at (c .if7 .taken)))
+returns-7 c =
+    let if7 = c .if7 in
+    let wide2 = c .before .wide2 in
+    let if6 = c .before .before .if6 in
+    let if5 = c .before .before .before .if5 in
+    let test = c .before .before .before .before .before .loop-test in
+    let l = c .before .before .before .before .before .before .loop in
+    number-bad (l .inv .2 ∙ more-over _ _ _ (test .taken) (if5 .left) (if6 .left) (rw (wide2 .ensures) at (if7 .taken)))
 
 add-i-2 : tie.Need-add-i-2 Inv-loop μ-loop
 add-i-2 c = search needs
@@ -85,13 +112,24 @@ loop-less : tie.Need-loop-less Inv-loop μ-loop
 loop-less c = search needs
 
 loop-again : tie.Need-loop-again Inv-loop μ-loop
-loop-again c = (omega arith, c .if7 .left, rw (c .before .wide2 .ensures) (c .before .before .before .before .before .before .loop .inv .2 ∙ more-turn _ _ _ (c .before .before .before .before .before .loop-test .taken) (c .before .before .before .if5 .left) (c .before .before .if6 .left) (rw (c .before .wide2 .ensures) at (c .if7 .left))))
+loop-again c =
+    let if7 = c .if7 in
+    let wide2 = c .before .wide2 in
+    let if6 = c .before .before .if6 in
+    let if5 = c .before .before .before .if5 in
+    let test = c .before .before .before .before .before .loop-test in
+    let l = c .before .before .before .before .before .before .loop in
+    (omega arith, if7 .left, rw (wide2 .ensures) (l .inv .2 ∙ more-turn _ _ _ (test .taken) (if5 .left) (if6 .left) (rw (wide2 .ensures) at (if7 .left))))
 
 value-requires-4 : tie.Need-value-requires-4 Inv-loop μ-loop
 value-requires-4 c κs = search needs
 
 returns-8 : tie.Need-returns-8 Inv-loop μ-loop
-returns-8 c = number-got (c .value4 .ensures) (c .before .before .loop .inv .0) (c .before .before .loop .inv .2 ∙ more-end _ _ _ (c .before .loop-test .left))
+returns-8 c =
+    let value4 = c .value4 in
+    let test = c .before .loop-test in
+    let l = c .before .before .loop in
+    number-got (value4 .ensures) (l .inv .0) (l .inv .2 ∙ more-end _ _ _ (test .left))
 
 pub read-number-spec : {M : Type 1} → statement M
 read-number-spec =

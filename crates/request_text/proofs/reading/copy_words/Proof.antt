@@ -37,7 +37,12 @@ loop-less : tie.Need-loop-less Inv-loop μ-loop
 loop-less c = search needs
 
 loop-again : tie.Need-loop-again Inv-loop μ-loop
-loop-again c = (omega arith, simp length-set (c .before .before .loop .inv .1), ap (λ d. set d (c .before .before .loop .i) (getD (c .before .before .before .args .src .now) (c .before .before .loop .i) 0)) (c .before .before .loop .inv .2) ∙ copied-turn _ _ _ (c .before .before .before .pre) (c .before .loop-test .taken))
+loop-again c =
+    let test = c .before .loop-test in
+    let l = c .before .before .loop in
+    let a = c .before .before .before .args in
+    let pre = c .before .before .before .pre in
+    (omega arith, simp length-set (l .inv .1), ap (λ d. set d (l .i) (getD (a .src .now) (l .i) 0)) (l .inv .2) ∙ copied-turn _ _ _ (pre) (test .taken))
 
 same-length : tie.Need-same-length Inv-loop μ-loop
 same-length c = search needs

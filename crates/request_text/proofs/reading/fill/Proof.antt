@@ -25,7 +25,8 @@ enum-told : tie.Need-enum-told
 enum-told c = search needs
 
 returns : tie.Need-returns
-returns c = let l1 = c .before .before in
+returns c =
+    let l1 = c .before .before in
     seven-bad (bad1 (rw (c .enum-told .given .1) at (l1 .read-line .ensures)))
 
 slice-aggregate-read-line-2 : tie.Need-slice-aggregate-read-line-2
@@ -41,9 +42,12 @@ enum-told-2 : tie.Need-enum-told-2
 enum-told-2 c = search needs
 
 returns-2 : tie.Need-returns-2
-returns-2 c = let l2 = c .before .before in
+returns-2 c =
+    let l2 = c .before .before in
     let v1 = l2 .before .before .before in let l1 = v1 .before .before in
-    seven-bad (bad2 (rw (v1 .user .given .1) at (l1 .read-line .ensures)) (rw (c .enum-told2 .given .1) at (l2 .read-line2 .ensures)))
+    seven-bad (bad2
+    (rw (v1 .user .given .1) at (l1 .read-line .ensures))
+    (rw (c .enum-told2 .given .1) at (l2 .read-line2 .ensures)))
 
 slice-aggregate-read-ref : tie.Need-slice-aggregate-read-ref
 slice-aggregate-read-ref c = search needs
@@ -55,10 +59,15 @@ part-read-ref-start : tie.Need-part-read-ref-start
 part-read-ref-start c = search needs
 
 part-read-ref-end : tie.Need-part-read-ref-end
-part-read-ref-end c = let f = c .before .before .before .before .before .before .before .before .before .before .before .before .before .pre .1 in rw f (omega arith)
+part-read-ref-end c =
+    let a = c .before .before .before .before .before .before .before .before .before .before .before .before .before in
+    rw (a .pre .1) (omega arith)
 
 read-ref-requires : tie.Need-read-ref-requires
-read-ref-requires c κs = ((rw (c .before .before .before .op .given .1) at (c .before .before .before .before .before .read-line2 .ensures)) .within, omega (arith, ap length (first-part _ (c .before .before .before .before .before .before .before .before .before .before .before .before .before .before .pre .1))))
+read-ref-requires c κs =
+    let v2 = c .before .before .before in let l2 = v2 .before .before in
+    let a = l2 .before .before .before .before .before .before .before .before .before in
+    ((rw (v2 .op .given .1) at (l2 .read-line2 .ensures)) .within, omega (arith, ap length (first-part _ (a .pre .1))))
 
 enum-known-n : tie.Need-enum-known-n
 enum-known-n c = search needs
@@ -70,10 +79,14 @@ same-length : tie.Need-same-length
 same-length c = search needs
 
 returns-3 : tie.Need-returns-3
-returns-3 c = let l3 = c .before .before .before .before in
+returns-3 c =
+    let l3 = c .before .before .before .before in
     let v2 = l3 .before .before .before .before in let l2 = v2 .before .before in
     let v1 = l2 .before .before .before in let l1 = v1 .before .before in
-    seven-bad (bad3 (rw (v1 .user .given .1) at (l1 .read-line .ensures)) (rw (v2 .op .given .1) at (l2 .read-line2 .ensures)) (rw (c .enum-told3 .given .1) at (l3 .read-ref .ensures)))
+    seven-bad (bad3
+    (rw (v1 .user .given .1) at (l1 .read-line .ensures))
+    (rw (v2 .op .given .1) at (l2 .read-line2 .ensures))
+    (rw (c .enum-told3 .given .1) at (l3 .read-ref .ensures)))
 
 slice-aggregate-read-ref-2 : tie.Need-slice-aggregate-read-ref-2
 slice-aggregate-read-ref-2 c = search needs
@@ -86,12 +99,14 @@ part-read-ref-start-2 c = search needs
 
 part-read-ref-end-2 : tie.Need-part-read-ref-end-2
 part-read-ref-end-2 c =
-    let l3 = c .before .before .before .before .before .before in let a = l3 .before .before .before .before .before .before .before .before .before .before .before .before .before .before .before in
+    let l3 = c .before .before .before .before .before .before in
+    let a = l3 .before .before .before .before .before .before .before .before .before .before .before .before .before .before .before in
     omega (arith, first-length (a .args .w .now) (l3 .read-ref .last .1 .1 .1 .0) (a .pre .1) (l3 .read-ref .kept .1 .1 .1 .0))
 
 read-ref-requires-2 : tie.Need-read-ref-requires-2
 read-ref-requires-2 c κs =
-    let v3 = c .before .before .before in let l3 = v3 .before .before .before .before in let a = l3 .before .before .before .before .before .before .before .before .before .before .before .before .before .before .before in
+    let v3 = c .before .before .before in let l3 = v3 .before .before .before .before in
+    let a = l3 .before .before .before .before .before .before .before .before .before .before .before .before .before .before .before in
     let e = second-part (a .args .w .now) (l3 .read-ref .last .1 .1 .1 .0) (a .pre .1) (l3 .read-ref .kept .1 .1 .1 .0) in
     ((rw (v3 .n .given .1) at (l3 .read-ref .ensures)) .within, omega (arith, ap length e))
 
@@ -105,11 +120,16 @@ same-length-2 : tie.Need-same-length-2
 same-length-2 c = search needs
 
 returns-4 : tie.Need-returns-4
-returns-4 c = let l4 = c .before .before .before .before in
+returns-4 c =
+    let l4 = c .before .before .before .before in
     let v3 = l4 .before .before .before .before in let l3 = v3 .before .before .before .before in
     let v2 = l3 .before .before .before .before in let l2 = v2 .before .before in
     let v1 = l2 .before .before .before in let l1 = v1 .before .before in
-    seven-bad (bad4 (rw (v1 .user .given .1) at (l1 .read-line .ensures)) (rw (v2 .op .given .1) at (l2 .read-line2 .ensures)) (rw (v3 .n .given .1) at (l3 .read-ref .ensures)) (rw (c .enum-told4 .given .1) at (l4 .read-ref2 .ensures)))
+    seven-bad (bad4
+    (rw (v1 .user .given .1) at (l1 .read-line .ensures))
+    (rw (v2 .op .given .1) at (l2 .read-line2 .ensures))
+    (rw (v3 .n .given .1) at (l3 .read-ref .ensures))
+    (rw (c .enum-told4 .given .1) at (l4 .read-ref2 .ensures)))
 
 slice-aggregate-read-line-3 : tie.Need-slice-aggregate-read-line-3
 slice-aggregate-read-line-3 c = search needs
@@ -127,12 +147,18 @@ same-length-3 : tie.Need-same-length-3
 same-length-3 c = search needs
 
 returns-5 : tie.Need-returns-5
-returns-5 c = let l5 = c .before .before in
+returns-5 c =
+    let l5 = c .before .before in
     let v4 = l5 .before .before .before in let l4 = v4 .before .before .before .before in
     let v3 = l4 .before .before .before .before in let l3 = v3 .before .before .before .before in
     let v2 = l3 .before .before .before .before in let l2 = v2 .before .before in
     let v1 = l2 .before .before .before in let l1 = v1 .before .before in
-    seven-bad (bad5 (rw (v1 .user .given .1) at (l1 .read-line .ensures)) (rw (v2 .op .given .1) at (l2 .read-line2 .ensures)) (rw (v3 .n .given .1) at (l3 .read-ref .ensures)) (rw (v4 .m .given .1) at (l4 .read-ref2 .ensures)) (rw (c .enum-told5 .given .1) at (l5 .read-line3 .ensures)))
+    seven-bad (bad5
+    (rw (v1 .user .given .1) at (l1 .read-line .ensures))
+    (rw (v2 .op .given .1) at (l2 .read-line2 .ensures))
+    (rw (v3 .n .given .1) at (l3 .read-ref .ensures))
+    (rw (v4 .m .given .1) at (l4 .read-ref2 .ensures))
+    (rw (c .enum-told5 .given .1) at (l5 .read-line3 .ensures)))
 
 slice-aggregate-read-line-4 : tie.Need-slice-aggregate-read-line-4
 slice-aggregate-read-line-4 c = search needs
@@ -150,13 +176,20 @@ same-length-4 : tie.Need-same-length-4
 same-length-4 c = search needs
 
 returns-6 : tie.Need-returns-6
-returns-6 c = let l6 = c .before .before in
+returns-6 c =
+    let l6 = c .before .before in
     let v5 = l6 .before .before .before in let l5 = v5 .before .before in
     let v4 = l5 .before .before .before in let l4 = v4 .before .before .before .before in
     let v3 = l4 .before .before .before .before in let l3 = v3 .before .before .before .before in
     let v2 = l3 .before .before .before .before in let l2 = v2 .before .before in
     let v1 = l2 .before .before .before in let l1 = v1 .before .before in
-    seven-bad (bad6 (rw (v1 .user .given .1) at (l1 .read-line .ensures)) (rw (v2 .op .given .1) at (l2 .read-line2 .ensures)) (rw (v3 .n .given .1) at (l3 .read-ref .ensures)) (rw (v4 .m .given .1) at (l4 .read-ref2 .ensures)) (rw (v5 .a .given .1) at (l5 .read-line3 .ensures)) (rw (c .enum-told6 .given .1) at (l6 .read-line4 .ensures)))
+    seven-bad (bad6
+    (rw (v1 .user .given .1) at (l1 .read-line .ensures))
+    (rw (v2 .op .given .1) at (l2 .read-line2 .ensures))
+    (rw (v3 .n .given .1) at (l3 .read-ref .ensures))
+    (rw (v4 .m .given .1) at (l4 .read-ref2 .ensures))
+    (rw (v5 .a .given .1) at (l5 .read-line3 .ensures))
+    (rw (c .enum-told6 .given .1) at (l6 .read-line4 .ensures)))
 
 slice-aggregate-read-line-5 : tie.Need-slice-aggregate-read-line-5
 slice-aggregate-read-line-5 c = search needs
@@ -172,26 +205,52 @@ enum-told-7 c = search needs
 
 same-length-5 : tie.Need-same-length-5
 same-length-5 c =
-    let l4 = c .before .before .before .before .before .before .before .before .before .before .before .before .before .before .before .before .before .before .before in let l3 = l4 .before .before .before .before .before .before .before .before in let a = l3 .before .before .before .before .before .before .before .before .before .before .before .before .before .before .before in
-    both-length (a .args .w .now) (l3 .read-ref .last .1 .1 .1 .0) (l4 .read-ref2 .last .1 .1 .1 .0) (a .pre .1) (l3 .read-ref .kept .1 .1 .1 .0) (l4 .read-ref2 .kept .1 .1 .1 .0) ∙ ap length (sym (a .pre .1))
+    let l7 = c .before .before in
+    let v6 = l7 .before .before .before in let l6 = v6 .before .before in
+    let v5 = l6 .before .before .before in let l5 = v5 .before .before in
+    let v4 = l5 .before .before .before in let l4 = v4 .before .before .before .before in
+    let v3 = l4 .before .before .before .before in let l3 = v3 .before .before .before .before in
+    let a = l3 .before .before .before .before .before .before .before .before .before .before .before .before .before .before .before in
+    both-length (a .args .w .now) (l3 .read-ref .last .1 .1 .1 .0) (l4 .read-ref2 .last .1 .1 .1 .0) (a .pre .1)
+    (l3 .read-ref .kept .1 .1 .1 .0) (l4 .read-ref2 .kept .1 .1 .1 .0)
+    ∙ ap length (sym (a .pre .1))
 
 returns-7 : tie.Need-returns-7
-returns-7 c = let l7 = c .before .before in
+returns-7 c =
+    let l7 = c .before .before in
     let v6 = l7 .before .before .before in let l6 = v6 .before .before in
     let v5 = l6 .before .before .before in let l5 = v5 .before .before in
     let v4 = l5 .before .before .before in let l4 = v4 .before .before .before .before in
     let v3 = l4 .before .before .before .before in let l3 = v3 .before .before .before .before in
     let v2 = l3 .before .before .before .before in let l2 = v2 .before .before in
     let v1 = l2 .before .before .before in let l1 = v1 .before .before in
-    seven-bad (bad7 (rw (v1 .user .given .1) at (l1 .read-line .ensures)) (rw (v2 .op .given .1) at (l2 .read-line2 .ensures)) (rw (v3 .n .given .1) at (l3 .read-ref .ensures)) (rw (v4 .m .given .1) at (l4 .read-ref2 .ensures)) (rw (v5 .a .given .1) at (l5 .read-line3 .ensures)) (rw (v6 .b .given .1) at (l6 .read-line4 .ensures)) (rw (c .enum-told7 .given .1) at (l7 .read-line5 .ensures)))
+    seven-bad (bad7
+    (rw (v1 .user .given .1) at (l1 .read-line .ensures))
+    (rw (v2 .op .given .1) at (l2 .read-line2 .ensures))
+    (rw (v3 .n .given .1) at (l3 .read-ref .ensures))
+    (rw (v4 .m .given .1) at (l4 .read-ref2 .ensures))
+    (rw (v5 .a .given .1) at (l5 .read-line3 .ensures))
+    (rw (v6 .b .given .1) at (l6 .read-line4 .ensures))
+    (rw (c .enum-told7 .given .1) at (l7 .read-line5 .ensures)))
 
 -- where all seven lines were good, the room has still sixteen words
 room : (c : tie.After-known-told7)
-    → let l4 = c .before .before .before .before .before .before .before .before .before .before .before .before .before .before .before .before .before .before .before .before in let l3 = l4 .before .before .before .before .before .before .before .before in let a = l3 .before .before .before .before .before .before .before .before .before .before .before .before .before .before .before in
+    → let v7 = c .before in let l7 = v7 .before .before in
+    let v6 = l7 .before .before .before in let l6 = v6 .before .before in
+    let v5 = l6 .before .before .before in let l5 = v5 .before .before in
+    let v4 = l5 .before .before .before in let l4 = v4 .before .before .before .before in
+    let v3 = l4 .before .before .before .before in let l3 = v3 .before .before .before .before in
+    let a = l3 .before .before .before .before .before .before .before .before .before .before .before .before .before .before .before in
     length (withBoth (a .args .w .now) (l3 .read-ref .last .1 .1 .1 .0) (l4 .read-ref2 .last .1 .1 .1 .0)) ≡ requestWords
 room c =
-    let l4 = c .before .before .before .before .before .before .before .before .before .before .before .before .before .before .before .before .before .before .before .before in let l3 = l4 .before .before .before .before .before .before .before .before in let a = l3 .before .before .before .before .before .before .before .before .before .before .before .before .before .before .before in
-    both-length (a .args .w .now) (l3 .read-ref .last .1 .1 .1 .0) (l4 .read-ref2 .last .1 .1 .1 .0) (a .pre .1) (l3 .read-ref .kept .1 .1 .1 .0) (l4 .read-ref2 .kept .1 .1 .1 .0)
+    let v7 = c .before in let l7 = v7 .before .before in
+    let v6 = l7 .before .before .before in let l6 = v6 .before .before in
+    let v5 = l6 .before .before .before in let l5 = v5 .before .before in
+    let v4 = l5 .before .before .before in let l4 = v4 .before .before .before .before in
+    let v3 = l4 .before .before .before .before in let l3 = v3 .before .before .before .before in
+    let a = l3 .before .before .before .before .before .before .before .before .before .before .before .before .before .before .before in
+    both-length (a .args .w .now) (l3 .read-ref .last .1 .1 .1 .0) (l4 .read-ref2 .last .1 .1 .1 .0) (a .pre .1)
+    (l3 .read-ref .kept .1 .1 .1 .0) (l4 .read-ref2 .kept .1 .1 .1 .0)
 
 slice-write-w : tie.Need-slice-write-w
 slice-write-w c = omega (arith, room c)
@@ -200,13 +259,24 @@ slice-write-w-2 : tie.Need-slice-write-w-2
 slice-write-w-2 c = simp length-set (omega (arith, room c))
 
 cast-w : tie.Need-cast-w
-cast-w c = omega (arith, (rw (c .before .before .before .before .before .before .before .before .before .before .before .before .before .before .before .before .before .before .before .before .before .before .before .before .n .given .1) at (c .before .before .before .before .before .before .before .before .before .before .before .before .before .before .before .before .before .before .before .before .before .before .before .before .before .before .before .before .read-ref .ensures)) .few)
+cast-w c =
+    let v7 = c .before in let l7 = v7 .before .before in
+    let v6 = l7 .before .before .before in let l6 = v6 .before .before in
+    let v5 = l6 .before .before .before in let l5 = v5 .before .before in
+    let v4 = l5 .before .before .before in let l4 = v4 .before .before .before .before in
+    let v3 = l4 .before .before .before .before in let l3 = v3 .before .before .before .before in
+    omega (arith, (rw (v3 .n .given .1) at (l3 .read-ref .ensures)) .few)
 
 slice-write-w-3 : tie.Need-slice-write-w-3
 slice-write-w-3 c = simp length-set (omega (arith, room c))
 
 cast-w-2 : tie.Need-cast-w-2
-cast-w-2 c = omega (arith, (rw (c .before .before .before .before .before .before .before .before .before .before .before .before .before .before .before .before .m .given .1) at (c .before .before .before .before .before .before .before .before .before .before .before .before .before .before .before .before .before .before .before .before .read-ref2 .ensures)) .few)
+cast-w-2 c =
+    let v7 = c .before in let l7 = v7 .before .before in
+    let v6 = l7 .before .before .before in let l6 = v6 .before .before in
+    let v5 = l6 .before .before .before in let l5 = v5 .before .before in
+    let v4 = l5 .before .before .before in let l4 = v4 .before .before .before .before in
+    omega (arith, (rw (v4 .m .given .1) at (l4 .read-ref2 .ensures)) .few)
 
 slice-write-w-4 : tie.Need-slice-write-w-4
 slice-write-w-4 c = simp length-set (omega (arith, room c))
@@ -221,10 +291,18 @@ slice-write-w-7 : tie.Need-slice-write-w-7
 slice-write-w-7 c = simp length-set (omega (arith, room c))
 
 same-length-6 : tie.Need-same-length-6
-same-length-6 c = simp length-set (room c ∙ ap length (sym (c .before .before .before .before .before .before .before .before .before .before .before .before .before .before .before .before .before .before .before .before .before .before .before .before .before .before .before .before .before .before .before .before .before .before .before .before .before .before .before .before .before .before .before .pre .1)))
+same-length-6 c =
+    let v7 = c .before in let l7 = v7 .before .before in
+    let v6 = l7 .before .before .before in let l6 = v6 .before .before in
+    let v5 = l6 .before .before .before in let l5 = v5 .before .before in
+    let v4 = l5 .before .before .before in let l4 = v4 .before .before .before .before in
+    let v3 = l4 .before .before .before .before in let l3 = v3 .before .before .before .before in
+    let a = l3 .before .before .before .before .before .before .before .before .before .before .before .before .before .before .before in
+    simp length-set (room c ∙ ap length (sym (a .pre .1)))
 
 returns-8 : tie.Need-returns-8
-returns-8 c = let v7 = c .before in let l7 = v7 .before .before in
+returns-8 c =
+    let v7 = c .before in let l7 = v7 .before .before in
     let v6 = l7 .before .before .before in let l6 = v6 .before .before in
     let v5 = l6 .before .before .before in let l5 = v5 .before .before in
     let v4 = l5 .before .before .before in let l4 = v4 .before .before .before .before in
@@ -232,9 +310,21 @@ returns-8 c = let v7 = c .before in let l7 = v7 .before .before in
     let v2 = l3 .before .before .before .before in let l2 = v2 .before .before in
     let v1 = l2 .before .before .before in let l1 = v1 .before .before in
     let a = l1 .before .before .before .before in
-    let x = l3 .read-ref in let y = l4 .read-ref2 in let e3 = (rw (v3 .n .given .1) at (l3 .read-ref .ensures)) in let e4 = (rw (v4 .m .given .1) at (l4 .read-ref2 .ensures)) in
-    seven-next ((rw (v7 .c .given .1) at (l7 .read-line5 .ensures)) .within) (read7 (rw (v1 .user .given .1) at (l1 .read-line .ensures)) (rw (v2 .op .given .1) at (l2 .read-line2 .ensures)) e3 e4 (rw (v5 .a .given .1) at (l5 .read-line3 .ensures)) (rw (v6 .b .given .1) at (l6 .read-line4 .ensures)) (rw (v7 .c .given .1) at (l7 .read-line5 .ensures)))
-    (stored-is (a .args .w .now) _ _ _ _ _ _ _ _ _ (a .pre .1) (x .kept .1 .1 .1 .0) (e3 .few) (e3 .kept) (y .kept .1 .1 .1 .0) (e4 .few) (e4 .kept))
+    let e3 = rw (v3 .n .given .1) at (l3 .read-ref .ensures) in
+    let e4 = rw (v4 .m .given .1) at (l4 .read-ref2 .ensures) in
+    seven-next
+    ((rw (v7 .c .given .1) at (l7 .read-line5 .ensures)) .within)
+    (read7
+    (rw (v1 .user .given .1) at (l1 .read-line .ensures))
+    (rw (v2 .op .given .1) at (l2 .read-line2 .ensures))
+    e3
+    e4
+    (rw (v5 .a .given .1) at (l5 .read-line3 .ensures))
+    (rw (v6 .b .given .1) at (l6 .read-line4 .ensures))
+    (rw (v7 .c .given .1) at (l7 .read-line5 .ensures)))
+    (stored-is (a .args .w .now) _ _ _ _ _ _ _ _ _ (a .pre .1)
+    (l3 .read-ref .kept .1 .1 .1 .0) (e3 .few) (e3 .kept)
+    (l4 .read-ref2 .kept .1 .1 .1 .0) (e4 .few) (e4 .kept))
 
 pub fill-spec : {M : Type 1} → statement M
 fill-spec =

@@ -8,7 +8,7 @@ use Rattle.request_text.proofs.reading.copy_words.Reads as copy-words-r
 use Rattle.request_text.proofs.reading.fill.Reads as fill-reads
 
 returns : tie.Need-returns
-returns c = read-other-size (c .before .before .before .args .text .now) (c .before .before .before .args .request .now) (c .if1 .taken)
+returns c = read-other-size _ _ (c .if1 .taken)
 
 slice-aggregate-fill : tie.Need-slice-aggregate-fill
 slice-aggregate-fill c = search needs
@@ -23,7 +23,12 @@ enum-known-i : tie.Need-enum-known-i
 enum-known-i c = search needs
 
 returns-2 : tie.Need-returns-2
-returns-2 c = read-behind (c .before .before .before .before .before .before .before .before .before .before .args .text .now) (c .before .before .before .before .before .before .before .before .before .before .args .request .now) _ _ (c .before .before .before .before .before .before .before .if1 .left) (rw (c .before .before .i .given .1) at (c .before .before .before .before .before .fill .ensures)) (c .if2 .taken)
+returns-2 c =
+    let if2 = c .if2 in
+    let i = c .before .before .i in
+    let fill = c .before .before .before .before .before .fill in
+    let if1 = c .before .before .before .before .before .before .before .if1 in
+    read-behind _ _ _ _ (if1 .left) (rw (i .given .1) at (fill .ensures)) (if2 .taken)
 
 slice-aggregate-copy-words : tie.Need-slice-aggregate-copy-words
 slice-aggregate-copy-words c = search needs
@@ -32,13 +37,23 @@ copy-words-requires : tie.Need-copy-words-requires
 copy-words-requires c κs = search needs
 
 returns-3 : tie.Need-returns-3
-returns-3 c = read-bad (c .before .before .before .before .before .before .before .before .before .args .text .now) (c .before .before .before .before .before .before .before .before .before .args .request .now) _ _ (c .before .before .before .before .before .before .if1 .left) (rw (c .before .k .given .1) at (c .before .before .before .before .fill .ensures))
+returns-3 c =
+    let k = c .before .k in
+    let fill = c .before .before .before .before .fill in
+    let if1 = c .before .before .before .before .before .before .if1 in
+    read-bad _ _ _ _ (if1 .left) (rw (k .given .1) at (fill .ensures))
 
 same-length : tie.Need-same-length
 same-length c = search needs
 
 returns-4 : tie.Need-returns-4
-returns-4 c = rw (c .before .before .copy-words .ensures) (read-whole (c .before .before .before .before .before .before .before .before .before .before .before .before .before .before .before .args .text .now) (c .before .before .before .before .before .before .before .before .before .before .before .before .before .before .before .args .request .now) _ _ (c .before .before .before .before .before .before .before .before .before .before .before .before .if1 .left) (rw (c .before .before .before .before .before .before .before .i .given .1) at (c .before .before .before .before .before .before .before .before .before .before .fill .ensures)) (c .before .before .before .before .before .if2 .left))
+returns-4 c =
+    let copy-words = c .before .before .copy-words in
+    let if2 = c .before .before .before .before .before .if2 in
+    let i = c .before .before .before .before .before .before .before .i in
+    let fill = c .before .before .before .before .before .before .before .before .before .before .fill in
+    let if1 = c .before .before .before .before .before .before .before .before .before .before .before .before .if1 in
+    rw (copy-words .ensures) (read-whole _ _ _ _ (if1 .left) (rw (i .given .1) at (fill .ensures)) (if2 .left))
 
 pub read-spec : {M : Type 1} → statement M
 read-spec =

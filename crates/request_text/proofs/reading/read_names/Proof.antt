@@ -8,16 +8,16 @@ use Rattle.request_text.proofs.reading.read_names.Lts as lts
 use Rattle.request_text.proofs.reading.first_names.Reads as first-names-reads
 
 returns : tie.Need-returns
-returns c = ref-end (c .before .before .before .args .s .now) (c .before .before .before .args .at) (c .before .before .before .args .out .now) (c .before .before .before .pre .0) (c .if1 .taken)
+returns c = ref-end _ _ _ (c .before .before .before .pre .0) (c .if1 .taken)
 
 shared-slice-read-b : tie.Need-shared-slice-read-b
 shared-slice-read-b c = search needs
 
 returns-2 : tie.Need-returns-2
-returns-2 c = ref-other (c .before .before .before .before .before .args .s .now) (c .before .before .before .before .before .args .at) (c .before .before .before .before .before .args .out .now) (c .before .before .if1 .left) (low _ (c .if2 .taken))
+returns-2 c = ref-other _ _ _ (c .before .before .if1 .left) (low _ (c .if2 .taken))
 
 returns-3 : tie.Need-returns-3
-returns-3 c = ref-other (c .before .before .before .before .before .before .args .s .now) (c .before .before .before .before .before .before .args .at) (c .before .before .before .before .before .before .args .out .now) (c .before .before .before .if1 .left) (high _ (c .if3 .taken))
+returns-3 c = ref-other _ _ _ (c .before .before .before .if1 .left) (high _ (c .if3 .taken))
 
 first-names-requires : tie.Need-first-names-requires
 first-names-requires c κs = search needs
@@ -26,7 +26,12 @@ same-length : tie.Need-same-length
 same-length c = search needs
 
 returns-4 : tie.Need-returns-4
-returns-4 c = ref-first (c .before .before .before .before .before .before .before .before .before .before .args .s .now) (c .before .before .before .before .before .before .before .before .before .before .args .at) (c .before .before .before .before .before .before .before .if1 .left) (c .before .before .before .before .before .if2 .left) (c .before .before .before .before .if3 .left) (c .before .before .first-names .ensures)
+returns-4 c =
+    let first-names = c .before .before .first-names in
+    let if3 = c .before .before .before .before .if3 in
+    let if2 = c .before .before .before .before .before .if2 in
+    let if1 = c .before .before .before .before .before .before .before .if1 in
+    ref-first _ _ (if1 .left) (if2 .left) (if3 .left) (first-names .ensures)
 
 pub read-names-spec : {M : Type 1} → statement M
 read-names-spec =

@@ -20,7 +20,11 @@ returns : tie.Need-returns
 returns c = ref-no-key (rw (c .enum-told .given .1) at (c .before .before .read-key .ensures))
 
 read-names-requires : tie.Need-read-names-requires
-read-names-requires c κs = ((rw (c .before .before .i .given .1) at (c .before .before .before .before .read-key .ensures)) .within, c .before .before .before .before .before .before .before .before .pre .1)
+read-names-requires c κs =
+    let i = c .before .before .i in
+    let read-key = c .before .before .before .before .read-key in
+    let pre = c .before .before .before .before .before .before .before .before .pre in
+    ((rw (i .given .1) at (read-key .ensures)) .within, pre .1)
 
 enum-known-n : tie.Need-enum-known-n
 enum-known-n c = search needs
@@ -32,7 +36,12 @@ same-length : tie.Need-same-length
 same-length c = search needs
 
 returns-2 : tie.Need-returns-2
-returns-2 c = ref-wrong (rw (c .before .before .before .before .before .before .before .i .given .1) at (c .before .before .before .before .before .before .before .before .before .read-key .ensures)) (rw (c .enum-told2 .given .1) at (c .before .before .before .before .read-names .ensures))
+returns-2 c =
+    let enum-told2 = c .enum-told2 in
+    let read-names = c .before .before .before .before .read-names in
+    let i = c .before .before .before .before .before .before .before .i in
+    let read-key = c .before .before .before .before .before .before .before .before .before .read-key in
+    ref-wrong (rw (i .given .1) at (read-key .ensures)) (rw (enum-told2 .given .1) at (read-names .ensures))
 
 slice-aggregate-read-key : tie.Need-slice-aggregate-read-key
 slice-aggregate-read-key c = search needs
@@ -50,13 +59,27 @@ same-length-2 : tie.Need-same-length-2
 same-length-2 c = search needs
 
 returns-3 : tie.Need-returns-3
-returns-3 c = ref-no-end (rw (c .before .before .before .before .before .before .before .before .before .before .before .before .i .given .1) at (c .before .before .before .before .before .before .before .before .before .before .before .before .before .before .read-key .ensures)) (rw (c .before .before .before .before .before .n .given .1) at (c .before .before .before .before .before .before .before .before .before .read-names .ensures)) (rw (c .enum-told3 .given .1) at (c .before .before .read-key2 .ensures))
+returns-3 c =
+    let enum-told3 = c .enum-told3 in
+    let read-key2 = c .before .before .read-key2 in
+    let n = c .before .before .before .before .before .n in
+    let read-names = c .before .before .before .before .before .before .before .before .before .read-names in
+    let i = c .before .before .before .before .before .before .before .before .before .before .before .before .i in
+    let read-key = c .before .before .before .before .before .before .before .before .before .before .before .before .before .before .read-key in
+    ref-no-end (rw (i .given .1) at (read-key .ensures)) (rw (n .given .1) at (read-names .ensures)) (rw (enum-told3 .given .1) at (read-key2 .ensures))
 
 same-length-3 : tie.Need-same-length-3
 same-length-3 c = search needs
 
 returns-4 : tie.Need-returns-4
-returns-4 c = ref-read (rw (c .before .before .before .before .before .before .before .before .before .before .before .before .before .i .given .1) at (c .before .before .before .before .before .before .before .before .before .before .before .before .before .before .before .read-key .ensures)) (rw (c .before .before .before .before .before .before .n .given .1) at (c .before .before .before .before .before .before .before .before .before .before .read-names .ensures)) (rw (c .before .j .given .1) at (c .before .before .before .read-key2 .ensures))
+returns-4 c =
+    let j = c .before .j in
+    let read-key2 = c .before .before .before .read-key2 in
+    let n = c .before .before .before .before .before .before .n in
+    let read-names = c .before .before .before .before .before .before .before .before .before .before .read-names in
+    let i = c .before .before .before .before .before .before .before .before .before .before .before .before .before .i in
+    let read-key = c .before .before .before .before .before .before .before .before .before .before .before .before .before .before .before .read-key in
+    ref-read (rw (i .given .1) at (read-key .ensures)) (rw (n .given .1) at (read-names .ensures)) (rw (j .given .1) at (read-key2 .ensures))
 
 pub read-ref-spec : {M : Type 1} → statement M
 read-ref-spec =

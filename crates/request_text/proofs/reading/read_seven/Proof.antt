@@ -32,7 +32,11 @@ same-length : tie.Need-same-length
 same-length c = search needs
 
 returns-2 : tie.Need-returns-2
-returns-2 c = seven-copied (rw (c .before .before .before .before .before .before .i .given .1) at (c .before .before .before .before .before .before .before .before .before .fill .ensures)) (c .before .before .copy-words .ensures)
+returns-2 c =
+    let copy-words = c .before .before .copy-words in
+    let i = c .before .before .before .before .before .before .i in
+    let fill = c .before .before .before .before .before .before .before .before .before .fill in
+    seven-copied (rw (i .given .1) at (fill .ensures)) (copy-words .ensures)
 
 pub read-seven-spec : {M : Type 1} → statement M
 read-seven-spec =
