@@ -20,7 +20,7 @@ key-nothing e = record { is = sym e; within = zero-le }
 pub key-at : {s : List ℕ} {at : ℕ} {key : List ℕ} {i : ℕ} → i ≤ length s → behind key (drop at s) ≡ got tt (drop i s) → KeyAt s at key (At i)
 key-at h e = record { is = sym e; within = h }
 
--- the rest of a key, from the index i on, at the index j of the bytes s
+-- The rest of a key, from the index i on, at the index j of the bytes s: nothing is left of it, the bytes end, the next byte differs, or it agrees.
 module _ (s key : List ℕ) (i j : ℕ) where
   pub behind-end : length key ≤ i → behind (drop i key) (drop j s) ≡ got tt (drop j s)
   behind-end h = rw (drop-of-length-le key {i = i} h)
@@ -35,7 +35,7 @@ module _ (s key : List ℕ) (i j : ℕ) where
       → behind (drop i key) (drop j s) ≡ behind (drop (i + 1) key) (drop (j + 1) s)
   behind-turn h l e = rw (add-one i, add-one j, drop-cons key i 0 h, drop-cons s j 0 l, eq-eqb (getD s j 0) (getD key i 0) e)
 
--- the four ways in which reading a line ends
+-- The four ways in which reading a line ends: without its key, without a number, without LF, or well.
 module _ {s : List ℕ} {at : ℕ} {key : List ℕ} where
   pub line-no-key : KeyAt s at key Nothing → LineAt s at key Bad
   unfolding readLine

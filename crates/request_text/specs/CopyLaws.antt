@@ -11,6 +11,7 @@ use lib.Seq.{drop-cons, length-take-le, set-at, take-all, take-suc}
 abbrev pub copied : List ℕ → List ℕ → ℕ → List ℕ
 copied src d i = take i src ++ drop i d
 
+-- one more
 pub copied-turn : (src d : List ℕ) (i : ℕ) → length d ≡ length src → i < length src → set (copied src d i) i (getD src i 0) ≡ copied src d (i + 1)
 copied-turn src d i l h =
     rw (
@@ -21,5 +22,6 @@ copied-turn src d i l h =
     )
     (sym (append-assoc (take i src) (getD src i 0 ∷ []) (drop (suc i) d)))
 
+-- all of them
 pub copied-all : (src d : List ℕ) (i : ℕ) → length d ≡ length src → length src ≤ i → copied src d i ≡ src
 copied-all src d i l h = rw (take-all i src h, drop-of-length-le d {i = i} (omega arith)) (append-nil src)

@@ -13,6 +13,7 @@ use Rattle.request_text.specs.RefAt.{RefAt}
 use Rattle.request_text.specs.Seven.{fresh}
 use Rattle.request_text.specs.declared.reading.Names.the-variants.{Are, Wrong}
 
+-- A line is bad, and those before it are good: that line is named.
 module _ {s : List ℕ} {at : ℕ} where
   pub bad1 : LineAt s at userKey Bad → readSeven (drop at s) ≡ badLine 1
   unfolding readSeven
@@ -48,6 +49,7 @@ module _ {s : List ℕ} {at : ℕ} where
               unfolding readSeven
               bad7 e7 = rw (← e1 .is, ← e2 .is, ← e3 .is, ← e4 .is, ← e5 .is, ← e6 .is, ← e7 .is)
 
+              -- all seven are good
               pub read7 : {v7 i7 : ℕ} → LineAt s i6 cKey (Value v7 i7)
                   → readSeven (drop at s)
                   ≡ lines (record { user = v1; operation = v2; first = take v3 p3; second = take v4 p4; a = v5; b = v6; c = v7 }) (drop i7 s)
@@ -93,6 +95,7 @@ secondPart w x = take 4 (drop 8 (withFirst w x))
 abbrev pub withBoth : List ℕ → List ℕ → List ℕ → List ℕ
 withBoth w x y = take 8 (withFirst w x) ++ (y ++ drop 4 (drop 8 (withFirst w x)))
 
+-- where the room is fresh, both parts are zero when they are lent
 pub first-part : (w : List ℕ) → w ≡ fresh → firstPart w ≡ zeros
 first-part w f = rw f
 
@@ -119,6 +122,7 @@ both-length w x y f l g =
 abbrev pub stored : List ℕ → ℕ → ℕ → ℕ → ℕ → ℕ → ℕ → ℕ → List ℕ
 stored v user op n m a b c = set (set (set (set (set (set (set v 0 user) 1 op) 2 n) 7 m) 12 a) 13 b) 14 c
 
+-- that is the request's sixteen words
 pub stored-is : (w x y : List ℕ) (user op n m a b c : ℕ) → w ≡ fresh
     → length x ≡ length (firstPart w) → n ≤ nameCount → drop n x ≡ drop n (firstPart w)
     → length y ≡ length (secondPart w x) → m ≤ nameCount → drop m y ≡ drop m (secondPart w x)

@@ -39,9 +39,11 @@ module _ (s : List ℕ) (at : ℕ) where
 
   -- ---- further names
 
+  -- there is place for no more
   pub none-left : (k : ℕ) (o : List ℕ) → at ≤ length s → k ≡ 0 → NamesIs s (further k (drop at s)) k o o (Are 0 at)
   none-left k o w e = no-names (further k (drop at s)) k o w (rw e)
 
+  -- the bytes end
   pub further-end : (k : ℕ) (o : List ℕ) → at ≤ length s → length s ≤ at → NamesIs s (further k (drop at s)) k o o (Are 0 at)
   further-end k o w e = no-names (further k (drop at s)) k o w (rw (drop-of-length-le s {i = at} e) (go k))
     where
@@ -49,6 +51,7 @@ module _ (s : List ℕ) (at : ℕ) where
       go zero = refl
       go (suc k) = refl
 
+  -- the next byte is no dot
   pub no-dot : (k : ℕ) (o : List ℕ) → at < length s → (getD s at 0 ≡ dotByte → ⊥) → NamesIs s (further k (drop at s)) k o o (Are 0 at)
   no-dot k o w n = no-names (further k (drop at s)) k o (omega arith) (rw (drop-cons s at 0 w) (go k))
     where
@@ -56,25 +59,28 @@ module _ (s : List ℕ) (at : ℕ) where
       go zero = refl
       go (suc k) = rw (ne-eqb (getD s at 0) dotByte n)
 
+  -- what stands behind a dot
   dot : (k : ℕ) → at < length s → getD s at 0 ≡ dotByte → (k ≡ 0 → ⊥) → nameAnd (k - 1) (drop (at + 1) s) ≡ further k (drop at s)
   dot zero w e n = absurd (n refl)
   dot (suc k) w e n = let p : suc k - 1 ≡ k = omega arith in rw (add-one at, drop-cons s at 0 w, e, p)
 
-  -- behind a dot stands a name, and at most one further name less
+  -- the next byte is a dot: a name stands behind it, and at most one further name less
   pub dotted-are : {o p : List ℕ} {r : Names} (k : ℕ) → at < length s → getD s at 0 ≡ dotByte → (k ≡ 0 → ⊥)
       → NamesIs s (nameAnd (k - 1) (drop (at + 1) s)) (k - 1 + 1) o p r → NamesIs s (further k (drop at s)) k o p r
   dotted-are k w d n m = record { is = m .is ∙ dot k w d n; within = m .within; few = omega (arith, m .few, n); kept = m .kept }
 
   -- ---- a first name
 
+  -- there is no number
   pub first-bad : (k : ℕ) (o p : List ℕ) → NumberAt s at Bad → NamesIs s (nameAnd k (drop at s)) (k + 1) o p Wrong
   first-bad k o p n = record { is = rw (← n .is); within = zero-le; few = zero-le; kept = tt }
 
+  -- there is one, and a further name is bad
   pub first-wrong : {v j : ℕ} (k : ℕ) (o p q r : List ℕ) → NumberAt s at (Value v j) → NamesIs s (further k (drop j s)) k q r Wrong
       → NamesIs s (nameAnd k (drop at s)) (k + 1) o p Wrong
   first-wrong k o p q r n m = record { is = rw (← n .is, ← m .is); within = zero-le; few = zero-le; kept = tt }
 
-  -- the first name was stored, and the others were read into the part behind it
+  -- all are good: the first name was stored, and the others were read into the part behind it
   pub first-are : {v j n e : ℕ} (k : ℕ) (o ys : List ℕ) → 0 < length o → NumberAt s at (Value v j)
       → NamesIs s (further k (drop j s)) k (take (length (set o 0 v) - 1) (drop 1 (set o 0 v))) ys (Are n e)
       → NamesIs s (nameAnd k (drop at s)) (k + 1) o (take 1 (set o 0 v) ++ (ys ++ drop (length (set o 0 v) - 1) (drop 1 (set o 0 v)))) (Are (n + 1) e)
@@ -91,12 +97,15 @@ module _ (s : List ℕ) (at : ℕ) where
 
   -- ---- a reference
 
+  -- the bytes end
   pub ref-end : (o : List ℕ) → at ≤ length s → length s ≤ at → NamesIs s (reference (drop at s)) nameCount o o (Are 0 at)
   ref-end o w e = no-names (reference (drop at s)) nameCount o w (rw (drop-of-length-le s {i = at} e))
 
+  -- the first byte is no digit
   pub ref-other : (o : List ℕ) → at < length s → isDigit (getD s at 0) ≡ false → NamesIs s (reference (drop at s)) nameCount o o (Are 0 at)
   ref-other o w h = no-names (reference (drop at s)) nameCount o (omega arith) (rw (drop-cons s at 0 w, h))
 
+  -- the first byte is a digit
   ref-digit : at < length s → zeroByte ≤ getD s at 0 → getD s at 0 ≤ nineByte → nameAnd 3 (drop at s) ≡ reference (drop at s)
   ref-digit w l h = rw (drop-cons s at 0 w) (go (getD s at 0) (drop (suc at) s) (digit (getD s at 0) l h))
     where

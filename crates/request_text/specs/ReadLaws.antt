@@ -13,19 +13,21 @@ use Rattle.request_text.specs.Seven.{SevenAt, sevenOf}
 use Rattle.request_text.specs.SevenLaws.{seven-rest}
 use Rattle.request_text.specs.declared.reading.Seven.the-variants.{BadLine, Next}
 
+-- the room is not sixteen words
 pub read-other-size : (s w : List ℕ) → (length w ≡ requestWords → ⊥) → Reads s w wrongSize 0 w
 unfolding readAnswer readNumber wordsAfter
 read-other-size s w h =
     let e = ne-eqb (length w) requestWords h in
     record { answer = rw e; number = rw e; words = rw e }
 
--- the text is no request: it is a bad line, whichever
+-- the text is no request, whichever line is bad
 refused : (s w : List ℕ) (k : ℕ) → length w ≡ requestWords → readText s ≡ badLine k → Reads s w notRead k w
 unfolding readAnswer readNumber wordsAfter
 refused s w k h e =
     let q = eq-eqb (length w) requestWords h in
     record { answer = rw (q, e); number = rw (q, e); words = rw (q, e) }
 
+-- one of the seven lines is bad or missing
 pub read-bad : (s w v : List ℕ) (k : ℕ) → length w ≡ requestWords → SevenAt s 0 v v (BadLine k) → Reads s w notRead k w
 unfolding readText
 read-bad s w v k h f = refused s w k h (go (readSeven s) refl (f .answer))
@@ -34,6 +36,7 @@ read-bad s w v k h f = refused s w k h (go (readSeven s) refl (f .answer))
     go (lines m x) e g = let z : _≡_ {A = ℕ} 0 1 = cc in absurd (omega arith)
     go (badLine j) e g = let q : j ≡ k = cc in rw (e, q)
 
+-- something follows the seventh line
 pub read-behind : (s w v : List ℕ) (i : ℕ) → length w ≡ requestWords → SevenAt s 0 v v (Next i) → i < length s → Reads s w notRead 8 w
 unfolding readText
 read-behind s w v i h f b = refused s w 8 h (go (readSeven s) refl (f .answer))
@@ -43,6 +46,7 @@ read-behind s w v i h f b = refused s w 8 h (go (readSeven s) refl (f .answer))
     go (lines m (a ∷ x)) e g = rw e
     go (badLine j) e g = let z : _≡_ {A = ℕ} 0 1 = cc in absurd (omega arith)
 
+-- the text is a request
 pub read-whole : (s w v : List ℕ) (i : ℕ) → length w ≡ requestWords → SevenAt s 0 v v (Next i) → length s ≤ i → Reads s w 0 0 v
 unfolding readAnswer readNumber readText wordsAfter
 read-whole s w v i h f b = go (readSeven s) refl (f .answer) (f .words)

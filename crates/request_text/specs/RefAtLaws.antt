@@ -1,4 +1,4 @@
--- The four ways in which reading a line with a reference ends.
+-- The four ways in which reading a line with a reference ends: without its key, with a bad name, without LF, or well.
 use mathlib.Core.List.{List, [], _∷_}
 use Prim.Native.Nat.{zero-le, ℕ}
 use lib.ListN.{drop}

@@ -37,9 +37,11 @@ seven-further s at m x h e =
 
 -- ---- answers
 
+-- a line is bad
 pub seven-bad : {s : List ℕ} {at k : ℕ} {w : List ℕ} → readSeven (drop at s) ≡ badLine k → SevenAt s at w w (BadLine k)
 seven-bad e = record { answer = rw e; words = rw e }
 
+-- all seven are good
 pub seven-next : {s : List ℕ} {at i : ℕ} {m : Wording} {w v : List ℕ} → i ≤ length s → readSeven (drop at s) ≡ lines m (drop i s) → v ≡ sixteen m
     → SevenAt s at w v (Next i)
 seven-next {s} {at} {i} h e g =
@@ -51,6 +53,7 @@ next-words : (n i : ℕ) (l : Lines) (w v : List ℕ) → Next i ≡ sevenOf n l
 next-words n i (lines m x) w v e = refl
 next-words n i (badLine k) w v e = let z : _≡_ {A = ℕ} 0 1 = cc in absurd (omega arith)
 
+-- seven lines that were read into v, and v copied
 pub seven-copied : {s : List ℕ} {at i : ℕ} {w v u : List ℕ} → SevenAt s at v v (Next i) → u ≡ v → SevenAt s at w u (Next i)
 seven-copied {s} {at} {i} {w} {v} f e =
     record { answer = f .answer; words = e ∙ f .words ∙ next-words (length s) i (readSeven (drop at s)) w v (f .answer) }
@@ -60,5 +63,6 @@ bad-words : (n k : ℕ) (l : Lines) (w : List ℕ) → BadLine k ≡ sevenOf n l
 bad-words n k (lines m x) w e = let z : _≡_ {A = ℕ} 0 1 = cc in absurd (omega arith)
 bad-words n k (badLine j) w e = refl
 
+-- a bad line was met while v was filled, and other words stay
 pub seven-stays : {s : List ℕ} {at k : ℕ} {w v : List ℕ} → SevenAt s at v v (BadLine k) → SevenAt s at w w (BadLine k)
 seven-stays {s} {at} {k} {w} f = record { answer = f .answer; words = bad-words (length s) k (readSeven (drop at s)) w (f .answer) }
