@@ -11,6 +11,32 @@ use Rattle.model.specs.Text.Lines.{line, lineEnd}
 use Rattle.model.specs.Text.NumberLaws.{digits-small, digits-step, length-small, length-step}
 use Rattle.model.specs.Text.Numbers.{digits, zeroByte}
 
+-- ---- how long a number is
+
+pub length-two : (n : ℕ) → 10 ≤ n → n < 100 → 2 ≡ length (digits n)
+length-two n h l = omega (arith, length-step n h (omega arith), length-small (n / 10) (omega arith))
+
+pub length-three : (n : ℕ) → 100 ≤ n → n < 1000 → 3 ≡ length (digits n)
+length-three n h l = omega (arith, length-step n (omega arith) (omega arith), length-two (n / 10) (omega arith) (omega arith))
+
+pub length-four : (n : ℕ) → 1000 ≤ n → n < 10000 → 4 ≡ length (digits n)
+length-four n h l = omega (arith, length-step n (omega arith) (omega arith), length-three (n / 10) (omega arith) (omega arith))
+
+-- two digits more, and so four
+length-hundred : (n : ℕ) → 100 ≤ n → n < 10000000000 → length (digits (n / 100)) + 2 ≡ length (digits n)
+length-hundred n h l =
+    let e : n / 10 / 10 ≡ n / 100 = omega arith in
+    let s : length (digits (n / 10 / 10)) + 1 ≡ length (digits (n / 10)) = length-step (n / 10) (omega arith) (omega arith) in
+    omega (arith, rw e at s, length-step n (omega arith) l)
+
+pub length-more : (n : ℕ) → 10000 ≤ n → n < 10000000000 → length (digits (n / 10000)) + 4 ≡ length (digits n)
+length-more n h l =
+    let e : n / 100 / 100 ≡ n / 10000 = omega arith in
+    let s : length (digits (n / 100 / 100)) + 2 ≡ length (digits (n / 100)) = length-hundred (n / 100) (omega arith) (omega arith) in
+    omega (arith, rw e at s, length-hundred n (omega arith) l)
+
+-- ---- a number, and a line
+
 module _ (d : List ℕ) (v : ℕ) (room : length (digits v) ≤ length d) where
   -- a number of one digit
   pub first-digit : v < 10 → Wrote (digits v) d (set d 0 (zeroByte + v)) 1

@@ -7,14 +7,23 @@ ghost use Rattle.lines.specs.Onto.{Puts, Wrote};
 ghost use Rattle.model.specs.Text.Lines.{line};
 ghost use Rattle.model.specs.Text.Numbers.{digits};
 
-// How many digits a number has.
+// How many digits a number has, four of them in one go.
 pub fn number_len(v: u32) -> usize
     ensures { λ r. ⌜ r ≡ length (digits v) ⌝ }
 {
     if v < 10 {
         return 1;
     }
-    number_len(v / 10) + 1
+    if v < 100 {
+        return 2;
+    }
+    if v < 1000 {
+        return 3;
+    }
+    if v < 10000 {
+        return 4;
+    }
+    number_len(v / 10000) + 4
 }
 
 // Writes the digits of a number: those of its tenth, and the last one behind them.

@@ -48,7 +48,14 @@ dotted-append (n ∷ ns) ms = rw (dotted-append ns ms) (ap (λ l. dotByte ∷ l)
 pub dotted-turn : (ns : List ℕ) (i : ℕ) → i < length ns
     → length (dotted (take (i + 1) ns)) ≡ length (dotted (take i ns)) + (length (digits (getD ns i 0)) + 1)
 dotted-turn ns i h =
-    rw (add-one, take-suc ns i 0 h, dotted-append (take i ns) (getD ns i 0 ∷ []), append-nil, length-append (dotted (take i ns)) (dotByte ∷ digits (getD ns i 0))) (omega arith)
+    rw (
+      add-one i,
+      take-suc ns i 0 h,
+      dotted-append (take i ns) (getD ns i 0 ∷ []),
+      append-nil,
+      length-append (dotted (take i ns)) (dotByte ∷ digits (getD ns i 0)),
+    )
+    (omega arith)
 
 -- eleven bytes for a name are enough
 pub dotted-most : (ns : List ℕ) → length (dotted ns) ≤ 11 * length ns

@@ -1,7 +1,8 @@
+use Rattle.lines.specs.WritingLaws.{length-four, length-more, length-three, length-two}
 use Prim.Native.Nat.{_/_}
 use native.Mathlib.Omega.{arith}
 use borrow.Author.Needs.{needs}
-use Rattle.model.specs.Text.NumberLaws.{length-most, length-small, length-step}
+use Rattle.model.specs.Text.NumberLaws.{length-most, length-small}
 use Prim.Native.Nat.{ℕ, _<_}
 use borrow.Fn.Kinds.{In}
 use borrow.Fn.PlainCycle.{Measures, is, falls, and}
@@ -28,20 +29,32 @@ number-len-calls t = (number-len-below t, number-len.Post)
 number-len-returns : (t : ℕ) → number-len-lts.Need-returns (number-len-calls t) (number-len-at t) number-len.Post
 number-len-returns t c = length-small (c .before .args .v) (c .if1 .taken)
 
+number-len-returns-2 : (t : ℕ) → number-len-lts.Need-returns-2 (number-len-calls t) (number-len-at t) number-len.Post
+number-len-returns-2 t c = length-two (c .before .before .args .v) (c .before .if1 .left) (c .if2 .taken)
+
+number-len-returns-3 : (t : ℕ) → number-len-lts.Need-returns-3 (number-len-calls t) (number-len-at t) number-len.Post
+number-len-returns-3 t c = length-three (c .before .before .before .args .v) (c .before .if2 .left) (c .if3 .taken)
+
+number-len-returns-4 : (t : ℕ) → number-len-lts.Need-returns-4 (number-len-calls t) (number-len-at t) number-len.Post
+number-len-returns-4 t c = length-four (c .before .before .before .before .args .v) (c .before .if3 .left) (c .if4 .taken)
+
 number-len-number-len-requires : (t : ℕ) → number-len-lts.Need-number-len-requires (number-len-calls t) (number-len-at t) number-len.Post
 number-len-number-len-requires t c κs = search needs
 
 number-len-add-result : (t : ℕ) → number-len-lts.Need-add-result (number-len-calls t) (number-len-at t) number-len.Post
-number-len-add-result t c = omega (arith, c .number-len .ensures, length-most (c .before .before .args .v / 10))
+number-len-add-result t c = omega (arith, c .number-len .ensures, length-most (c .before .before .before .before .before .args .v / 10000))
 
-number-len-returns-2 : (t : ℕ) → number-len-lts.Need-returns-2 (number-len-calls t) (number-len-at t) number-len.Post
-number-len-returns-2 t c = rw (c .number-len .ensures) (length-step (c .before .before .args .v) (c .before .if1 .left) (omega arith))
+number-len-returns-5 : (t : ℕ) → number-len-lts.Need-returns-5 (number-len-calls t) (number-len-at t) number-len.Post
+number-len-returns-5 t c = rw (c .number-len .ensures) (length-more (c .before .before .before .before .before .args .v) (c .before .if4 .left) (omega arith))
 
 pub +number-len-spec : {M : Type 1} → statement M
 +number-len-spec = close μ-number-len λ t. number-len-lts.spec (number-len-calls t)
     (number-len-at t)
     number-len.Post
     (number-len-returns t)
+    (number-len-returns-2 t)
+    (number-len-returns-3 t)
+    (number-len-returns-4 t)
     (number-len-number-len-requires t)
     (number-len-add-result t)
-    (number-len-returns-2 t)
+    (number-len-returns-5 t)

@@ -1,11 +1,11 @@
-use Rattle.model.specs.Text.NumberLaws.{length-most}
-use Rattle.request_text.specs.NameLaws.{dotted-turn, taken-all, taken-most}
 use mathlib.Core.Path.{_≡_, refl, sym}
-use Prim.Native.Nat.{_≤_, _-_}
+use Prim.Native.Nat.{_-_, _≤_}
 use native.Mathlib.Omega.{arith}
-use lib.ListN.{getD, length, take}
+use lib.ListN.{length, take}
 use borrow.Author.Needs.{needs}
-use Rattle.model.specs.Text.References.{dotted}
+use Rattle.model.specs.Text.References.{dotted, joined}
+use Rattle.request_text.specs.NameLaws.{dotted-turn, taken-all, taken-most}
+use Rattle.request_text.specs.NeedLaws.{digits-bound}
 use Rattle.request_text.proofs.writing.names_len.Statement.{statement}
 use Rattle.request_text.proofs.writing.names_len.Tie as tie
 use Rattle.request_text.proofs.writing.names_len.Reads as reads
@@ -31,10 +31,13 @@ number-len-requires : tie.Need-number-len-requires Inv-loop μ-loop
 number-len-requires c κs = search needs
 
 add-n : tie.Need-add-n Inv-loop μ-loop
-add-n c = omega (arith, c .number-len .ensures, length-most (getD (c .before .before .before .before .before .args .names .now) (c .before .before .before .loop .i) 0))
+add-n c = omega (arith, digits-bound _ (c .number-len .ensures))
 
 add-n-2 : tie.Need-add-n-2 Inv-loop μ-loop
-add-n-2 c = omega (arith, c .number-len .ensures, c .before .before .before .loop .inv .1, length-most (getD (c .before .before .before .before .before .args .names .now) (c .before .before .before .loop .i) 0), taken-most (c .before .before .before .before .before .args .names .now) (c .before .before .before .loop .i) (c .before .before .before .before .before .pre))
+add-n-2 c =
+    let s = c .before .before .before .before .before in
+    let l = c .before .before .before .loop in
+    omega (arith, digits-bound _ (c .number-len .ensures), l .inv .1, taken-most (s .args .names .now) (l .i) (s .pre))
 
 add-i : tie.Need-add-i Inv-loop μ-loop
 add-i c = search needs
@@ -43,16 +46,22 @@ loop-less : tie.Need-loop-less Inv-loop μ-loop
 loop-less c = search needs
 
 loop-again : tie.Need-loop-again Inv-loop μ-loop
-loop-again c = (omega arith, rw (c .number-len .ensures, c .before .before .before .loop .inv .1) (sym (dotted-turn (c .before .before .before .before .before .args .names .now) (c .before .before .before .loop .i) (c .before .before .loop-test .taken))))
+loop-again c =
+    let l = c .before .before .before .loop in
+    (omega arith, rw (c .number-len .ensures, l .inv .1) (sym (dotted-turn (c .before .before .before .before .before .args .names .now) (l .i) (c .before .before .loop-test .taken))))
+
+-- all names were gone through
+counted : (c : tie.After-loop Inv-loop μ-loop) → c .before .loop .n - 1 ≡ length (joined (c .before .before .before .args .names .now))
+counted c = taken-all _ _ _ (c .loop-test .left) (c .before .loop .inv .1)
 
 returns : tie.Need-returns Inv-loop μ-loop
-returns c = omega (arith, c .if1 .taken, taken-all (c .before .before .before .before .args .names .now) (c .before .before .loop .i) (c .before .before .loop .n) (c .before .loop-test .left) (c .before .before .loop .inv .1))
+returns c = omega (arith, c .if1 .taken, counted (c .before))
 
 sub-result : tie.Need-sub-result Inv-loop μ-loop
 sub-result c = omega (arith, c .if1 .left)
 
 returns-2 : tie.Need-returns-2 Inv-loop μ-loop
-returns-2 c = taken-all (c .before .before .before .before .args .names .now) (c .before .before .loop .i) (c .before .before .loop .n) (c .before .loop-test .left) (c .before .before .loop .inv .1)
+returns-2 c = counted (c .before)
 
 pub names-len-spec : {M : Type 1} → statement M
 names-len-spec =

@@ -1,9 +1,13 @@
-use mathlib.Core.Path.{_∙_, sym}
+use mathlib.Core.Bool.{true}
+use mathlib.Core.Path.{_∙_, _≡_, sym}
 use native.Mathlib.Omega.{arith}
 use borrow.Author.Tests.{not-false, not-true}
+use Rattle.model.specs.Request.Words.{requestOf}
+use Rattle.model.specs.Text.Writing.{hasText}
 use Rattle.request_text.specs.EndLaws.{end-short, end-size, end-textless, end-written}
 use Rattle.request_text.specs.FitLaws.{has-sixteen}
 use Rattle.request_text.specs.NeedLaws.{need-most}
+use Rattle.request_text.specs.Sixteen.{Sixteen}
 use borrow.Author.Needs.{needs}
 use Rattle.request_text.proofs.writing.write.Statement.{statement}
 use Rattle.request_text.proofs.writing.write.Tie as tie
@@ -22,23 +26,32 @@ has-text-requires c κs = search needs
 returns-2 : tie.Need-returns-2
 returns-2 c = end-textless _ _ (c .before .before .if1 .left) (sym (c .before .has-text .ensures) ∙ not-true (c .before .has-text .result) (c .if2 .taken))
 
+-- where the words were looked at: some text has them
+texted : (c : tie.Else2) → hasText (requestOf (c .before .before .before .before .before .args .request .now)) ≡ true
+texted c = sym (c .before .has-text .ensures) ∙ not-false (c .before .has-text .result) (c .if2 .left)
+
+sixteen : (c : tie.Else2) → Sixteen (c .before .before .before .before .before .args .request .now)
+sixteen c = has-sixteen _ (c .before .before .if1 .left) (texted c)
+
 need-requires : tie.Need-need-requires
-need-requires c κs = has-sixteen _ (c .before .before .if1 .left) (sym (c .before .has-text .ensures) ∙ not-false (c .before .has-text .result) (c .if2 .left))
+need-requires c κs = sixteen c
 
 cast-bytes : tie.Need-cast-bytes
-cast-bytes c = omega (arith, c .need .ensures, need-most _ (has-sixteen _ (c .before .before .before .if1 .left) (sym (c .before .before .has-text .ensures) ∙ not-false (c .before .before .has-text .result) (c .before .if2 .left))))
+cast-bytes c = omega (arith, c .need .ensures, need-most _ (sixteen (c .before)))
 
 returns-3 : tie.Need-returns-3
-returns-3 c = end-short _ _ (c .before .before .before .before .if1 .left) (sym (c .before .before .before .has-text .ensures) ∙ not-false (c .before .before .before .has-text .result) (c .before .before .if2 .left)) _ (c .before .need .ensures) (c .if3 .taken)
+returns-3 c = end-short _ _ (c .before .before .before .before .if1 .left) (texted (c .before .before)) _ (c .before .need .ensures) (c .if3 .taken)
 
 write-text-requires : tie.Need-write-text-requires
-write-text-requires c κs = (has-sixteen _ (c .before .before .before .before .before .if1 .left) (sym (c .before .before .before .before .has-text .ensures) ∙ not-false (c .before .before .before .before .has-text .result) (c .before .before .before .if2 .left)), omega (arith, c .before .before .need .ensures, c .before .if3 .left))
+write-text-requires c κs = (sixteen (c .before .before .before), omega (arith, c .before .before .need .ensures, c .before .if3 .left))
 
 same-length : tie.Need-same-length
 same-length c = search needs
 
 returns-4 : tie.Need-returns-4
-returns-4 c = end-written _ _ (c .before .before .before .before .before .before .before .before .if1 .left) (sym (c .before .before .before .before .before .before .before .has-text .ensures) ∙ not-false (c .before .before .before .before .before .before .before .has-text .result) (c .before .before .before .before .before .before .if2 .left)) _ (c .before .before .before .before .before .need .ensures) _ _ (c .before .before .before .before .if3 .left) (c .before .before .write-text .ensures)
+returns-4 c =
+    let n = c .before .before .before .before .before in
+    end-written _ _ (n .before .before .before .if1 .left) (texted (n .before)) _ (n .need .ensures) _ _ (c .before .before .before .before .if3 .left) (c .before .before .write-text .ensures)
 
 pub write-spec : {M : Type 1} → statement M
 write-spec =
