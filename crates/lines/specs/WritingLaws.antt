@@ -1,11 +1,13 @@
 -- The laws of writing a number and a line, in the steps in which code writes them.
-use mathlib.Core.List.{List, [], _++_}
-use mathlib.Core.Path.{_≡_, refl}
-use Prim.Native.Nat.{_%_, _+_, _-_, _/_, _<_, _≤_, ℕ}
+use mathlib.Core.List.{List, [], _++_, _∷_, append-assoc, append-nil}
+use mathlib.Core.Path.{_∙_, _≡_, ap, refl, subst, sym}
+use Prim.Native.Nat.{_%_, _+_, _-_, _/_, _<_, _≤_, suc, ℕ}
 use native.Mathlib.Omega.{arith}
-use lib.ListN.{drop, length, set, take}
+use lib.ListN.{drop, getD, length, length-append, set, take, take-append-drop}
+use lib.Seq.{length-take-le, set-at, take-suc}
 use Rattle.lines.specs.Onto.{Wrote}
-use Rattle.lines.specs.OntoLaws.{onto-snoc, wrote-behind, wrote-byte, wrote-length}
+use Rattle.lines.specs.OntoLaws.{wrote-behind, wrote-byte, wrote-length}
+use Rattle.model.specs.Basics.Cases.{cases, lt-or-le}
 use Rattle.model.specs.Text.LineLaws.{is-line, length-line}
 use Rattle.model.specs.Text.Lines.{line, lineEnd}
 use Rattle.model.specs.Text.NumberLaws.{digits-small, digits-step, length-small, length-step}
@@ -35,21 +37,90 @@ length-more n h l =
     let s : length (digits (n / 100 / 100)) + 2 ≡ length (digits (n / 100)) = length-hundred (n / 100) (omega arith) (omega arith) in
     omega (arith, rw e at s, length-hundred n (omega arith) l)
 
--- ---- a number, and a line
+-- ---- a number, written from its last digit to its first
 
-module _ (d : List ℕ) (v : ℕ) (room : length (digits v) ≤ length d) where
-  -- a number of one digit
-  pub first-digit : v < 10 → Wrote (digits v) d (set d 0 (zeroByte + v)) 1
-  first-digit h =
-      let l : 1 ≡ length (digits v) = length-small v h in
-      record { many = l; now-is = rw (digits-small v h) (onto-snoc [] d (zeroByte + v) 0 refl (omega arith)) }
+-- While v is written into the room d, which is now e: the digits behind index i stand there, and those before it are the digits of what is left.
+pub record Ending (d : List ℕ) (v i rest : ℕ) (e : List ℕ) : Type 0 where
+  pub front : List ℕ
+  pub tail : List ℕ
+  pub whole : digits v ≡ front ++ tail
+  pub at : i ≡ length front
+  pub left : 0 < i → front ≡ digits rest
+  pub small : rest ≤ v
+  pub now-is : e ≡ take i d ++ (tail ++ drop (length (digits v)) d)
 
-  -- a number of more digits: behind those of its tenth the last one
-  pub last-digit : {e : List ℕ} {n : ℕ} → 10 ≤ v → v < 10000000000
-      → Wrote (digits (v / 10)) d e n → Wrote (digits v) d (set e n (zeroByte + v % 10)) (n + 1)
-  last-digit h l w =
-      let s : length (digits (v / 10)) + 1 ≡ length (digits v) = length-step v h l in
-      rw (digits-step v h l) (wrote-byte (zeroByte + v % 10) w (omega (arith, w .many)))
+-- a number's last digit, and those before it
+record Last (n : ℕ) : Type 0 where
+  before : List ℕ
+  digits-are : digits n ≡ before ++ ((zeroByte + n % 10) ∷ [])
+  tenth : 0 < length before → before ≡ digits (n / 10)
+
+last-digit : (n : ℕ) → n < 10000000000 → Last n
+last-digit n l =
+    cases (lt-or-le n 10)
+    (λ h. let e : n % 10 ≡ n = omega arith in record { before = []; digits-are = rw e (digits-small n h); tenth = λ g. absurd (omega arith) })
+    (λ h. record { before = digits (n / 10); digits-are = digits-step n h l; tenth = λ g. refl })
+
+no-bytes : (s : List ℕ) → 0 ≡ length s → s ≡ []
+no-bytes [] h = refl
+no-bytes (b ∷ s) h = absurd (omega arith)
+
+-- the byte before some others that stand behind index j
+set-before : (d x : List ℕ) (j b : ℕ) → j < length d → set (take (suc j) d ++ x) j b ≡ take j d ++ (b ∷ x)
+set-before d x j b h =
+    rw (take-suc d j 0 h, append-assoc (take j d) (getD d j 0 ∷ []) x, set-at (take j d) (getD d j 0) x b j (length-take-le j d (omega arith)))
+
+module _ {d : List ℕ} {v : ℕ} (room : length (digits v) ≤ length d) where
+  -- before the first turn
+  pub ending-start : {n : ℕ} → n ≡ length (digits v) → Ending d v n v d
+  ending-start m =
+      record {
+        front = digits v;
+        tail = [];
+        whole = sym (append-nil (digits v));
+        at = m;
+        left = λ h. refl;
+        small = omega arith;
+        now-is = rw m (sym (take-append-drop (length (digits v)) d));
+      }
+
+  -- what is left to write fits
+  pub ending-room : {i rest : ℕ} {e : List ℕ} → Ending d v i rest e → i ≤ length d
+  ending-room w = omega (arith, w .at, ap length (w .whole), length-append (w .front) (w .tail))
+
+  turn : {rest : ℕ} {e : List ℕ} (j : ℕ) → v < 10000000000 → Ending d v (suc j) rest e → Ending d v j (rest / 10) (set e j (zeroByte + rest % 10))
+  turn {rest} {e} j f w =
+      let b = zeroByte + rest % 10 in
+      let l : Last rest = last-digit rest (omega (arith, w .small)) in
+      let s : w .front ≡ l .before ++ (b ∷ []) = w .left (omega arith) ∙ l .digits-are in
+      let n : suc j ≡ length (l .before) + 1 = w .at ∙ ap length s ∙ length-append (l .before) (b ∷ []) in
+      record {
+        front = l .before;
+        tail = b ∷ w .tail;
+        whole = w .whole ∙ ap (λ x. x ++ w .tail) s ∙ append-assoc (l .before) (b ∷ []) (w .tail);
+        at = omega (arith, n);
+        left = λ h. l .tenth (omega (arith, n));
+        small = omega (arith, w .small);
+        now-is = ap (λ x. set x j b) (w .now-is) ∙ set-before d (w .tail ++ drop (length (digits v)) d) j b (omega (arith, ending-room w));
+      }
+
+  -- a turn: the last digit of what is left
+  pub ending-turn : {i rest : ℕ} {e : List ℕ} → v < 10000000000 → 0 < i
+      → Ending d v i rest e → Ending d v (i - 1) (rest / 10) (set e (i - 1) (zeroByte + rest % 10))
+  ending-turn {i} {rest} {e} f h w =
+      let s : i ≡ suc (i - 1) = omega arith in
+      turn (i - 1) f (subst (λ (k : ℕ). Ending d v k rest e) s w)
+
+  ended : {rest n : ℕ} {e : List ℕ} → n ≡ length (digits v) → Ending d v 0 rest e → Wrote (digits v) d e n
+  ended m w =
+      let t : digits v ≡ w .tail = w .whole ∙ ap (λ x. x ++ w .tail) (no-bytes (w .front) (w .at)) in
+      record { many = m; now-is = w .now-is ∙ ap (λ x. x ++ drop (length (digits v)) d) (sym t) }
+
+  -- behind the last turn
+  pub ending-end : {i rest n : ℕ} {e : List ℕ} → n ≡ length (digits v) → i ≤ 0 → Ending d v i rest e → Wrote (digits v) d e n
+  ending-end {i} {rest} {n} {e} m h w =
+      let z : i ≡ 0 = omega arith in
+      ended m (subst (λ (k : ℕ). Ending d v k rest e) z w)
 
 -- What the writer of a line owes once the key and its value are written: room for LF, and the line with it.
 pub record LineWrote (key v d xs ys : List ℕ) (k n : ℕ) : Type 0 where

@@ -26,18 +26,20 @@ pub fn number_len(v: u32) -> usize
     number_len(v / 10000) + 4
 }
 
-// Writes the digits of a number: those of its tenth, and the last one behind them.
+// Writes the digits of a number, from the last one to the first.
 pub fn write_number(out: &mut [u8], v: u32) -> usize
     requires { ⌜ length (digits v) ≤ length (now out) ⌝ }
     ensures { λ r. ⌜ Wrote (digits v) (now (out .entry)) (now (out .exit)) r ⌝ }
 {
-    if v < 10 {
-        out[0] = 48 + v as u8;
-        return 1;
+    let n = number_len(v);
+    let mut i = n;
+    let mut rest = v;
+    while 0 < i {
+        i -= 1;
+        out[i] = 48 + (rest % 10) as u8;
+        rest = rest / 10;
     }
-    let n = write_number(out, v / 10);
-    out[n] = 48 + (v % 10) as u8;
-    n + 1
+    n
 }
 
 // Writes some bytes as they are.
