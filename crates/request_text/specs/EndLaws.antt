@@ -22,19 +22,19 @@ module _ (w room : List ℕ) where
     unfolding writeAnswer writeNumber
     end-textless f = let e = eq-eqb (length w) requestWords l in record { answer = rw (e, f); number = rw (e, f); bytes = refl }
 
-    module _ (t : hasText (requestOf w) ≡ true) (n : ℕ) (m : n ≡ length (textOfWords w)) where
+    module _ (t : hasText (requestOf w) ≡ true) where
       -- the room is too short for the text
-      pub end-short : length room < n → Writes w room roomShort n room
+      pub end-short : {n : ℕ} → n ≡ length (textOfWords w) → length room < n → Writes w room roomShort n room
       unfolding writeAnswer writeNumber
-      end-short h =
+      end-short m h =
           let e = eq-eqb (length w) requestWords l in
           let s = lt-leb (length (textOfWords w)) (length room) (rw m at h) in
           record { answer = rw (e, t, s); number = rw (e, t, m); bytes = refl }
 
       -- the text was written
-      pub end-written : (r : List ℕ) (k : ℕ) → n ≤ length room → Wrote (textOfWords w) room r k → Writes w room 0 n r
+      pub end-written : {r : List ℕ} {n : ℕ} → length (textOfWords w) ≤ length room → Wrote (textOfWords w) room r n → Writes w room 0 n r
       unfolding writeAnswer writeNumber
-      end-written r k h x =
+      end-written h x =
           let e = eq-eqb (length w) requestWords l in
-          let s = le-leb (length (textOfWords w)) (length room) (rw m at h) in
-          record { answer = rw (e, t, s); number = rw (e, t, m); bytes = x .now-is }
+          let s = le-leb (length (textOfWords w)) (length room) h in
+          record { answer = rw (e, t, s); number = rw (e, t, x .many); bytes = x .now-is }

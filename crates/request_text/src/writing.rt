@@ -146,7 +146,8 @@ pub struct Written {
     pub bytes: u32,
 }
 
-// The text of any words in any room: refused with 1, 5 or 17, and then nothing is written, or written at the front.
+// The text of any words in any room: refused with 1, 5 or 17, and then nothing is written, or written at the front. A room of 166 bytes is
+// enough for every text.
 pub fn write(request: &[u32], room: &mut [u8]) -> Written
     ensures { λ r. ⌜ Writes (now (request .entry)) (now (room .entry)) (r .answer) (r .bytes) (now (room .exit)) ⌝ }
 {
@@ -162,11 +163,18 @@ pub fn write(request: &[u32], room: &mut [u8]) -> Written
             bytes: 0,
         };
     }
-    let n = need(request);
-    let bytes = n as u32;
-    if room.len() < n {
-        return Written { answer: 17, bytes };
+    if room.len() < 166 {
+        let n = need(request);
+        if room.len() < n {
+            return Written {
+                answer: 17,
+                bytes: n as u32,
+            };
+        }
     }
-    write_text(room, request);
-    Written { answer: 0, bytes }
+    let n = write_text(room, request);
+    Written {
+        answer: 0,
+        bytes: n as u32,
+    }
 }

@@ -1,14 +1,17 @@
 use mathlib.Core.Bool.{true}
 use mathlib.Core.Path.{_∙_, _≡_, sym}
+use Prim.Native.Nat.{_≤_}
 use native.Mathlib.Omega.{arith}
+use lib.ListN.{length}
+use borrow.Author.Needs.{needs}
 use borrow.Author.Tests.{not-false, not-true}
+use Rattle.model.specs.Basics.Cases.{cases}
 use Rattle.model.specs.Request.Words.{requestOf}
-use Rattle.model.specs.Text.Writing.{hasText}
+use Rattle.model.specs.Text.Writing.{hasText, textOfWords}
 use Rattle.request_text.specs.EndLaws.{end-short, end-size, end-textless, end-written}
 use Rattle.request_text.specs.FitLaws.{has-sixteen}
 use Rattle.request_text.specs.NeedLaws.{need-most}
 use Rattle.request_text.specs.Sixteen.{Sixteen}
-use borrow.Author.Needs.{needs}
 use Rattle.request_text.proofs.writing.write.Statement.{statement}
 use Rattle.request_text.proofs.writing.write.Tie as tie
 use Rattle.request_text.proofs.writing.write.Reads as reads
@@ -34,24 +37,29 @@ sixteen : (c : tie.Else2) → Sixteen (c .before .before .before .before .before
 sixteen c = has-sixteen _ (c .before .before .if1 .left) (texted c)
 
 need-requires : tie.Need-need-requires
-need-requires c κs = sixteen c
+need-requires c κs = sixteen (c .before)
 
-cast-bytes : tie.Need-cast-bytes
-cast-bytes c = omega (arith, c .need .ensures, need-most _ (sixteen (c .before)))
+cast-t10 : tie.Need-cast-t10
+cast-t10 c = omega (arith, c .before .need .ensures, need-most _ (sixteen (c .before .before .before)))
 
 returns-3 : tie.Need-returns-3
-returns-3 c = end-short _ _ (c .before .before .before .before .if1 .left) (texted (c .before .before)) _ (c .before .need .ensures) (c .if3 .taken)
+returns-3 c = end-short _ _ (c .before .before .before .before .before .if1 .left) (texted (c .before .before .before)) (c .before .need .ensures) (c .if4 .taken)
+
+-- where the room was looked at: it is enough
+enough : (c : tie.Joined3) → length (textOfWords (c .before .before .before .before .before .before .args .request .now)) ≤ length (c .before .before .before .before .before .before .args .room .now)
+enough c = cases (c .if3 .came) (λ w. omega (arith, w .1 .ensures, w .2 .left)) (λ w. omega (arith, w .left, need-most _ (sixteen (c .before))))
 
 write-text-requires : tie.Need-write-text-requires
-write-text-requires c κs = (sixteen (c .before .before .before), omega (arith, c .before .before .need .ensures, c .before .if3 .left))
+write-text-requires c κs = (sixteen (c .before .before), enough (c .before))
+
+cast-t13 : tie.Need-cast-t13
+cast-t13 c = omega (arith, c .before .before .write-text .ensures .many, need-most _ (sixteen (c .before .before .before .before .before)))
 
 same-length : tie.Need-same-length
 same-length c = search needs
 
 returns-4 : tie.Need-returns-4
-returns-4 c =
-    let n = c .before .before .before .before .before in
-    end-written _ _ (n .before .before .before .if1 .left) (texted (n .before)) _ (n .need .ensures) _ _ (c .before .before .before .before .if3 .left) (c .before .before .write-text .ensures)
+returns-4 c = end-written _ _ (c .before .before .before .before .before .before .before .if1 .left) (texted (c .before .before .before .before .before)) (enough (c .before .before .before .before)) (c .before .before .write-text .ensures)
 
 pub write-spec : {M : Type 1} → statement M
 write-spec =
@@ -61,8 +69,9 @@ write-spec =
     has-text-requires
     returns-2
     need-requires
-    cast-bytes
+    cast-t10
     returns-3
     write-text-requires
+    cast-t13
     same-length
     returns-4)
