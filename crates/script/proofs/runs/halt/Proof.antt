@@ -1,0 +1,52 @@
+use borrow.Author.Needs.{needs}
+use Rattle.script.proofs.runs.halt.Statement.{statement}
+use Rattle.script.proofs.runs.halt.Tie as tie
+use Rattle.script.proofs.runs.halt.Reads as reads
+use Rattle.script.proofs.runs.halt.Lts as lts
+use Rattle.script.proofs.runs.is_unfinished.Reads as is-unfinished-reads
+use Rattle.script.proofs.runs.reported.Reads as reported-reads
+
+-- src/runs.rt:65:9
+reported-requires : tie.Need-reported-requires
+reported-requires c κs = search needs
+
+-- src/runs.rt:65:9
+same-length : tie.Need-same-length
+same-length c = search needs
+
+-- src/runs.rt:65:9
+returns : tie.Need-returns
+returns c = ?
+
+-- src/runs.rt:67:8
+is-unfinished-requires : tie.Need-is-unfinished-requires
+is-unfinished-requires c κs = search needs
+
+-- src/runs.rt:68:9
+returns-2 : tie.Need-returns-2
+returns-2 c = ?
+
+-- src/runs.rt:73:5
+reported-requires-2 : tie.Need-reported-requires-2
+reported-requires-2 c κs = search needs
+
+-- src/runs.rt:60:1
+same-length-2 : tie.Need-same-length-2
+same-length-2 c = search needs
+
+-- src/runs.rt:60:1
+returns-3 : tie.Need-returns-3
+returns-3 c = ?
+
+pub halt-spec : {M : Type 1} → statement M
+halt-spec =
+    tie.close
+    (tie.spec
+    reported-requires
+    same-length
+    returns
+    is-unfinished-requires
+    returns-2
+    reported-requires-2
+    same-length-2
+    returns-3)

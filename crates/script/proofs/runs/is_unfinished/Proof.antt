@@ -1,0 +1,25 @@
+use borrow.Author.Needs.{needs}
+use Rattle.script.proofs.runs.is_unfinished.Statement.{statement}
+use Rattle.script.proofs.runs.is_unfinished.Tie as tie
+use Rattle.script.proofs.runs.is_unfinished.Reads as reads
+use Rattle.script.proofs.runs.is_unfinished.Lts as lts
+use Rattle.script.proofs.runs.line_ends.Reads as line-ends-reads
+
+-- src/runs.rt:42:15
+sub-if1 : tie.Need-sub-if1
+sub-if1 c = search needs
+
+-- src/runs.rt:43:9
+returns : tie.Need-returns
+returns c = ?
+
+-- src/runs.rt:45:5
+line-ends-requires : tie.Need-line-ends-requires
+line-ends-requires c κs = search needs
+
+-- src/runs.rt:38:1
+returns-2 : tie.Need-returns-2
+returns-2 c = ?
+
+pub is-unfinished-spec : {M : Type 1} → statement M
+is-unfinished-spec = tie.close (tie.spec sub-if1 returns line-ends-requires returns-2)

@@ -1,0 +1,100 @@
+use Rattle.script.proofs.runs.run.Statement.{statement}
+use Rattle.script.proofs.runs.run.Tie as tie
+use Rattle.script.proofs.runs.run.Reads as reads
+use Rattle.script.proofs.runs.run.Lts as lts
+use Rattle.script.proofs.reports.put_report.Reads as put-report-reads
+use Rattle.script.proofs.runs.halt.Reads as halt-reads
+use Rattle.script.proofs.turns.one_turn.Reads as one-turn-reads
+
+abbrev Inv-loop : tie.InvT-loop
+Inv-loop tables₀ script last out₀ at₀ n₀ tables out at n = ?
+
+abbrev μ-loop : tie.MeasureT-loop
+μ-loop tables₀ script last out₀ at₀ n₀ tables out at n = ?
+
+-- src/runs.rt:83:5
+loop-holds : tie.Need-loop-holds Inv-loop μ-loop
+loop-holds c = ?
+
+-- src/runs.rt:84:12
+sub-if1 : tie.Need-sub-if1 Inv-loop μ-loop
+sub-if1 c = ?
+
+-- src/runs.rt:85:13
+same-length : tie.Need-same-length Inv-loop μ-loop
+same-length c = ?
+
+-- src/runs.rt:85:13
+same-length-2 : tie.Need-same-length-2 Inv-loop μ-loop
+same-length-2 c = ?
+
+-- src/runs.rt:85:13
+returns : tie.Need-returns Inv-loop μ-loop
+returns c = ?
+
+-- src/runs.rt:90:13
+one-turn-requires : tie.Need-one-turn-requires Inv-loop μ-loop
+one-turn-requires c κs = ?
+
+-- src/runs.rt:93:13
+halt-requires : tie.Need-halt-requires Inv-loop μ-loop
+halt-requires c κs = ?
+
+-- src/runs.rt:93:13
+same-length-3 : tie.Need-same-length-3 Inv-loop μ-loop
+same-length-3 c = ?
+
+-- src/runs.rt:93:13
+same-length-4 : tie.Need-same-length-4 Inv-loop μ-loop
+same-length-4 c = ?
+
+-- src/runs.rt:93:13
+returns-2 : tie.Need-returns-2 Inv-loop μ-loop
+returns-2 c = ?
+
+-- src/runs.rt:96:9
+put-report-requires : tie.Need-put-report-requires Inv-loop μ-loop
+put-report-requires c κs = ?
+
+-- src/runs.rt:83:5
+loop-less : tie.Need-loop-less Inv-loop μ-loop
+loop-less c = ?
+
+-- src/runs.rt:83:5
+loop-again : tie.Need-loop-again Inv-loop μ-loop
+loop-again c = ?
+
+-- src/runs.rt:78:1
+same-length-5 : tie.Need-same-length-5 Inv-loop μ-loop
+same-length-5 c = ?
+
+-- src/runs.rt:78:1
+same-length-6 : tie.Need-same-length-6 Inv-loop μ-loop
+same-length-6 c = ?
+
+-- src/runs.rt:78:1
+returns-3 : tie.Need-returns-3 Inv-loop μ-loop
+returns-3 c = ?
+
+pub run-spec : {M : Type 1} → statement M
+run-spec =
+    tie.close
+    (tie.spec
+    Inv-loop
+    μ-loop
+    loop-holds
+    sub-if1
+    same-length
+    same-length-2
+    returns
+    one-turn-requires
+    halt-requires
+    same-length-3
+    same-length-4
+    returns-2
+    put-report-requires
+    loop-less
+    loop-again
+    same-length-5
+    same-length-6
+    returns-3)
