@@ -8,8 +8,13 @@ use lib.ListN.{drop, drop-of-length-le, getD, length, length-append, length-drop
 use lib.Seq.{drop-at, drop-cons, drop-drop, length-take-le, set-at, take-all, take-at, take-suc}
 use Rattle.lines.specs.Onto.{Puts, Wrote, onto}
 
+-- bytes of which there are none
+pub empty : (s : List ℕ) → length s ≡ 0 → s ≡ []
+empty [] h = refl
+empty (b ∷ s) h = absurd (omega arith)
+
 -- one byte more behind what was written
-pub onto-snoc : (s d : List ℕ) (b n : ℕ) → n ≡ length s → n < length d → set (onto s d) n b ≡ onto (s ++ (b ∷ [])) d
+onto-snoc : (s d : List ℕ) (b n : ℕ) → n ≡ length s → n < length d → set (onto s d) n b ≡ onto (s ++ (b ∷ [])) d
 onto-snoc s d b n e h =
     rw (
       e,
@@ -36,9 +41,11 @@ onto-turn src d i h l =
 
 -- ---- the part of a room that starts at an index, in the form in which it is lent
 
+-- it is all that stands from there on
 pub part-is : (xs : List ℕ) (a : ℕ) → take (length xs - a) (drop a xs) ≡ drop a xs
 part-is xs a = take-all (length xs - a) (drop a xs) (omega (arith, length-drop a xs))
 
+-- and as long
 pub length-part : (xs : List ℕ) (a : ℕ) → length (take (length xs - a) (drop a xs)) ≡ length xs - a
 length-part xs a = rw (part-is xs a) (length-drop a xs)
 

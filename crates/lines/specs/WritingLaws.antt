@@ -6,7 +6,7 @@ use native.Mathlib.Omega.{arith}
 use lib.ListN.{drop, getD, length, length-append, set, take, take-append-drop}
 use lib.Seq.{length-take-le, set-at, take-suc}
 use Rattle.lines.specs.Onto.{Wrote}
-use Rattle.lines.specs.OntoLaws.{wrote-behind, wrote-byte, wrote-length}
+use Rattle.lines.specs.OntoLaws.{empty, wrote-behind, wrote-byte, wrote-length}
 use Rattle.model.specs.Basics.Cases.{cases, lt-or-le}
 use Rattle.model.specs.Text.LineLaws.{is-line, length-line}
 use Rattle.model.specs.Text.Lines.{line, lineEnd}
@@ -15,6 +15,7 @@ use Rattle.model.specs.Text.Numbers.{digits, zeroByte}
 
 -- ---- how long a number is
 
+-- two, three and four digits
 pub length-two : (n : ℕ) → 10 ≤ n → n < 100 → 2 ≡ length (digits n)
 length-two n h l = omega (arith, length-step n h (omega arith), length-small (n / 10) (omega arith))
 
@@ -24,13 +25,14 @@ length-three n h l = omega (arith, length-step n (omega arith) (omega arith), le
 pub length-four : (n : ℕ) → 1000 ≤ n → n < 10000 → 4 ≡ length (digits n)
 length-four n h l = omega (arith, length-step n (omega arith) (omega arith), length-three (n / 10) (omega arith) (omega arith))
 
--- two digits more, and so four
+-- two digits more
 length-hundred : (n : ℕ) → 100 ≤ n → n < 10000000000 → length (digits (n / 100)) + 2 ≡ length (digits n)
 length-hundred n h l =
     let e : n / 10 / 10 ≡ n / 100 = omega arith in
     let s : length (digits (n / 10 / 10)) + 1 ≡ length (digits (n / 10)) = length-step (n / 10) (omega arith) (omega arith) in
     omega (arith, rw e at s, length-step n (omega arith) l)
 
+-- four digits more
 pub length-more : (n : ℕ) → 10000 ≤ n → n < 10000000000 → length (digits (n / 10000)) + 4 ≡ length (digits n)
 length-more n h l =
     let e : n / 100 / 100 ≡ n / 10000 = omega arith in
@@ -60,10 +62,6 @@ last-digit n l =
     cases (lt-or-le n 10)
     (λ h. let e : n % 10 ≡ n = omega arith in record { before = []; digits-are = rw e (digits-small n h); tenth = λ g. absurd (omega arith) })
     (λ h. record { before = digits (n / 10); digits-are = digits-step n h l; tenth = λ g. refl })
-
-no-bytes : (s : List ℕ) → 0 ≡ length s → s ≡ []
-no-bytes [] h = refl
-no-bytes (b ∷ s) h = absurd (omega arith)
 
 -- the byte before some others that stand behind index j
 set-before : (d x : List ℕ) (j b : ℕ) → j < length d → set (take (suc j) d ++ x) j b ≡ take j d ++ (b ∷ x)
@@ -113,7 +111,7 @@ module _ {d : List ℕ} {v : ℕ} (room : length (digits v) ≤ length d) where
 
   ended : {rest n : ℕ} {e : List ℕ} → n ≡ length (digits v) → Ending d v 0 rest e → Wrote (digits v) d e n
   ended m w =
-      let t : digits v ≡ w .tail = w .whole ∙ ap (λ x. x ++ w .tail) (no-bytes (w .front) (w .at)) in
+      let t : digits v ≡ w .tail = w .whole ∙ ap (λ x. x ++ w .tail) (empty (w .front) (sym (w .at))) in
       record { many = m; now-is = w .now-is ∙ ap (λ x. x ++ drop (length (digits v)) d) (sym t) }
 
   -- behind the last turn

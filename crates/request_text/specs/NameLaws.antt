@@ -12,10 +12,6 @@ use Rattle.model.specs.Text.NumberLaws.{length-most}
 use Rattle.model.specs.Text.Numbers.{digits}
 use Rattle.model.specs.Text.References.{dotByte, dotted, joined}
 
-pub no-names : (ns : List ℕ) → length ns ≡ 0 → ns ≡ []
-no-names [] h = refl
-no-names (n ∷ ns) h = absurd (omega arith)
-
 -- the first name, and the others as the part `&names[1..]`
 pub dotted-cons : (ns : List ℕ) → 0 < length ns → dotted ns ≡ (dotByte ∷ digits (getD ns 0 0)) ++ dotted (take (length ns - 1) (drop 1 ns))
 dotted-cons [] h = absurd (omega arith)
@@ -25,6 +21,7 @@ pub joined-cons : (ns : List ℕ) → 0 < length ns → joined ns ≡ digits (ge
 joined-cons [] h = absurd (omega arith)
 joined-cons (n ∷ ns) h = rw (part-is (n ∷ ns) 1)
 
+-- and how long they are
 pub dotted-length : (ns : List ℕ) → 0 < length ns
     → length (dotted ns) ≡ 1 + length (digits (getD ns 0 0)) + length (dotted (take (length ns - 1) (drop 1 ns)))
 dotted-length ns h = rw (dotted-cons ns h, length-append (digits (getD ns 0 0)) (dotted (take (length ns - 1) (drop 1 ns)))) (omega arith)

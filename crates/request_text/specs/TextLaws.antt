@@ -30,6 +30,7 @@ pub worded-is : (w : List ℕ) → Sixteen w → wordingOf (requestOf w) ≡ wor
 unfolding requestOf
 worded-is w x = rw (names-part w 2 (omega (arith, x .long)) (x .first), names-part w 7 (omega (arith, x .long)) (x .second))
 
+-- and so is its text theirs
 pub text-worded : (w : List ℕ) → Sixteen w → textOfWords w ≡ textOf (worded w)
 text-worded w x = ap textOf (worded-is w x)
 

@@ -1,8 +1,8 @@
 use native.Mathlib.Omega.{arith}
 use lib.ListN.{length}
 use borrow.Author.Needs.{needs}
-use Rattle.lines.specs.OntoLaws.{length-part, wrote-behind, wrote-none}
-use Rattle.request_text.specs.NameLaws.{dotted-cons, dotted-length, no-names}
+use Rattle.lines.specs.OntoLaws.{empty, length-part, wrote-behind, wrote-none}
+use Rattle.request_text.specs.NameLaws.{dotted-cons, dotted-length}
 use Prim.Native.Nat.{ℕ, _<_}
 use borrow.Fn.Kinds.{In}
 use borrow.Fn.PlainCycle.{Measures, is, falls, and}
@@ -32,7 +32,7 @@ abbrev write-dotted-calls : ℕ → write-dotted-lts.Claims
 write-dotted-calls t = (write-name-reads.Asked, write-name-reads.Learnt, write-dotted-below t, write-dotted.Post)
 
 write-dotted-returns : (t : ℕ) → write-dotted-lts.Need-returns (write-dotted-calls t) (write-dotted-at t) write-dotted.Post
-write-dotted-returns t c = rw (no-names (c .before .before .before .args .names .now) (c .if1 .taken)) (wrote-none _)
+write-dotted-returns t c = rw (empty (c .before .before .before .args .names .now) (c .if1 .taken)) (wrote-none _)
 
 write-dotted-shared-slice-read-write-name :
     (t : ℕ) → write-dotted-lts.Need-shared-slice-read-write-name (write-dotted-calls t) (write-dotted-at t) write-dotted.Post

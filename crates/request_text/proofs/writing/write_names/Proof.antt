@@ -1,8 +1,8 @@
 use Prim.Native.Nat.{_<_}
 use native.Mathlib.Omega.{arith}
 use lib.ListN.{length}
-use Rattle.lines.specs.OntoLaws.{length-part, wrote-behind, wrote-none}
-use Rattle.request_text.specs.NameLaws.{joined-cons, joined-length, no-names}
+use Rattle.lines.specs.OntoLaws.{empty, length-part, wrote-behind, wrote-none}
+use Rattle.request_text.specs.NameLaws.{joined-cons, joined-length}
 use borrow.Author.Needs.{needs}
 use Rattle.request_text.proofs.writing.write_names.Statement.{statement}
 use Rattle.request_text.proofs.writing.write_names.Tie as tie
@@ -12,7 +12,7 @@ use Rattle.lines.proofs.writing.write_number.Reads as write-number-reads
 use Rattle.request_text.proofs.writing.write_dotted.Reads as write-dotted-reads
 
 returns : tie.Need-returns
-returns c = rw (no-names (c .before .before .before .args .names .now) (c .if1 .taken)) (wrote-none _)
+returns c = rw (empty (c .before .before .before .args .names .now) (c .if1 .taken)) (wrote-none _)
 
 shared-slice-read-write-number : tie.Need-shared-slice-read-write-number
 shared-slice-read-write-number c = search needs
