@@ -40,7 +40,7 @@ going-start t s last room = record {
   within = omega arith;
   fits = omega arith;
   reports = [];
-  so-far = refl;
+  so-far = let z : length room ≡ length room - 0 = omega arith in ap (λ (k : ℕ). ran t s last k) z;
   wrote = wrote-none room;
 }
 

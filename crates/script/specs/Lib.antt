@@ -6,5 +6,6 @@ pub mod LoadLaws
 pub mod MoveLaws
 pub mod ReportLaws
 pub mod TurnLaws
+pub mod EndsLaws
 pub mod RunLaws
 pub mod GoingLaws

@@ -16,12 +16,16 @@ front-more r d i v h l e q =
     rw (add-one i) (take-suc (set r i v) i 0 (rw (length-set r i v) h)
     ∙ rw (kept, getD-set-same r i v 0 h, e, q) (sym (take-suc d i 0 l)))
 
+take-none : (n : ℕ) → [] ≡ take {A = ℕ} n []
+take-none zero = refl
+take-none (suc n) = refl
+
 drop-front : (w : List ℕ) (from len : ℕ) → from ≤ len → drop from (take len w) ≡ take (len - from) (drop from w)
 drop-front w zero len h = let e : len ≡ len - 0 = omega arith in ap (λ (k : ℕ). take k w) e
 drop-front [] (suc k) zero h = absurd (omega arith)
 drop-front (x ∷ w) (suc k) zero h = absurd (omega arith)
-drop-front [] (suc k) (suc n) h = refl
-drop-front (x ∷ w) (suc k) (suc n) h = drop-front w k n (omega arith)
+drop-front [] (suc k) (suc n) h = take-none (suc n - suc k)
+drop-front (x ∷ w) (suc k) (suc n) h = let e : n - k ≡ suc n - suc k = omega arith in drop-front w k n (omega arith) ∙ ap (λ (i : ℕ). take i (drop k w)) e
 
 -- What holds while bytes of w are moved: i of them stand at the front of r, and those from j on are as they were.
 pub record Moved (w r : List ℕ) (from i j : ℕ) : Type 0 where

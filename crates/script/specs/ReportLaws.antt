@@ -1,6 +1,6 @@
 -- When a request has a requester whose words can be told, and what a report's lines need.
 use mathlib.Core.Bool.{Bool, _&&_, false, not, true}
-use mathlib.Core.List.{List, _++_}
+use mathlib.Core.List.{List, _++_, append-assoc}
 use mathlib.Core.Logic.{_⊎_, inl, inr, _≢_}
 use mathlib.Core.Path.{_∙_, _≡_, ap, refl, subst, sym}
 use Prim.Native.Nat.{_+_, _<_, _≤_, ℕ}
@@ -8,7 +8,6 @@ use native.Mathlib.Omega.{arith}
 use lib.Dec.{T, eqb, leb}
 use lib.ListN.{getD, length, length-append}
 use borrow.Author.Tests.{le-leb, lt-leb}
-use Rattle.lines.specs.Onto.{Puts}
 use Rattle.model.specs.Basics.Cases.{cases, true-or-false}
 use Rattle.model.specs.Basics.TestLaws.{is-false, is-true}
 use Rattle.model.specs.Request.Allowed.{Known}
@@ -16,13 +15,18 @@ use Rattle.model.specs.Request.Ladder.{applies, ladder, never, rungAt, unknownU
 use Rattle.model.specs.Request.RungLaws.{unknownUser-fails}
 use Rattle.model.specs.Request.Step.{Settles, afterOf, answerOf, sized}
 use Rattle.model.specs.Request.Words.{requestOf, requestWords}
-use Rattle.model.specs.Script.Reports.{bare, report, untold}
+use Rattle.model.specs.Script.ReportLaws.{report-length}
+use Rattle.model.specs.Script.Reports.{answerKey, bare, heldKey, missedKey, report, reportText, untold}
+use Rattle.model.specs.Script.Windows.{reportBytes}
 use Rattle.model.specs.Tables.Layout.{tablesOf, wordCount}
 use Rattle.model.specs.Tables.Words.{held, missed}
+use Rattle.model.specs.Text.Lines.{line}
+use Rattle.model.specs.Text.Numbers.{digits}
 use Rattle.model.specs.Theorem.Steps.{afterOf-length, sized-agrees, unsized}
 use Rattle.model.specs.Theorem.Unique.{settles}
-use Rattle.script.specs.Reported.{Settled, inCode}
+use Rattle.script.specs.Reported.{Settled, fromCode, inCode}
 use Rattle.script.specs.declared.reports.Report.{Report}
+use Rattle.step.specs.Contract as step
 use Rattle.tables.specs.Singles.{UserIn}
 
 -- rung 4 is the one that asks who requests
@@ -73,3 +77,51 @@ module _ (t q : List ℕ) where
       full : (answerOf t q ≡ 0) ⊎ (4 < answerOf t q) → untold (answerOf t q) ≡ false
       full (inl z) = rw z refl
       full (inr z) = rw (le-leb 1 (answerOf t q) (omega arith), lt-leb (answerOf t q) 4 z) refl
+
+-- ---- a request that the step answered with a and left the words n
+
+module _ {t q n : List ℕ} {a : ℕ} (s : step.Settled t q a n) where
+  told-of : (a ≡ 0) ⊎ (4 < a) → (answerOf t q ≡ 0) ⊎ (4 < answerOf t q)
+  told-of = subst (λ (k : ℕ). (k ≡ 0) ⊎ (4 < k)) (s .answer)
+
+  -- its requester is a user in these words
+  pub settled-known : (a ≡ 0) ⊎ (4 < a) → (length q ≡ requestWords) × UserIn n (getD q 0 0)
+  settled-known h = let k = told-if t q (told-of h) in (k .0, subst (λ (l : List ℕ). UserIn l (getD q 0 0)) (sym (s .words)) (k .1))
+
+  -- and is told what these words hold,
+  pub settled-full : (r : Report) → (a ≡ 0) ⊎ (4 < a)
+      → r ≡ record { answer = a; held = tablesOf n .user (getD q 0 0) held; missed = tablesOf n .user (getD q 0 0) missed } → Settled t q r n
+  settled-full r h e = record { reported = e ∙ rw (s .answer, s .words) (sym (ap inCode (report-full t q (told-of h)))); words = s .words }
+
+  -- or only the answer.
+  pub settled-bare : (r : Report) → 1 ≤ a → a ≤ 4 → r ≡ record { answer = a; held = 0; missed = 0 } → Settled t q r n
+  settled-bare r h k e =
+      let b = report-bare t q (subst (λ (i : ℕ). 1 ≤ i) (s .answer) h) (subst (λ (i : ℕ). i ≤ 4) (s .answer) k) in
+      record { reported = e ∙ rw (s .answer) (sym (ap inCode b)); words = s .words }
+
+-- ---- the lines of a report
+
+abbrev pub answerLine : Report → List ℕ
+answerLine r = line answerKey (digits (r .answer))
+
+abbrev pub heldLine : Report → List ℕ
+heldLine r = line heldKey (digits (r .held))
+
+abbrev pub missedLine : Report → List ℕ
+missedLine r = line missedKey (digits (r .missed))
+
+module _ (r : Report) where
+  -- they are its text, as they are written one behind another,
+  pub report-lines : (answerLine r ++ heldLine r) ++ missedLine r ≡ reportText (fromCode r)
+  unfolding reportText
+  report-lines = append-assoc (answerLine r) (heldLine r) (missedLine r)
+
+  -- and find room in 52 bytes.
+  pub report-room : {n : ℕ} → reportBytes ≤ n
+      → (length (answerLine r) + length (heldLine r) ≤ n) × (length (answerLine r ++ heldLine r) + length (missedLine r) ≤ n)
+  report-room h =
+      let l : length (reportText (fromCode r)) ≤ reportBytes = report-length (fromCode r) in
+      let e : length ((answerLine r ++ heldLine r) ++ missedLine r) ≡ length (reportText (fromCode r)) = ap length report-lines in (
+        omega (arith, length-append (answerLine r ++ heldLine r) (missedLine r), length-append (answerLine r) (heldLine r)),
+        omega (arith, length-append (answerLine r ++ heldLine r) (missedLine r)),
+      )

@@ -3,7 +3,7 @@ use levels::User;
 ghost use mathlib.Core.Path.{_≡_};
 ghost use Prim.Native.Nat.{_+_, _≤_};
 ghost use lib.ListN.{length};
-ghost use Rattle.lines.specs.Onto.{Puts};
+ghost use Rattle.lines.specs.Onto.{Puts, Wrote};
 ghost use Rattle.model.specs.Script.Reports.{reportText};
 ghost use Rattle.model.specs.Script.Windows.{reportBytes};
 ghost use Rattle.model.specs.Tables.Layout.{tablesOf};
@@ -55,12 +55,21 @@ pub fn settle(tables: &mut [u32], request: &[u32]) -> Report
     full(tables, request[0], answer)
 }
 
-// The three lines of a report at an index of out, and the index behind them. They have at most 52 bytes.
+// The three lines of a report at the front of out, and how many bytes they have: at most 52.
+fn write_report(out: &mut [u8], r: Report) -> usize
+    requires { ⌜ reportBytes ≤ length (now out) ⌝ }
+    ensures { λ n. ⌜ Wrote (reportText (fromCode r)) (now (out .entry)) (now (out .exit)) n ⌝ }
+{
+    let a = lines::writing::write_line(out, b"answer=", r.answer);
+    let h = lines::writing::put_line(out, a, b"held=", r.held);
+    lines::writing::put_line(out, h, b"missed=", r.missed)
+}
+
+// The three lines of a report at an index of out, and the index behind them.
 pub fn put_report(out: &mut [u8], at: usize, r: Report) -> usize
     requires { ⌜ at + reportBytes ≤ length (now out) ⌝ }
     ensures { λ n. ⌜ Puts (reportText (fromCode r)) (now (out .entry)) at (now (out .exit)) n ⌝ }
 {
-    let a = lines::writing::put_line(out, at, b"answer=", r.answer);
-    let h = lines::writing::put_line(out, a, b"held=", r.held);
-    lines::writing::put_line(out, h, b"missed=", r.missed)
+    let n = write_report(&mut out[at..], r);
+    at + n
 }

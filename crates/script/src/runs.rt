@@ -4,10 +4,13 @@ use crate::turns::Place;
 use crate::turns::Turned;
 ghost use mathlib.Core.Path.{_≡_};
 ghost use Prim.Native.Nat.{_+_, _≤_};
+ghost use lib.Dec.{eqb};
 ghost use lib.ListN.{drop, length};
 ghost use Rattle.lines.specs.Onto.{Puts};
+ghost use Rattle.model.specs.Basics.Choice.{pick};
 ghost use Rattle.model.specs.Script.Reports.{reportText};
 ghost use Rattle.model.specs.Script.Windows.{reportBytes};
+ghost use Rattle.model.specs.Text.Lines.{lineEnd};
 ghost use Rattle.model.specs.Text.Unfinished.{ends, unfinished};
 ghost use Rattle.script.specs.Reported.{fromCode};
 ghost use Rattle.script.specs.Running.{Halts, RunsOn};
@@ -18,6 +21,16 @@ pub struct Ran {
     pub bytes: usize,
 }
 
+// How many lines end with a byte: one, or none.
+fn ends_line(b: u8) -> usize
+    ensures { λ r. ⌜ r ≡ pick (eqb b lineEnd) 1 0 ⌝ }
+{
+    if b == 10 {
+        return 1;
+    }
+    0
+}
+
 // How many lines end in s from an index on.
 fn line_ends(s: &[u8], at: usize) -> usize
     requires { ⌜ at ≤ length (now s) ⌝ }
@@ -26,9 +39,7 @@ fn line_ends(s: &[u8], at: usize) -> usize
     let mut n: usize = 0;
     let mut i = at;
     while i < s.len() {
-        if s[i] == 10 {
-            n += 1;
-        }
+        n += ends_line(s[i]);
         i += 1;
     }
     n

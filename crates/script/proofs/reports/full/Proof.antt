@@ -1,3 +1,4 @@
+use mathlib.Core.Path.{refl}
 use borrow.Author.Needs.{needs}
 use Rattle.script.proofs.reports.full.Statement.{statement}
 use Rattle.script.proofs.reports.full.Tie as tie
@@ -16,7 +17,7 @@ missed-requires c κs = search needs
 
 -- src/reports.rt:32:1
 returns : tie.Need-returns
-returns c = ?
+returns c = rw (c .before .held .ensures, c .missed .ensures) refl
 
 pub full-spec : {M : Type 1} → statement M
 full-spec = tie.close (tie.spec held-requires missed-requires returns)

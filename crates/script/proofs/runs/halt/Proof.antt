@@ -1,4 +1,3 @@
-use borrow.Author.Needs.{needs}
 use Rattle.script.proofs.runs.halt.Statement.{statement}
 use Rattle.script.proofs.runs.halt.Tie as tie
 use Rattle.script.proofs.runs.halt.Reads as reads
@@ -6,35 +5,35 @@ use Rattle.script.proofs.runs.halt.Lts as lts
 use Rattle.script.proofs.runs.is_unfinished.Reads as is-unfinished-reads
 use Rattle.script.proofs.runs.reported.Reads as reported-reads
 
--- src/runs.rt:65:9
+-- src/runs.rt:76:9
 reported-requires : tie.Need-reported-requires
-reported-requires c κs = search needs
+reported-requires c κs = ?
 
--- src/runs.rt:65:9
+-- src/runs.rt:76:9
 same-length : tie.Need-same-length
-same-length c = search needs
+same-length c = ?
 
--- src/runs.rt:65:9
+-- src/runs.rt:76:9
 returns : tie.Need-returns
 returns c = ?
 
--- src/runs.rt:67:8
+-- src/runs.rt:78:8
 is-unfinished-requires : tie.Need-is-unfinished-requires
-is-unfinished-requires c κs = search needs
+is-unfinished-requires c κs = ?
 
--- src/runs.rt:68:9
+-- src/runs.rt:79:9
 returns-2 : tie.Need-returns-2
 returns-2 c = ?
 
--- src/runs.rt:73:5
+-- src/runs.rt:84:5
 reported-requires-2 : tie.Need-reported-requires-2
-reported-requires-2 c κs = search needs
+reported-requires-2 c κs = ?
 
--- src/runs.rt:60:1
+-- src/runs.rt:71:1
 same-length-2 : tie.Need-same-length-2
-same-length-2 c = search needs
+same-length-2 c = ?
 
--- src/runs.rt:60:1
+-- src/runs.rt:71:1
 returns-3 : tie.Need-returns-3
 returns-3 c = ?
 

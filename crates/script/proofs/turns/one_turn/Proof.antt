@@ -205,4 +205,4 @@ one-turn-spec 𝓤 H 𝓜 𝓖 𝓡 =
     entered 𝓤 H (tripleOf 𝓤 H (𝓖 .A) one-turn.signature (one-turn.spec 𝓤 H (𝓖 .A) (𝓜 .mem) (𝓡 .run)))
     (tables 𝓤 H 𝓜 𝓡 code.env .C) (tables 𝓤 H 𝓜 𝓡 code.env .Λ) #script·one-turn code.function (code.unfolded 𝓤 H 𝓜 𝓡)
     (one-turn-meets 𝓤 H (𝓖 .A) (givenOf 𝓤 H 𝓜 𝓖) (𝓜 .mem) (𝓡 .run) (tablesOf 𝓤 H 𝓜 (tables 𝓤 H 𝓜 𝓡 code.env))
-    (cited 𝓤 H (Turn 𝓤 H (𝓖 .A) (𝓜 .mem) (𝓡 .run)) 𝓜 𝓡 code.env #script·turn turn-def.routine code.calls-script·turn (turn-thm.met 𝓤 H 𝓜 𝓖 𝓡)))
+    (cited 𝓤 H (Turn 𝓤 H (𝓖 .A) (𝓜 .mem) (𝓡 .run)) 𝓜 𝓡 code.env #script·turn turn-def.routine code.calls-script·turns·turn (turn-thm.met 𝓤 H 𝓜 𝓖 𝓡)))

@@ -1,3 +1,4 @@
+use mathlib.Core.Path.{refl}
 use borrow.Author.Needs.{needs}
 use Rattle.script.proofs.turns.settled.Statement.{statement}
 use Rattle.script.proofs.turns.settled.Tie as tie
@@ -15,7 +16,7 @@ same-length c = search needs
 
 -- src/turns.rt:37:1
 returns : tie.Need-returns
-returns c = ?
+returns c = (rw (c .before .before .settle .ensures .reported) refl, c .before .before .settle .ensures .words)
 
 pub settled-spec : {M : Type 1} → statement M
 settled-spec = tie.close (tie.spec settle-requires same-length returns)

@@ -1,3 +1,4 @@
+use mathlib.Core.Path.{refl}
 use borrow.Author.Needs.{needs}
 use Rattle.script.proofs.turns.stuck.Statement.{statement}
 use Rattle.script.proofs.turns.stuck.Tie as tie
@@ -11,7 +12,7 @@ bare-requires c κs = search needs
 
 -- src/turns.rt:27:1
 returns : tie.Need-returns
-returns c = ?
+returns c = rw (c .bare .ensures) refl
 
 pub stuck-spec : {M : Type 1} → statement M
 stuck-spec = tie.close (tie.spec bare-requires returns)

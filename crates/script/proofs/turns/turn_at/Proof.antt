@@ -1,3 +1,5 @@
+use mathlib.Core.Path.{_∙_, sym}
+use Rattle.script.specs.TurnLaws.{turn-bad, turn-next}
 use borrow.Author.Needs.{needs}
 use Rattle.script.proofs.turns.turn_at.Statement.{statement}
 use Rattle.script.proofs.turns.turn_at.Tie as tie
@@ -37,7 +39,7 @@ settled-requires c κs = search needs
 
 -- src/turns.rt:48:1
 returns : tie.Need-returns
-returns c = ?
+returns c = let z = turn-bad (c .before .before .before .before .before .before .before .before .before .args .tables .now) (c .before .before .before .before .before .before .before .before .before .args .p) (rw (c .before .before .k .given .1) at (c .before .before .before .before .before .read-seven .ensures)) in (c .stuck .ensures ∙ sym (z .0), sym (z .1))
 
 -- src/turns.rt:48:1
 same-length : tie.Need-same-length
@@ -45,7 +47,7 @@ same-length c = search needs
 
 -- src/turns.rt:48:1
 returns-2 : tie.Need-returns-2
-returns-2 c = ?
+returns-2 c = let z = turn-next (c .before .before .before .before .before .before .before .before .before .before .before .before .before .args .tables .now) (c .before .before .before .before .before .before .before .before .before .before .before .before .before .args .p) (rw (c .before .before .before .before .before .before .next .given .1) at (c .before .before .before .before .before .before .before .before .before .read-seven .ensures)) in (c .before .before .settled .ensures .0 ∙ sym (z .0), c .before .before .settled .ensures .1 ∙ sym (z .1))
 
 pub turn-at-spec : {M : Type 1} → statement M
 turn-at-spec =

@@ -1,0 +1,15 @@
+use Rattle.script.proofs.runs.ends_line.Statement.{statement}
+use Rattle.script.proofs.runs.ends_line.Tie as tie
+use Rattle.script.proofs.runs.ends_line.Reads as reads
+use Rattle.script.proofs.runs.ends_line.Lts as lts
+
+-- src/runs.rt:29:9
+returns : tie.Need-returns
+returns c = ?
+
+-- src/runs.rt:25:1
+returns-2 : tie.Need-returns-2
+returns-2 c = ?
+
+pub ends-line-spec : {M : Type 1} → statement M
+ends-line-spec = tie.close (tie.spec returns returns-2)
