@@ -162,3 +162,21 @@ module _ {t₀ s : List ℕ} {last : Bool} {room t : List ℕ} {at : ℕ} {out :
           absurd (z (ap (λ (v : Turned). v .place .line) a))
       go (badLine k) q =
           halted x u out′ r k q h room52 (e ∙ ap (turnedBy t (length s) (here at)) q) (f ∙ ap (leftBy t) q) halts
+
+-- ---- how a run ends at a request that could not be read
+
+module _ {s : List ℕ} {last : Bool} {room : List ℕ} {n at : ℕ} {x : Turned} where
+  -- nothing will follow, or the bytes are not unfinished: it is reported
+  pub halts-stop : {r : Ran} {out : List ℕ} → (not last && unfinished (drop at s)) ≡ false
+      → (r .place ≡ x .place) × Puts (reportText (fromCode (x .report))) room n out (r .bytes) → Halts s last room n at x r out
+  halts-stop e p = record {
+    waits = λ w. let z : _≡_ {A = Bool} true false = sym w ∙ e in let y : _≡_ {A = ℕ} 0 1 = cc in absurd (omega arith);
+    stops = λ w. p;
+  }
+
+  -- they may be unfinished: nothing is written
+  pub halts-wait : (not last && unfinished (drop at s)) ≡ true → Halts s last room n at x (record { place = here at; bytes = n }) room
+  halts-wait e = record {
+    waits = λ w. (refl, refl);
+    stops = λ w. let z : _≡_ {A = Bool} true false = sym e ∙ w in let y : _≡_ {A = ℕ} 0 1 = cc in absurd (omega arith);
+  }

@@ -1,3 +1,6 @@
+use mathlib.Core.Path.{refl}
+use Rattle.model.specs.Text.Lines.{lineEnd}
+use borrow.Author.Tests.{eq-eqb, ne-eqb}
 use Rattle.script.proofs.runs.ends_line.Statement.{statement}
 use Rattle.script.proofs.runs.ends_line.Tie as tie
 use Rattle.script.proofs.runs.ends_line.Reads as reads
@@ -5,11 +8,11 @@ use Rattle.script.proofs.runs.ends_line.Lts as lts
 
 -- src/runs.rt:29:9
 returns : tie.Need-returns
-returns c = ?
+returns c = rw (eq-eqb _ lineEnd (c .if1 .taken)) refl
 
 -- src/runs.rt:25:1
 returns-2 : tie.Need-returns-2
-returns-2 c = ?
+returns-2 c = rw (ne-eqb _ lineEnd (c .if1 .left)) refl
 
 pub ends-line-spec : {M : Type 1} → statement M
 ends-line-spec = tie.close (tie.spec returns returns-2)

@@ -1,3 +1,5 @@
+use mathlib.Core.Path.{refl}
+use Rattle.script.specs.GoingLaws.{halts-stop, halts-wait}
 use Rattle.script.proofs.runs.halt.Statement.{statement}
 use Rattle.script.proofs.runs.halt.Tie as tie
 use Rattle.script.proofs.runs.halt.Reads as reads
@@ -7,35 +9,35 @@ use Rattle.script.proofs.runs.reported.Reads as reported-reads
 
 -- src/runs.rt:76:9
 reported-requires : tie.Need-reported-requires
-reported-requires c κs = ?
+reported-requires c κs = c .before .before .before .before .pre .1
 
 -- src/runs.rt:76:9
 same-length : tie.Need-same-length
-same-length c = ?
+same-length c = c .before .before .reported .kept .0
 
 -- src/runs.rt:76:9
 returns : tie.Need-returns
-returns c = ?
+returns c = halts-stop (rw (c .before .before .before .before .if1 .taken) refl) (c .before .before .reported .ensures)
 
 -- src/runs.rt:78:8
 is-unfinished-requires : tie.Need-is-unfinished-requires
-is-unfinished-requires c κs = ?
+is-unfinished-requires c κs = c .before .before .before .pre .0
 
 -- src/runs.rt:79:9
 returns-2 : tie.Need-returns-2
-returns-2 c = ?
+returns-2 c = halts-wait (rw (c .before .before .if1 .left, ← c .before .is-unfinished .ensures, c .if2 .taken) refl)
 
 -- src/runs.rt:84:5
 reported-requires-2 : tie.Need-reported-requires-2
-reported-requires-2 c κs = ?
+reported-requires-2 c κs = c .before .before .before .before .before .before .pre .1
 
 -- src/runs.rt:71:1
 same-length-2 : tie.Need-same-length-2
-same-length-2 c = ?
+same-length-2 c = c .before .before .reported2 .kept .0
 
 -- src/runs.rt:71:1
 returns-3 : tie.Need-returns-3
-returns-3 c = ?
+returns-3 c = halts-stop (rw (c .before .before .before .before .before .before .if1 .left, ← c .before .before .before .before .before .is-unfinished .ensures, c .before .before .before .before .if2 .left) refl) (c .before .before .reported2 .ensures)
 
 pub halt-spec : {M : Type 1} → statement M
 halt-spec =

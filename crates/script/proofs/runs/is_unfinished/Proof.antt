@@ -1,3 +1,6 @@
+use mathlib.Core.Path.{_∙_, sym, ap}
+use native.Mathlib.Omega.{arith}
+use Rattle.script.specs.EndsLaws.{unfinished-long, unfinished-short}
 use borrow.Author.Needs.{needs}
 use Rattle.script.proofs.runs.is_unfinished.Statement.{statement}
 use Rattle.script.proofs.runs.is_unfinished.Tie as tie
@@ -11,7 +14,7 @@ sub-if1 c = search needs
 
 -- src/runs.rt:43:9
 returns : tie.Need-returns
-returns c = ?
+returns c = sym (unfinished-long (c .before .before .args .s .now) (c .before .before .args .at) (c .if1 .taken))
 
 -- src/runs.rt:45:5
 line-ends-requires : tie.Need-line-ends-requires
@@ -19,7 +22,7 @@ line-ends-requires c κs = search needs
 
 -- src/runs.rt:38:1
 returns-2 : tie.Need-returns-2
-returns-2 c = ?
+returns-2 c = rw (c .line-ends .ensures) (unfinished-short (c .before .before .before .args .s .now) (c .before .before .before .args .at) (omega (arith, c .before .if1 .left)))
 
 pub is-unfinished-spec : {M : Type 1} → statement M
 is-unfinished-spec = tie.close (tie.spec sub-if1 returns line-ends-requires returns-2)

@@ -1,3 +1,8 @@
+use Prim.Native.Nat.{_-_}
+use mathlib.Core.Path.{refl}
+use native.Mathlib.Omega.{arith}
+use Rattle.model.specs.Script.Windows.{reportBytes}
+use borrow.Author.Tests.{lt-leb}
 use borrow.Author.Needs.{needs}
 use Rattle.script.proofs.windows.had_room.Statement.{statement}
 use Rattle.script.proofs.windows.had_room.Tie as tie
@@ -6,7 +11,7 @@ use Rattle.script.proofs.windows.had_room.Lts as lts
 
 -- src/windows.rt:38:9
 returns : tie.Need-returns
-returns c = ?
+returns c = rw (lt-leb reportBytes (c .before .args .len - c .before .args .n) (omega (arith, c .if1 .taken))) refl
 
 -- src/windows.rt:34:1
 returns-2 : tie.Need-returns-2

@@ -1,49 +1,53 @@
+use native.Mathlib.Omega.{arith}
+use Prim.Native.Nat.{_-_, _≤_}
+use borrow.Author.Needs.{needs}
+use Rattle.script.specs.MoveLaws.{Moved, moved-all, moved-more, moved-start}
 use Rattle.script.proofs.windows.keep.Statement.{statement}
 use Rattle.script.proofs.windows.keep.Tie as tie
 use Rattle.script.proofs.windows.keep.Reads as reads
 use Rattle.script.proofs.windows.keep.Lts as lts
 
 abbrev Inv-loop : tie.InvT-loop
-Inv-loop window₀ from len i₀ j₀ window i j = ?
+Inv-loop window₀ from len i₀ j₀ window i j = Moved window₀ window from i j × (j ≤ len)
 
 abbrev μ-loop : tie.MeasureT-loop
-μ-loop window₀ from len i₀ j₀ window i j = ?
+μ-loop window₀ from len i₀ j₀ window i j = len - j
 
 -- src/windows.rt:17:5
 loop-holds : tie.Need-loop-holds Inv-loop μ-loop
-loop-holds c = ?
+loop-holds c = (moved-start _ _, c .pre .0)
 
 -- src/windows.rt:18:21
 slice-read-window : tie.Need-slice-read-window Inv-loop μ-loop
-slice-read-window c = ?
+slice-read-window c = omega (arith, c .before .before .loop .inv .0 .long, c .before .before .before .pre .1)
 
 -- src/windows.rt:18:9
 slice-write-window : tie.Need-slice-write-window Inv-loop μ-loop
-slice-write-window c = ?
+slice-write-window c = omega (arith, c .before .before .loop .inv .0 .long, c .before .before .loop .inv .0 .step, c .before .before .before .pre .1)
 
 -- src/windows.rt:19:9
 add-i : tie.Need-add-i Inv-loop μ-loop
-add-i c = ?
+add-i c = let e = c .before .before .loop .inv .0 .step in search needs
 
 -- src/windows.rt:20:9
 add-j : tie.Need-add-j Inv-loop μ-loop
-add-j c = ?
+add-j c = search needs
 
 -- src/windows.rt:17:5
 loop-less : tie.Need-loop-less Inv-loop μ-loop
-loop-less c = ?
+loop-less c = omega arith
 
 -- src/windows.rt:17:5
 loop-again : tie.Need-loop-again Inv-loop μ-loop
-loop-again c = ?
+loop-again c = (moved-more (c .before .before .loop .inv .0) (omega (arith, c .before .before .before .pre .1)), omega arith)
 
 -- src/windows.rt:11:1
 same-length : tie.Need-same-length Inv-loop μ-loop
-same-length c = ?
+same-length c = c .before .loop .inv .0 .long
 
 -- src/windows.rt:11:1
 returns : tie.Need-returns Inv-loop μ-loop
-returns c = ?
+returns c = moved-all (c .before .loop .inv .0) (c .before .before .pre .0) (omega (arith, c .loop-test .left, c .before .loop .inv .1))
 
 pub keep-spec : {M : Type 1} → statement M
 keep-spec =
