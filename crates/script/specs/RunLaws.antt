@@ -11,11 +11,14 @@ use borrow.Author.Tests.{eq-eqb, le-ltb, lt-ltb, ne-eqb}
 use Rattle.model.specs.Basics.Choice.{pick}
 use Rattle.model.specs.Request.Step.{afterOf}
 use Rattle.model.specs.Script.Reports.{Report, output, report, reportText}
-use Rattle.model.specs.Script.WindowLaws.{ran-fuel}
+use Rattle.model.specs.Script.WindowLaws.{ran-fits, ran-fuel}
 use Rattle.model.specs.Script.Windows.{broken, idle, onward, preceded, ran, reportBytes, run, stopped}
 use Rattle.model.specs.Text.NearLaws.{read-shorter}
 use Rattle.model.specs.Text.Unfinished.{unfinished}
 use Rattle.model.specs.Text.Wording.{Lines, Wording, badLine, lines, readSeven, sixteen}
+use Rattle.script.specs.Running.{RunsOn}
+use Rattle.script.specs.declared.runs.Ran.{Ran}
+use Rattle.script.specs.declared.turns.Place.{Place}
 
 module _ (t s : List ℕ) (last : Bool) (n : ℕ) where
   onward-ran : (r : Lines) → readSeven s ≡ r → onward (run (length s) last) t s last n r ≡ onward (λ u x i. ran u x last i) t s last n r
@@ -63,3 +66,10 @@ pub output-more : (rs : List Report) (r : Report) → output (rs ++ (r ∷ [])) 
 unfolding output
 output-more [] r = append-nil (reportText r)
 output-more (x ∷ rs) r = ap (λ (l : List ℕ). reportText x ++ l) (output-more rs r) ∙ sym (append-assoc (reportText x) (output rs) (reportText r))
+
+-- a run's reports are within their room, and its place within the window
+pub runs-within : {t s : List ℕ} {last : Bool} {room : List ℕ} {r : Ran} {u out : List ℕ} → RunsOn t s last room r u out
+    → (r .bytes ≤ length room) × (r .place .at ≤ length s)
+runs-within {t} {s} {last} {room} x =
+    let e = ap (λ (p : Place). p .at) (x .place) in
+    (omega (arith, x .wrote .many, ran-fits t s last (length room)), omega arith)
