@@ -88,7 +88,7 @@ exported-list-unique t u room = exports-unique (Listing t u room) (list-unique t
 
 pub exported-list-parts : (t : List ℕ) (u : ℕ) (room : List ℕ) (a : ℕ) (r : List ℕ) (x : Exports (Listing t u room) a r)
     → (a / 4294967296 ≡ x .answer .no) × (a % 4294967296 ≡ x .answer .number)
-exported-list-parts t u room = exports-parts (Listing t u room) (λ a r y. lists-small y)
+exported-list-parts t u room = exports-parts (Listing t u room) (λ a r y. omega (arith, lists-small y))
 
 -- with the reader,
 pub exported-read-unique : (s w : List ℕ) (a b : ℕ) (u v : List ℕ) → Exports (Reading s w) a u → Exports (Reading s w) b v → (a ≡ b) × (u ≡ v)
