@@ -11,5 +11,8 @@ uint32_t faulty_switches;
 #define ordinary_advance faulty_advance
 #define ordinary_step faulty_step
 #define ordinary_list faulty_list
+#define ordinary_write faulty_write
+#define ordinary_read faulty_read
 
 #include "ordinary.c"
+#include "text.c"

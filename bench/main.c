@@ -19,6 +19,8 @@ static const struct {
     { "notice", FAULT_NOTICE }, { "room", FAULT_ROOM }, { "devices", FAULT_DEVICES },
     { "named", FAULT_NAMED }, { "early", FAULT_EARLY }, { "count", FAULT_COUNT },
     { "screen", FAULT_SCREEN }, { "zeros", FAULT_ZEROS },
+    { "leading", FAULT_LEADING }, { "wrapped", FAULT_WRAPPED }, { "line", FAULT_LINE },
+    { "behind", FAULT_BEHIND }, { "tail", FAULT_TAIL }, { "byte", FAULT_BYTE },
 };
 
 static int usage(void)
@@ -27,6 +29,9 @@ static int usage(void)
           "       time SEED REPS\n"
           "       s1\n"
           "       rooms SEED\n"
+          "       texts SEED ROUNDS [FAULT]\n"
+          "       script SEED REQUESTS\n"
+          "       script s1\n"
           "compare: status 1 on any difference or on a cell that was not reached.\n"
           "  A FAULT puts an easy error into the ordinary desk, which must be noticed:\n"
           "  levels   levels compared as plain numbers\n"
@@ -44,7 +49,15 @@ static int usage(void)
           "time: medians over REPS repetitions, in ns per call.\n"
           "s1: the answers listed for case state S1.\n"
           "rooms: lists of S1, of S1 with something amiss and of full tables, in rooms\n"
-          "  of every length.\n",
+          "  of every length.\n"
+          "texts: status 1 on any difference or on a line that was never the bad one.\n"
+          "  leading  a leading zero accepted\n"
+          "  wrapped  a number beyond 32 bits taken for what is left of it\n"
+          "  line     lines counted from 0\n"
+          "  behind   bytes behind the seventh line accepted\n"
+          "  tail     names behind a reference's length not looked at\n"
+          "  byte     a room of one byte too few accepted\n"
+          "script: tables as state.words has them, then a script of requests to them.\n",
           stderr);
     return 2;
 }
@@ -81,7 +94,36 @@ static int run_compare(int count, char **words)
     for (int i = 2; i < count; i++)
         if (!read_option(words[i], &what))
             return usage();
+    if ((what.faults & TEXT_FAULTS) != 0)
+        return usage();
     return compare(&what);
+}
+
+static int run_texts(int count, char **words)
+{
+    struct comparison what = { 0 };
+
+    if (count < 2 || !read_number(words[0], &what.seed) || !read_number(words[1], &what.steps))
+        return usage();
+    for (int i = 2; i < count; i++)
+        if (!read_option(words[i], &what))
+            return usage();
+    if ((what.faults & ~(uint32_t)TEXT_FAULTS) != 0 || what.only != 0)
+        return usage();
+    return compare_texts(what.seed, what.steps, what.faults);
+}
+
+static int run_script(int count, char **words)
+{
+    uint64_t seed;
+    uint64_t requests;
+
+    if (count == 1 && strcmp(words[0], "s1") == 0)
+        return write_s1();
+    if (count != 2 || !read_number(words[0], &seed) || !read_number(words[1], &requests)
+        || requests > UINT32_MAX)
+        return usage();
+    return write_script(seed, (uint32_t)requests);
 }
 
 static int run_time(int count, char **words)
@@ -114,5 +156,9 @@ int main(int argc, char **argv)
         return check_s1();
     if (argc >= 2 && strcmp(argv[1], "rooms") == 0)
         return run_rooms(argc - 2, argv + 2);
+    if (argc >= 2 && strcmp(argv[1], "texts") == 0)
+        return run_texts(argc - 2, argv + 2);
+    if (argc >= 2 && strcmp(argv[1], "script") == 0)
+        return run_script(argc - 2, argv + 2);
     return usage();
 }

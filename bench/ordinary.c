@@ -983,11 +983,6 @@ static uint32_t walk_all(const uint32_t *t, uint32_t number, uint32_t *room, siz
     return w.count;
 }
 
-static uint64_t pair(uint32_t answer, uint32_t number)
-{
-    return (uint64_t)answer << 32 | number;
-}
-
 uint64_t ordinary_list(const uint32_t *t, size_t n, uint32_t user, uint32_t *room, size_t m)
 {
     uint32_t answer = ordinary_check(t, n);

@@ -16,5 +16,8 @@ int compare(const struct comparison *what);
 int time_desks(uint64_t seed, uint32_t repetitions);
 int check_s1(void);
 int try_every_room(uint64_t seed);
+int compare_texts(uint64_t seed, uint64_t rounds, uint32_t faults);
+int write_script(uint64_t seed, uint32_t requests);
+int write_s1(void);
 
 #endif

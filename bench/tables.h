@@ -115,8 +115,15 @@ enum answer {
     ARRANGEMENT = 15,
     NOT_ACKNOWLEDGED = 16,
     LAST_ANSWER = NOT_ACKNOWLEDGED, /* the last that a step gives */
-    ROOM_TOO_SHORT = 17
+    ROOM_TOO_SHORT = 17,
+    NO_REQUEST = 18 /* a text that is none */
 };
+
+/* An answer and the number that goes with it, as the calls return them. */
+static inline uint64_t pair(uint32_t answer, uint32_t number)
+{
+    return (uint64_t)answer << 32 | number;
+}
 
 /* Users and entities are numbered from 1; these give a record's first word. */
 static inline size_t user_base(uint32_t user)

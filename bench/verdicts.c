@@ -116,11 +116,6 @@ static void find_verdicts(struct walk *w, uint32_t number)
         w->verdicts[i] = judge(&a, w->t + entity_base(i));
 }
 
-static uint64_t pair(uint32_t answer, uint32_t number)
-{
-    return (uint64_t)answer << 32 | number;
-}
-
 uint64_t verdicts_list(const uint32_t *t, size_t n, uint32_t user, uint32_t *room, size_t m)
 {
     uint32_t answer = ordinary_check(t, n);
