@@ -10,151 +10,22 @@
 #include <string.h>
 #include <time.h>
 
-#include "full.h"
-#include "generate.h"
+#include "loads.h"
 #include "ordinary.h"
 #include "proved.h"
 #include "subcommands.h"
-#include "tables.h"
 #include "verdicts.h"
 
-enum {
-    TABLES = 50,
-    OF_EACH = 3,      /* accepted, and as many refused, of each operation in the mix */
-    OF_ONE = 4,       /* the same where a load is of one operation */
-    MOST_REQUESTS = 2 * OF_EACH * OPERATIONS,
-    CHECK_ROUNDS = 4, /* times the check is called on each table */
-    LISTS = 4,        /* asked of each table */
-    REQUEST_TRIES = 100,
-    TABLE_TRIES = 200000
-};
-
-/* Tables with the requests that are asked of each, one after the other. The
-   requests were chosen by carrying them out, so both sides meet the same
-   tables at each request and give the same answers. */
-struct load {
-    uint32_t originals[TABLES][TABLE_WORDS];
-    uint32_t tables[TABLES][TABLE_WORDS];
-    uint32_t requests[TABLES][MOST_REQUESTS][REQUEST_WORDS];
-    uint32_t users[TABLES][LISTS]; /* who asks for a list, instead of requests */
-    uint32_t length; /* requests or lists for each table */
-    uint64_t answers; /* the sum of all answers; of lists, all results */
-};
+enum { CHECK_ROUNDS = 4 }; /* times the check is called on each table */
 
 /* Long enough for any list. */
 static uint32_t list_room[MOST_ENTRIES * ENTRY_WORDS];
 
-/* ---- preparing ---- */
-
-struct wish {
-    uint32_t operation;
-    bool accepted;
-};
-
-/* Draws requests until one is answered as wished, and carries it out. */
-static bool grant_wish(struct dice *d, uint32_t *t, const struct wish *wish, uint32_t *q,
-                       uint32_t *answer)
-{
-    static uint32_t after[TABLE_WORDS];
-
-    for (uint32_t tries = 0; tries < REQUEST_TRIES; tries++) {
-        memcpy(after, t, sizeof after);
-        generate_request_for(d, t, wish->operation, q);
-        *answer = ordinary_advance(after, q);
-        if ((*answer == ACCEPTED) == wish->accepted) {
-            memcpy(t, after, sizeof after);
-            return true;
-        }
-    }
-    return false;
-}
-
-/* False where the table has no such requests, so that another must be tried. */
-static bool prepare_table(struct dice *d, struct load *l, uint32_t index, struct wish *wishes)
-{
-    uint32_t *t = l->tables[index];
-    uint64_t answers = 0;
-
-    generate_table(d, t);
-    memcpy(l->originals[index], t, sizeof l->originals[index]);
-    for (uint32_t i = l->length; i > 1; i--) {
-        uint32_t j = dice_below(d, i);
-        struct wish wish = wishes[i - 1];
-
-        wishes[i - 1] = wishes[j];
-        wishes[j] = wish;
-    }
-    for (uint32_t i = 0; i < l->length; i++) {
-        uint32_t answer;
-
-        if (!grant_wish(d, t, &wishes[i], l->requests[index][i], &answer))
-            return false;
-        answers += answer;
-    }
-    l->answers += answers;
-    return true;
-}
-
-static bool prepare_load(struct dice *d, struct load *l, uint32_t first, uint32_t last,
-                         uint32_t of_each)
-{
-    struct wish wishes[MOST_REQUESTS];
-    uint32_t tries = 0;
-
-    l->length = 0;
-    l->answers = 0;
-    for (uint32_t operation = first; operation <= last; operation++)
-        for (uint32_t i = 0; i < 2 * of_each; i++)
-            wishes[l->length++] = (struct wish){ operation, i % 2 == 0 };
-    for (uint32_t index = 0; index < TABLES; index++)
-        while (!prepare_table(d, l, index, wishes))
-            if (++tries == TABLE_TRIES)
-                return false;
-    return true;
-}
-
-/* False where nobody is on. */
-static bool choose_askers(struct dice *d, const uint32_t *t, uint32_t *users)
-{
-    uint32_t on[USERS];
-    uint32_t count = 0;
-
-    for (uint32_t user = 1; user <= USERS; user++)
-        if (t[user_base(user) + USER_DEVICE] != 0)
-            on[count++] = user;
-    for (uint32_t i = 0; count > 0 && i < LISTS; i++)
-        users[i] = on[dice_below(d, count)];
-    return count > 0;
-}
-
-typedef void table_function(struct dice *d, uint32_t *t);
-
-static void prepare_lists(struct dice *d, struct load *l, table_function *make)
-{
-    l->length = LISTS;
-    l->answers = 0;
-    for (uint32_t i = 0; i < TABLES; i++) {
-        do
-            make(d, l->originals[i]);
-        while (!choose_askers(d, l->originals[i], l->users[i]));
-        for (uint32_t j = 0; j < LISTS; j++)
-            l->answers += ordinary_list(l->originals[i], TABLE_WORDS, l->users[i][j], list_room,
-                                        MOST_ENTRIES * ENTRY_WORDS);
-    }
-}
+/* For a text and for what is read from one. */
+static uint8_t text_room[LONGEST_TEXT];
+static uint32_t words_room[REQUEST_WORDS];
 
 /* ---- timing ---- */
-
-static void *room_for(size_t size)
-{
-    void *room = calloc(1, size);
-
-    if (room == NULL) {
-        fprintf(stderr, "time: no memory\n");
-        exit(2);
-    }
-    return room;
-}
 
 static uint64_t now(void)
 {
@@ -183,6 +54,8 @@ static uint64_t now(void)
 #define STEP(FUNCTION) FUNCTION(l->tables[i], TABLE_WORDS, l->requests[i][j], REQUEST_WORDS)
 #define LIST(FUNCTION) \
     FUNCTION(l->tables[i], TABLE_WORDS, l->users[i][j], list_room, MOST_ENTRIES * ENTRY_WORDS)
+#define WRITE(FUNCTION) FUNCTION(l->requests[i][j], REQUEST_WORDS, text_room, sizeof text_room)
+#define READ(FUNCTION) FUNCTION(l->texts[i][j], l->lengths[i][j], words_room, REQUEST_WORDS)
 
 SIDE(ordinary_checks, CHECK_ROUNDS, CHECK(ordinary_check))
 SIDE(proved_checks, CHECK_ROUNDS, CHECK(mms_check) >> 32)
@@ -191,11 +64,15 @@ SIDE(proved_advances, l->length, ADVANCE(proved_advance))
 SIDE(ordinary_steps, l->length, STEP(ordinary_step))
 SIDE(proved_steps, l->length, STEP(mms_step) >> 32)
 
-/* Both halves of a list's result go into the sum, so that the numbers must
-   agree. */
+/* From here on both halves of the results go into the sum, so that the numbers
+   must agree. */
 SIDE(ordinary_lists, l->length, LIST(ordinary_list))
 SIDE(lists_with_verdicts, l->length, LIST(verdicts_list))
 SIDE(proved_lists, l->length, LIST(mms_list))
+SIDE(ordinary_writes, l->length, WRITE(ordinary_write))
+SIDE(proved_writes, l->length, WRITE(mms_write))
+SIDE(ordinary_reads, l->length, READ(ordinary_read))
+SIDE(proved_reads, l->length, READ(mms_read))
 
 /* A line of the output: two sides on one load. */
 struct contest {
@@ -268,6 +145,8 @@ static void print_contest(struct contest *c, uint32_t repetitions)
            c->calls);
     if (c->side[1] == proved_lists) /* all answered 0, so these are entries */
         printf("  mean %.1f entries", (double)c->answers / (double)c->calls);
+    if (c->side[1] == proved_writes)
+        printf("  mean %.1f bytes", (double)c->answers / (double)c->calls);
     printf("\n");
 }
 
@@ -281,7 +160,9 @@ enum {
     FIRST_LISTS,
     LIST_LOADS = 3,
     FIRST_VERDICTS = FIRST_LISTS + LIST_LOADS,
-    CONTESTS = FIRST_VERDICTS + LIST_LOADS
+    FIRST_TEXTS = FIRST_VERDICTS + LIST_LOADS,
+    TEXT_LOADS = 2, /* each is written, then read */
+    CONTESTS = FIRST_TEXTS + 2 * TEXT_LOADS
 };
 
 /* A list has its check in it: there is no other. Each load is timed twice, and
@@ -328,6 +209,26 @@ static void prepare_list_contests(struct dice *d, struct contest *contests)
     }
 }
 
+static void prepare_text_contests(struct dice *d, struct contest *contests, const struct load *mix)
+{
+    static const char *const text_names[2 * TEXT_LOADS] = {
+        "write, all operations", "read, all operations", "write, longest texts", "read, longest texts"
+    };
+
+    for (uint32_t i = 0; i < TEXT_LOADS; i++) {
+        struct contest *c = &contests[FIRST_TEXTS + 2 * i];
+        struct load *load = room_for(sizeof *load);
+
+        if (i == 0)
+            prepare_texts(load, mix);
+        else
+            prepare_longest_texts(d, load);
+        set_contest(&c[0], text_names[2 * i], load, ordinary_writes, proved_writes);
+        set_contest(&c[1], text_names[2 * i + 1], load, ordinary_reads, proved_reads);
+        c[1].answers = 0; /* all texts are good */
+    }
+}
+
 static bool prepare_contests(struct dice *d, struct contest *contests)
 {
     struct load *mix = room_for(sizeof *mix);
@@ -348,6 +249,16 @@ static bool prepare_contests(struct dice *d, struct contest *contests)
                     ordinary_advances, proved_advances);
     }
     prepare_list_contests(d, contests);
+    prepare_text_contests(d, contests, mix);
+    return true;
+}
+
+/* A load that contests share is freed with the last of them. */
+static bool load_is_done(const struct contest *contests, uint32_t index)
+{
+    for (uint32_t i = index + 1; i < CONTESTS; i++)
+        if (contests[i].load == contests[index].load)
+            return false;
     return true;
 }
 
@@ -356,7 +267,7 @@ static void free_contests(struct contest *contests)
     for (uint32_t i = 0; i < CONTESTS; i++) {
         free(contests[i].times[0]);
         free(contests[i].times[1]);
-        if (i != CHECKS && i != STEPS && i < FIRST_VERDICTS) /* these share another's load */
+        if (load_is_done(contests, i))
             free(contests[i].load);
     }
 }
