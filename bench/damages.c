@@ -169,7 +169,9 @@ static void large_number(struct dice *d, struct text *t, size_t at)
 
 static void no_number(struct dice *d, struct text *t, size_t at)
 {
-    static const char *const numbers[] = { "", "x", "0x1", "1e3", "1_000", "1,000", "1.5", "-0", "1 ", " 1", "00" };
+    static const char *const numbers[] = {
+        "", "x", "0x1", "1e3", "1_000", "1,000", "1.5", "-0", "1 ", " 1", "00"
+    };
 
     change_number(t, at, ONE_OF(d, numbers));
 }
@@ -223,7 +225,8 @@ static void no_equals(struct dice *d, struct text *t, size_t at)
 static void other_key(struct dice *d, struct text *t, size_t at)
 {
     static const char *const keys[] = {
-        "user", "op", "ref", "ref2", "a", "b", "c", "ref1", "ref3", "", "us", "users", "d", "=", "ref2=ref"
+        "user", "op", "ref", "ref2", "a", "b", "c", "ref1", "ref3", "", "us", "users", "d", "=",
+        "ref2=ref"
     };
     struct line l = line_at(t, at);
     const char *key = ONE_OF(d, keys);
@@ -240,17 +243,16 @@ static void other_case(struct dice *d, struct text *t, size_t at)
         t->bytes[l.start + dice_below(d, (uint32_t)(l.equals - l.start))] ^= 32;
 }
 
-/* Bytes that occur in texts, in no order. */
-static void only_noise(struct dice *d, struct text *t, size_t at)
+/* From here on, bytes that occur in texts, in no order. */
+static void noise(struct dice *d, struct text *t, size_t at)
 {
     static const char bytes[] = "user=op=ref=ref2=a=b=c=\n\n\n\n\n\n\n0123456789.";
 
-    t->length = at;
-    for (size_t i = 0; i < at; i++)
+    for (size_t i = at; i < t->length; i++)
         t->bytes[i] = dice_chance(d, 95) ? (uint8_t)ONE_OF(d, bytes) : any_byte(d);
 }
 
-/* Noise is left out: little is left to damage then. */
+/* Any but none, noise and this one. */
 static void two_damages(struct dice *d, struct text *t, size_t at)
 {
     damages[1 + dice_below(d, DAMAGES - 3)].act(d, t, at);
@@ -283,6 +285,6 @@ const struct damage damages[DAMAGES] = {
     { "no equals sign", no_equals },
     { "other key", other_key },
     { "other case", other_case },
-    { "noise", only_noise },
+    { "noise", noise },
     { "two damages", two_damages },
 };

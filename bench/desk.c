@@ -140,7 +140,9 @@ int main(void)
     size_t length;
 
     while (answer != NO_REQUEST && (length = next_request(&script, &out)) != 0) {
-        answer = (uint32_t)(ordinary_read(script.bytes + script.start, length, q, REQUEST_WORDS) >> 32);
+        const uint8_t *text = script.bytes + script.start;
+
+        answer = (uint32_t)(ordinary_read(text, length, q, REQUEST_WORDS) >> 32);
         if (answer == ACCEPTED)
             answer = ordinary_step(t, n, q, REQUEST_WORDS);
         say(&out, answer, t, q[REQUEST_USER]);

@@ -36,7 +36,8 @@ enum fault {
     FAULT_BEHIND = 16384,  /* bytes behind the seventh line accepted */
     FAULT_TAIL = 32768,    /* names behind a reference's length not looked at */
     FAULT_BYTE = 65536,    /* a room of one byte too few accepted */
-    TEXT_FAULTS = FAULT_LEADING | FAULT_WRAPPED | FAULT_LINE | FAULT_BEHIND | FAULT_TAIL | FAULT_BYTE
+    TEXT_FAULTS = FAULT_LEADING | FAULT_WRAPPED | FAULT_LINE | FAULT_BEHIND | FAULT_TAIL
+        | FAULT_BYTE
 };
 
 extern uint32_t faulty_switches; /* a sum of the above */

@@ -130,7 +130,8 @@ static void write_texts(struct load *l)
     l->answers = 0;
     for (uint32_t i = 0; i < TABLES; i++)
         for (uint32_t j = 0; j < l->length; j++) {
-            uint64_t result = ordinary_write(l->requests[i][j], REQUEST_WORDS, l->texts[i][j], LONGEST_TEXT);
+            uint64_t result = ordinary_write(l->requests[i][j], REQUEST_WORDS, l->texts[i][j],
+                                             LONGEST_TEXT);
 
             l->lengths[i][j] = (uint32_t)result;
             l->answers += result;
@@ -140,13 +141,13 @@ static void write_texts(struct load *l)
 /* A request without a text gives way to one that has nothing in it. */
 void prepare_texts(struct load *l, const struct load *from)
 {
-    uint8_t text[LONGEST_TEXT];
+    uint8_t room[LONGEST_TEXT];
 
     memcpy(l->requests, from->requests, sizeof l->requests);
     l->length = from->length;
     for (uint32_t i = 0; i < TABLES; i++)
         for (uint32_t j = 0; j < l->length; j++)
-            if (ordinary_write(l->requests[i][j], REQUEST_WORDS, text, sizeof text) >> 32 != ACCEPTED)
+            if (ordinary_write(l->requests[i][j], REQUEST_WORDS, room, LONGEST_TEXT) >> 32 != 0)
                 memset(l->requests[i][j], 0, sizeof l->requests[i][j]);
     write_texts(l);
 }

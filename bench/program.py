@@ -213,6 +213,8 @@ def main():
     if len(sys.argv) != 5:
         sys.exit(__doc__)
     bench, ordinary, proved, toolchain = sys.argv[1].split(), *sys.argv[2:]
+    if not os.path.isfile(proved):
+        sys.exit(f"program: there is no {proved}")
     random.seed(1)
     room = tempfile.mkdtemp()
     os.chmod(room, 0o755)

@@ -4,8 +4,8 @@
  *
  * What a call may write to must not overlap with the other slice of the same
  * call: the room of a list not with its tables, the tables of a step not with
- * its request, a text not with its words. Both are lent at the same time, and what is proved of the one
- * takes the other to stay as it is.
+ * its request, a text not with its words. Both are lent at the same time, and
+ * what is proved of the one takes the other to stay as it is.
  *
  * The first five return two numbers of 32 bits in one. The upper half is the
  * answer. The lower half is the number that goes with it: with a 0 of the list

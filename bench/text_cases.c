@@ -7,9 +7,11 @@
 /* As many digits as the dice say, or one of those at an edge. */
 static uint32_t number(struct dice *d)
 {
-    static const uint32_t edges[] = { 0, 1, 9, 10, 99, 100, 999999999, 1000000000, 4294967294u, UINT32_MAX };
+    static const uint32_t edges[] = {
+        0, 1, 9, 10, 99, 100, 999999999, 1000000000, UINT32_MAX - 1, UINT32_MAX
+    };
     uint32_t digits = 1 + dice_below(d, 10);
-    uint64_t least = 1;
+    uint32_t least = 1;
 
     if (dice_chance(d, 30))
         return edges[dice_below(d, sizeof edges / sizeof *edges)];
@@ -17,7 +19,7 @@ static uint32_t number(struct dice *d)
         return dice_below(d, 10);
     for (uint32_t i = 1; i < digits; i++)
         least *= 10;
-    return (uint32_t)least + dice_below(d, digits == 10 ? UINT32_MAX - (uint32_t)least : (uint32_t)(9 * least));
+    return least + dice_below(d, digits == 10 ? UINT32_MAX - least : 9 * least);
 }
 
 void generate_good_words(struct dice *d, uint32_t *words)
@@ -26,7 +28,7 @@ void generate_good_words(struct dice *d, uint32_t *words)
     for (uint32_t i = 0; i < REQUEST_SPARE; i++)
         if (i < REQUEST_FIRST || i >= REQUEST_A)
             words[i] = number(d);
-    for (uint32_t base = REQUEST_FIRST; base <= REQUEST_SECOND; base += REQUEST_SECOND - REQUEST_FIRST) {
+    for (uint32_t base = REQUEST_FIRST; base <= REQUEST_SECOND; base += 1 + NAMES) {
         words[base] = dice_below(d, NAMES + 1);
         for (uint32_t i = 1; i <= words[base]; i++)
             words[base + i] = number(d);
@@ -36,7 +38,9 @@ void generate_good_words(struct dice *d, uint32_t *words)
 /* 5, 6, the largest, and others that are 0 to 4 where only a part is looked at. */
 static uint32_t bad_length(struct dice *d)
 {
-    static const uint32_t lengths[] = { 5, 6, 8, 16, 255, 256, 260, 65536, 65540, 1u << 31, (1u << 31) + 4, UINT32_MAX - 1, UINT32_MAX };
+    static const uint32_t lengths[] = {
+        5, 6, 8, 16, 255, 256, 260, 65536, 65540, 1u << 31, (1u << 31) + 4, UINT32_MAX - 1, UINT32_MAX
+    };
 
     return lengths[dice_below(d, sizeof lengths / sizeof *lengths)];
 }

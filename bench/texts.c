@@ -10,8 +10,8 @@
 #include <string.h>
 #include <sys/mman.h>
 
+#include "byte_room.h"
 #include "faulty.h"
-#include "guarded.h"
 #include "lists.h"
 #include "proved.h"
 #include "slow_text.h"
@@ -20,9 +20,7 @@
 #include "text_cases.h"
 
 enum {
-    PAST = 5,        /* bytes more than are needed, at the most */
     MOST_WORDS = 20, /* in slices of other lengths */
-    MARGIN = 64,     /* bytes watched around a room */
     PAGE = 65536,    /* a multiple of any machine's pages */
     REPORTS = 5,     /* differences printed before the run is given up */
     SIDES = 2
@@ -47,32 +45,6 @@ struct run {
     uint64_t both_ways;
 };
 
-/* A room of bytes, each with a byte that no text has, and more of them around. */
-struct byte_room {
-    uint8_t before[MARGIN];
-    uint8_t bytes[LONGEST_TEXT + PAST + MARGIN];
-};
-
-static uint8_t byte_of_place(size_t place)
-{
-    return (uint8_t)(128 + place * 37 % 128);
-}
-
-static void byte_room_fill(struct byte_room *room)
-{
-    for (size_t i = 0; i < sizeof *room; i++)
-        ((uint8_t *)room)[i] = byte_of_place(i);
-}
-
-/* Whether a text stands at the front and every other byte is as it was. */
-static bool byte_room_holds(const struct byte_room *room, const uint8_t *text, size_t length)
-{
-    for (size_t i = 0; i < sizeof *room; i++)
-        if ((i < MARGIN || i >= MARGIN + length) && ((const uint8_t *)room)[i] != byte_of_place(i))
-            return false;
-    return memcmp(room->bytes, text, length) == 0;
-}
-
 /* ---- reports ---- */
 
 static void print_text(const uint8_t *text, size_t length)
@@ -94,7 +66,8 @@ static bool report(struct run *r, const struct side *side, const char *call, uin
     r->differences++;
     printf("difference: %s, %s: answer %" PRIu64 " (number %" PRIu64 ") instead of %" PRIu64
            " (number %" PRIu64 "), or the wrong words or bytes written\n",
-           side->name, call, result >> 32, result & UINT32_MAX, expected >> 32, expected & UINT32_MAX);
+           side->name, call, result >> 32, result & UINT32_MAX, expected >> 32,
+           expected & UINT32_MAX);
     printf("  seed %" PRIu64 ", round %" PRIu64 "\n", r->seed, r->round);
     return false;
 }
@@ -143,10 +116,11 @@ static bool comes_back(struct run *r, const struct side *side, const struct text
                        const uint32_t *words)
 {
     static struct byte_room room;
+    uint64_t expected = pair(ACCEPTED, (uint32_t)t->length);
 
     byte_room_fill(&room);
     r->both_ways++;
-    return side->write(words, REQUEST_WORDS, room.bytes, LONGEST_TEXT) == pair(ACCEPTED, (uint32_t)t->length)
+    return side->write(words, REQUEST_WORDS, room.bytes, LONGEST_TEXT) == expected
         && byte_room_holds(&room, t->bytes, t->length);
 }
 
@@ -269,20 +243,22 @@ static int summarise(const struct run *r)
     printf("writes, answered 0: %" PRIu64 ", 1: %" PRIu64 ", 5: %" PRIu64 ", 17: %" PRIu64 "\n",
            r->written[ACCEPTED], r->written[BAD_LENGTH], r->written[BAD_REQUEST],
            r->written[ROOM_TOO_SHORT]);
-    printf("reads, answered 0: %" PRIu64 ", 1: %" PRIu64 ", 18: %" PRIu64 "; texts read and written again: %" PRIu64 "\n",
+    printf("reads, answered 0: %" PRIu64 ", 1: %" PRIu64 ", 18: %" PRIu64
+           "; texts read and written again: %" PRIu64 "\n",
            r->read[ACCEPTED], r->read[BAD_LENGTH], r->read[NO_REQUEST], r->both_ways);
     if (r->written[ACCEPTED] == 0 || r->written[BAD_LENGTH] == 0 || r->written[BAD_REQUEST] == 0
         || r->written[ROOM_TOO_SHORT] == 0 || r->read[ACCEPTED] == 0 || r->read[BAD_LENGTH] == 0)
         unseen++;
-    printf("differences: %" PRIu64 "%s; lines and answers not reached: %" PRIu32 "\n", r->differences,
-           r->differences >= REPORTS ? " (given up)" : "", unseen);
+    printf("differences: %" PRIu64 "%s; lines and answers not reached: %" PRIu32 "\n",
+           r->differences, r->differences >= REPORTS ? " (given up)" : "", unseen);
     return r->differences != 0 || unseen != 0;
 }
 
 int compare_texts(uint64_t seed, uint64_t rounds, uint32_t faults)
 {
     static struct run r;
-    uint8_t *pages = mmap(NULL, 2 * PAGE, PROT_READ | PROT_WRITE, MAP_PRIVATE | MAP_ANONYMOUS, -1, 0);
+    uint8_t *pages = mmap(NULL, 2 * PAGE, PROT_READ | PROT_WRITE, MAP_PRIVATE | MAP_ANONYMOUS, -1,
+                          0);
 
     if (pages == MAP_FAILED || mprotect(pages + PAGE, PAGE, PROT_NONE) != 0) {
         fprintf(stderr, "texts: no memory\n");

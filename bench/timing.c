@@ -212,7 +212,8 @@ static void prepare_list_contests(struct dice *d, struct contest *contests)
 static void prepare_text_contests(struct dice *d, struct contest *contests, const struct load *mix)
 {
     static const char *const text_names[2 * TEXT_LOADS] = {
-        "write, all operations", "read, all operations", "write, longest texts", "read, longest texts"
+        "write, all operations", "read, all operations", "write, longest texts",
+        "read, longest texts"
     };
 
     for (uint32_t i = 0; i < TEXT_LOADS; i++) {
