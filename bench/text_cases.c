@@ -39,7 +39,8 @@ void generate_good_words(struct dice *d, uint32_t *words)
 static uint32_t bad_length(struct dice *d)
 {
     static const uint32_t lengths[] = {
-        5, 6, 8, 16, 255, 256, 260, 65536, 65540, 1u << 31, (1u << 31) + 4, UINT32_MAX - 1, UINT32_MAX
+        5, 6, 8, 16, 255, 256, 260, 65536, 65540, 1u << 31, (1u << 31) + 4, UINT32_MAX - 1,
+        UINT32_MAX
     };
 
     return lengths[dice_below(d, sizeof lengths / sizeof *lengths)];

@@ -161,7 +161,7 @@ static bool compare_read(struct run *r, const struct text *t, size_t n)
    would do, and slices that are too short or too long. */
 static bool compare_writers(struct run *r, const uint32_t *words, size_t need)
 {
-    uint32_t bad[REQUEST_WORDS];
+    uint32_t bad[MOST_WORDS] = { 0 };
 
     for (size_t len = 0; len <= need + PAST; len++)
         if (!compare_write(r, words, REQUEST_WORDS, len))
@@ -172,12 +172,14 @@ static bool compare_writers(struct run *r, const uint32_t *words, size_t need)
             return false;
     }
     for (size_t n = 0; n <= MOST_WORDS; n++)
-        if (!compare_write(r, words, n, n % 2 == 0 ? LONGEST_TEXT + PAST : n))
+        if (!compare_write(r, words, n, n % 2 == 0 ? LONGEST_TEXT + PAST : n)
+            || !compare_write(r, bad, n, LONGEST_TEXT))
             return false;
     return compare_write(r, words, REQUEST_WORDS, LONGEST_TEXT + PAST);
 }
 
-/* Each damage at each byte. */
+/* Each damage at each byte, and now and then with a slice for too few or too
+   many words, which is refused before the text is. */
 static bool compare_readers(struct run *r, const struct text *good)
 {
     static struct text t;
@@ -190,7 +192,8 @@ static bool compare_readers(struct run *r, const struct text *good)
             t = *good;
             damages[i].act(&r->dice, &t, at);
             r->lines[i][first_bad_line(t.bytes, t.length)]++;
-            if (!compare_read(r, &t, REQUEST_WORDS))
+            if (!compare_read(r, &t, REQUEST_WORDS)
+                || (at % 16 == 0 && !compare_read(r, &t, dice_below(&r->dice, MOST_WORDS + 1))))
                 return false;
         }
     return true;
