@@ -1,12 +1,12 @@
 -- A run goes on turn by turn, and ends as the run of the whole window does.
 use mathlib.Core.Bool.{Bool, _&&_, false, not, true}
 use mathlib.Core.List.{List, [], _++_, _∷_, append-assoc, append-nil}
-use mathlib.Core.Logic.{_⊎_, _≢_, inl, inr}
+use mathlib.Core.Logic.{_≢_}
 use mathlib.Core.Path.{_∙_, _≡_, ap, refl, subst, sym}
 use Prim.Native.Nat.{_+_, _-_, _<_, _≤_, ℕ}
 use native.Mathlib.Omega.{arith}
 use lib.ListN.{drop, length, length-drop}
-use Rattle.lines.specs.Onto.{Puts, Wrote}
+use Rattle.lines.specs.Onto.{Puts}
 use Rattle.lines.specs.OntoLaws.{wrote-length, wrote-none, wrote-puts}
 use Rattle.model.specs.Basics.Cases.{cases, true-or-false}
 use Rattle.model.specs.Basics.Choice.{pick}
@@ -21,7 +21,7 @@ use Rattle.model.specs.Text.Unfinished.{unfinished}
 use Rattle.model.specs.Text.Wording.{Lines, Wording, badLine, lines, readSeven, sixteen}
 use Rattle.request_text.specs.SevenLaws.{seven-further, seven-rest}
 use Rattle.script.specs.Going.{Going, after}
-use Rattle.script.specs.Reported.{fromCode, inCode}
+use Rattle.script.specs.Reported.{fromCode}
 use Rattle.script.specs.RunLaws.{idle-end, idle-full, idle-go, output-more, ran-bad, ran-idle, ran-turn}
 use Rattle.script.specs.Running.{Halts, RunsOn}
 use Rattle.script.specs.Turn.{leftBy, leftOf, turnedBy, turnedOf}

@@ -1,24 +1,24 @@
 -- When a request has a requester whose words can be told, and what a report's lines need.
-use mathlib.Core.Bool.{Bool, _&&_, false, not, true}
+use mathlib.Core.Bool.{false, true}
 use mathlib.Core.List.{List, _++_, append-assoc}
-use mathlib.Core.Logic.{_⊎_, inl, inr, _≢_}
+use mathlib.Core.Logic.{_⊎_, inl, inr}
 use mathlib.Core.Path.{_∙_, _≡_, ap, refl, subst, sym}
 use Prim.Native.Nat.{_+_, _<_, _≤_, ℕ}
 use native.Mathlib.Omega.{arith}
-use lib.Dec.{T, eqb, leb}
+use lib.Dec.{T}
 use lib.ListN.{getD, length, length-append}
 use borrow.Author.Tests.{le-leb, lt-leb}
 use Rattle.model.specs.Basics.Cases.{cases, true-or-false}
 use Rattle.model.specs.Basics.TestLaws.{is-false, is-true}
 use Rattle.model.specs.Request.Allowed.{Known}
-use Rattle.model.specs.Request.Ladder.{applies, ladder, never, rungAt, unknownUser}
+use Rattle.model.specs.Request.Ladder.{applies, ladder, rungAt, unknownUser}
 use Rattle.model.specs.Request.RungLaws.{unknownUser-fails}
 use Rattle.model.specs.Request.Step.{Settles, afterOf, answerOf, sized}
 use Rattle.model.specs.Request.Words.{requestOf, requestWords}
 use Rattle.model.specs.Script.ReportLaws.{report-length}
 use Rattle.model.specs.Script.Reports.{answerKey, bare, heldKey, missedKey, report, reportText, untold}
 use Rattle.model.specs.Script.Windows.{reportBytes}
-use Rattle.model.specs.Tables.Layout.{tablesOf, wordCount}
+use Rattle.model.specs.Tables.Layout.{tablesOf}
 use Rattle.model.specs.Tables.Words.{held, missed}
 use Rattle.model.specs.Text.Lines.{line}
 use Rattle.model.specs.Text.Numbers.{digits}

@@ -1,6 +1,6 @@
 -- A turn, from what the reader of seven lines answers.
 use mathlib.Core.List.{List}
-use mathlib.Core.Path.{_∙_, _≡_, ap, refl, sym}
+use mathlib.Core.Path.{_≡_, refl}
 use Prim.Native.Nat.{_-_, ℕ}
 use native.Mathlib.Omega.{arith}
 use lib.ListN.{drop, length}
@@ -13,7 +13,6 @@ use Rattle.request_text.specs.declared.reading.Seven.the-variants.{BadLine, Nex
 use Rattle.script.specs.Reported.{inCode}
 use Rattle.script.specs.Turn.{leftBy, leftOf, turnedBy, turnedOf}
 use Rattle.script.specs.declared.turns.Place.{Place}
-use Rattle.script.specs.declared.turns.Turned.{Turned}
 
 next-turn : (t w v : List ℕ) (p : Place) (n : ℕ) (x : Lines) (i : ℕ) → Next i ≡ sevenOf n x → v ≡ wordsIn x w
     → (turnedBy t n p x ≡ record { place = record { at = i; line = 0 }; report = inCode (report t v) }) × (leftBy t x ≡ afterOf t v)

@@ -2,7 +2,7 @@
 ghost use mathlib.Core.Path.{_≡_};
 ghost use Prim.Native.Nat.{_+_, _*_, _≤_, _<_};
 ghost use lib.ListN.{length, take};
-ghost use Rattle.model.specs.Script.State.{fileBytes, stateOf, wordIn};
+ghost use Rattle.model.specs.Script.State.{stateOf, wordIn};
 ghost use Rattle.model.specs.Tables.Layout.{wordCount};
 
 // A word of four bytes, the lowest first.

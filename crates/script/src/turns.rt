@@ -6,7 +6,6 @@ ghost use mathlib.Core.Path.{_≡_};
 ghost use Prim.Native.Nat.{_≤_};
 ghost use lib.ListN.{length};
 ghost use Rattle.model.specs.Request.Step.{afterOf};
-ghost use Rattle.model.specs.Request.Words.{requestWords};
 ghost use Rattle.model.specs.Script.Reports.{report, unread};
 ghost use Rattle.script.specs.Reported.{inCode};
 ghost use Rattle.script.specs.Turn.{leftOf, turnedOf};

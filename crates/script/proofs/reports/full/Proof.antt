@@ -7,15 +7,12 @@ use Rattle.script.proofs.reports.full.Lts as lts
 use Rattle.tables.proofs.held.Reads as held-reads
 use Rattle.tables.proofs.missed.Reads as missed-reads
 
--- src/reports.rt:39:15
 held-requires : tie.Need-held-requires
 held-requires c κs = search needs
 
--- src/reports.rt:40:17
 missed-requires : tie.Need-missed-requires
 missed-requires c κs = search needs
 
--- src/reports.rt:32:1
 returns : tie.Need-returns
 returns c = rw (c .before .held .ensures, c .missed .ensures) refl
 

@@ -1,4 +1,3 @@
-use native.Mathlib.Omega.{arith}
 use Rattle.lines.specs.OntoLaws.{puts}
 use Rattle.model.specs.Script.ReportLaws.{report-length}
 use Rattle.script.specs.Reported.{fromCode}
@@ -9,31 +8,24 @@ use Rattle.script.proofs.reports.put_report.Reads as reads
 use Rattle.script.proofs.reports.put_report.Lts as lts
 use Rattle.script.proofs.reports.write_report.Reads as write-report-reads
 
--- src/reports.rt:73:26
 sub-write-report : tie.Need-sub-write-report
 sub-write-report c = search needs
 
--- src/reports.rt:73:26
 part-write-report-start : tie.Need-part-write-report-start
 part-write-report-start c = search needs
 
--- src/reports.rt:73:26
 part-write-report-end : tie.Need-part-write-report-end
 part-write-report-end c = search needs
 
--- src/reports.rt:73:9
 write-report-requires : tie.Need-write-report-requires
 write-report-requires c κs = search needs
 
--- src/reports.rt:74:5
 add-result : tie.Need-add-result
 add-result c = let l = report-length (fromCode (c .before .before .before .before .before .args .r)) in search needs
 
--- src/reports.rt:69:1
 same-length : tie.Need-same-length
 same-length c = search needs
 
--- src/reports.rt:69:1
 returns : tie.Need-returns
 returns c = puts (c .before .before .write-report .ensures)
 

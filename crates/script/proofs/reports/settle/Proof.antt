@@ -10,51 +10,39 @@ use Rattle.script.proofs.reports.bare.Reads as bare-reads
 use Rattle.script.proofs.reports.full.Reads as full-reads
 use Rattle.step.proofs.step.Reads as step-reads
 
--- src/reports.rt:48:9
 step-requires : tie.Need-step-requires
 step-requires c κs = search needs
 
--- src/reports.rt:50:29
 shared-slice-read-full : tie.Need-shared-slice-read-full
 shared-slice-read-full c = let k = settled-known (c .before .before .before .before .before .step .ensures) (inl (c .before .before .if1 .taken)) in omega (arith, k .0)
 
--- src/reports.rt:50:9
 full-requires : tie.Need-full-requires
 full-requires c κs = settled-known (c .before .before .before .before .before .step .ensures) (inl (c .before .before .if1 .taken)) .1
 
--- src/reports.rt:50:9
 same-length : tie.Need-same-length
 same-length c = search needs
 
--- src/reports.rt:50:9
 returns : tie.Need-returns
 returns c = settled-full (c .before .before .before .before .before .before .step .ensures) _ (inl (c .before .before .before .if1 .taken)) (c .full .ensures)
 
--- src/reports.rt:53:9
 bare-requires : tie.Need-bare-requires
 bare-requires c κs = search needs
 
--- src/reports.rt:53:9
 same-length-2 : tie.Need-same-length-2
 same-length-2 c = search needs
 
--- src/reports.rt:53:9
 returns-2 : tie.Need-returns-2
 returns-2 c = settled-bare (c .before .before .before .before .before .step .ensures) _ (omega (arith, c .before .before .if1 .left)) (omega (arith, c .before .if2 .taken)) (c .bare .ensures)
 
--- src/reports.rt:55:18
 shared-slice-read-full-2 : tie.Need-shared-slice-read-full-2
 shared-slice-read-full-2 c = let k = settled-known (c .before .before .before .before .before .before .step .ensures) (inr (omega (arith, c .before .before .if2 .left))) in omega (arith, k .0)
 
--- src/reports.rt:55:5
 full-requires-2 : tie.Need-full-requires-2
 full-requires-2 c κs = settled-known (c .before .before .before .before .before .before .step .ensures) (inr (omega (arith, c .before .before .if2 .left))) .1
 
--- src/reports.rt:45:1
 same-length-3 : tie.Need-same-length-3
 same-length-3 c = search needs
 
--- src/reports.rt:45:1
 returns-3 : tie.Need-returns-3
 returns-3 c = settled-full (c .before .before .before .before .before .before .before .step .ensures) _ (inr (omega (arith, c .before .before .before .if2 .left))) (c .full2 .ensures)
 

@@ -6,11 +6,9 @@ use Rattle.script.proofs.runs.ends_line.Tie as tie
 use Rattle.script.proofs.runs.ends_line.Reads as reads
 use Rattle.script.proofs.runs.ends_line.Lts as lts
 
--- src/runs.rt:29:9
 returns : tie.Need-returns
 returns c = rw (eq-eqb _ lineEnd (c .if1 .taken)) refl
 
--- src/runs.rt:25:1
 returns-2 : tie.Need-returns-2
 returns-2 c = rw (ne-eqb _ lineEnd (c .if1 .left)) refl
 

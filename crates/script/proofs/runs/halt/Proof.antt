@@ -7,35 +7,27 @@ use Rattle.script.proofs.runs.halt.Lts as lts
 use Rattle.script.proofs.runs.is_unfinished.Reads as is-unfinished-reads
 use Rattle.script.proofs.runs.reported.Reads as reported-reads
 
--- src/runs.rt:76:9
 reported-requires : tie.Need-reported-requires
 reported-requires c κs = c .before .before .before .before .pre .1
 
--- src/runs.rt:76:9
 same-length : tie.Need-same-length
 same-length c = c .before .before .reported .kept .0
 
--- src/runs.rt:76:9
 returns : tie.Need-returns
 returns c = halts-stop (rw (c .before .before .before .before .if1 .taken) refl) (c .before .before .reported .ensures)
 
--- src/runs.rt:78:8
 is-unfinished-requires : tie.Need-is-unfinished-requires
 is-unfinished-requires c κs = c .before .before .before .pre .0
 
--- src/runs.rt:79:9
 returns-2 : tie.Need-returns-2
 returns-2 c = halts-wait (rw (c .before .before .if1 .left, ← c .before .is-unfinished .ensures, c .if2 .taken) refl)
 
--- src/runs.rt:84:5
 reported-requires-2 : tie.Need-reported-requires-2
 reported-requires-2 c κs = c .before .before .before .before .before .before .pre .1
 
--- src/runs.rt:71:1
 same-length-2 : tie.Need-same-length-2
 same-length-2 c = c .before .before .reported2 .kept .0
 
--- src/runs.rt:71:1
 returns-3 : tie.Need-returns-3
 returns-3 c = halts-stop (rw (c .before .before .before .before .before .before .if1 .left, ← c .before .before .before .before .before .is-unfinished .ensures, c .before .before .before .before .if2 .left) refl) (c .before .before .reported2 .ensures)
 

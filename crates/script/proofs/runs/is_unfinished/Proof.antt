@@ -1,4 +1,4 @@
-use mathlib.Core.Path.{_∙_, sym, ap}
+use mathlib.Core.Path.{sym}
 use native.Mathlib.Omega.{arith}
 use Rattle.script.specs.EndsLaws.{unfinished-long, unfinished-short}
 use borrow.Author.Needs.{needs}
@@ -8,19 +8,15 @@ use Rattle.script.proofs.runs.is_unfinished.Reads as reads
 use Rattle.script.proofs.runs.is_unfinished.Lts as lts
 use Rattle.script.proofs.runs.line_ends.Reads as line-ends-reads
 
--- src/runs.rt:42:15
 sub-if1 : tie.Need-sub-if1
 sub-if1 c = search needs
 
--- src/runs.rt:43:9
 returns : tie.Need-returns
 returns c = sym (unfinished-long (c .before .before .args .s .now) (c .before .before .args .at) (c .if1 .taken))
 
--- src/runs.rt:45:5
 line-ends-requires : tie.Need-line-ends-requires
 line-ends-requires c κs = search needs
 
--- src/runs.rt:38:1
 returns-2 : tie.Need-returns-2
 returns-2 c = rw (c .line-ends .ensures) (unfinished-short (c .before .before .before .args .s .now) (c .before .before .before .args .at) (omega (arith, c .before .if1 .left)))
 

@@ -18,35 +18,27 @@ Inv-loop s at n₀ i₀ n i = (i ≤ length s) × (n + ends (drop i s) ≡ ends 
 abbrev μ-loop : tie.MeasureT-loop
 μ-loop s at n₀ i₀ n i = length s - i
 
--- src/runs.rt:41:5
 loop-holds : tie.Need-loop-holds Inv-loop μ-loop
 loop-holds c = (c .before .pre, omega arith, omega arith)
 
--- src/runs.rt:42:24
 shared-slice-read-ends-line : tie.Need-shared-slice-read-ends-line Inv-loop μ-loop
 shared-slice-read-ends-line c = search needs
 
--- src/runs.rt:42:14
 ends-line-requires : tie.Need-ends-line-requires Inv-loop μ-loop
 ends-line-requires c κs = search needs
 
--- src/runs.rt:42:9
 add-n : tie.Need-add-n Inv-loop μ-loop
 add-n c = let l = ends-line-one (getD (c .before .before .before .before .before .args .s .now) (c .before .before .before .loop .i) 0) in let e = c .ends-line .ensures in let k = c .before .before .before .loop .inv .2 in search needs
 
--- src/runs.rt:43:9
 add-i : tie.Need-add-i Inv-loop μ-loop
 add-i c = search needs
 
--- src/runs.rt:41:5
 loop-less : tie.Need-loop-less Inv-loop μ-loop
 loop-less c = omega arith
 
--- src/runs.rt:41:5
 loop-again : tie.Need-loop-again Inv-loop μ-loop
 loop-again c = (omega arith, omega (arith, ends-more (c .before .before .before .before .before .args .s .now) (c .before .before .before .loop .i) (c .before .before .loop-test .taken), c .ends-line .ensures, c .before .before .before .loop .inv .1), omega (arith, ends-line-one (getD (c .before .before .before .before .before .args .s .now) (c .before .before .before .loop .i) 0), c .ends-line .ensures, c .before .before .before .loop .inv .2))
 
--- src/runs.rt:35:1
 returns : tie.Need-returns Inv-loop μ-loop
 returns c = omega (arith, ends-none (c .before .before .before .args .s .now) (c .before .loop .i) (omega (arith, c .loop-test .left)), c .before .loop .inv .1)
 

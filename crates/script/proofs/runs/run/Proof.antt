@@ -1,8 +1,7 @@
-use mathlib.Core.Path.{_∙_, _≡_, refl, sym}
+use mathlib.Core.Path.{_∙_, _≡_, refl}
 use native.Mathlib.Omega.{arith}
 use Prim.Native.Nat.{_-_}
 use lib.ListN.{length}
-use borrow.Author.Needs.{needs}
 use Rattle.script.specs.Going.{Going}
 use Rattle.script.specs.GoingLaws.{going-end, going-full, going-halt, going-length, going-start, going-turn, turn-further}
 use Rattle.script.proofs.runs.run.Statement.{statement}
@@ -19,67 +18,51 @@ Inv-loop tables₀ script last out₀ at₀ n₀ tables out at n = Going tables�
 abbrev μ-loop : tie.MeasureT-loop
 μ-loop tables₀ script last out₀ at₀ n₀ tables out at n = length script - at
 
--- src/runs.rt:94:5
 loop-holds : tie.Need-loop-holds Inv-loop μ-loop
 loop-holds c = (going-start _ _ _ _, refl)
 
--- src/runs.rt:95:12
 sub-if1 : tie.Need-sub-if1 Inv-loop μ-loop
 sub-if1 c = omega (arith, going-length (c .before .loop .inv .0), c .before .loop .inv .0 .fits)
 
--- src/runs.rt:96:13
 same-length : tie.Need-same-length Inv-loop μ-loop
 same-length c = c .before .before .loop .inv .1
 
--- src/runs.rt:96:13
 same-length-2 : tie.Need-same-length-2 Inv-loop μ-loop
 same-length-2 c = going-length (c .before .before .loop .inv .0)
 
--- src/runs.rt:96:13
 returns : tie.Need-returns Inv-loop μ-loop
 returns c = going-full (c .before .before .loop .inv .0) (omega (arith, going-length (c .before .before .loop .inv .0), c .if1 .taken))
 
--- src/runs.rt:101:13
 one-turn-requires : tie.Need-one-turn-requires Inv-loop μ-loop
 one-turn-requires c κs = c .before .before .before .loop .inv .0 .within
 
--- src/runs.rt:104:13
 halt-requires : tie.Need-halt-requires Inv-loop μ-loop
 halt-requires c κs = (c .before .before .before .before .before .before .before .before .before .before .loop .inv .0 .within, omega (arith, going-length (c .before .before .before .before .before .before .before .before .before .before .loop .inv .0), c .before .before .before .before .before .before .before .before .before .before .loop .inv .0 .fits, c .before .before .before .before .before .before .before .before .if1 .left))
 
--- src/runs.rt:104:13
 same-length-3 : tie.Need-same-length-3 Inv-loop μ-loop
 same-length-3 c = c .before .before .before .before .before .before .before .before .before .one-turn .kept .0 ∙ c .before .before .before .before .before .before .before .before .before .before .before .before .before .loop .inv .1
 
--- src/runs.rt:104:13
 same-length-4 : tie.Need-same-length-4 Inv-loop μ-loop
 same-length-4 c = c .before .before .halt .kept .1 .1 .0 ∙ going-length (c .before .before .before .before .before .before .before .before .before .before .before .before .before .loop .inv .0)
 
--- src/runs.rt:104:13
 returns-2 : tie.Need-returns-2 Inv-loop μ-loop
 returns-2 c = going-halt (c .before .before .before .before .before .before .before .before .before .before .before .before .before .loop .inv .0) _ _ _ _ (c .before .before .before .before .before .before .before .before .before .before .before .before .loop-test .taken) (omega (arith, going-length (c .before .before .before .before .before .before .before .before .before .before .before .before .before .loop .inv .0), c .before .before .before .before .before .before .before .before .before .before .before .if1 .left)) (c .before .before .before .before .before .before .before .before .before .one-turn .ensures .0) (c .before .before .before .before .before .before .before .before .before .one-turn .ensures .1) (c .before .before .before .before .if2 .taken) (c .before .before .halt .ensures)
 
--- src/runs.rt:107:9
 put-report-requires : tie.Need-put-report-requires Inv-loop μ-loop
 put-report-requires c κs = omega (arith, going-length (c .before .before .before .before .before .before .before .before .before .before .before .loop .inv .0), c .before .before .before .before .before .before .before .before .before .before .before .loop .inv .0 .fits, c .before .before .before .before .before .before .before .before .before .if1 .left)
 
--- src/runs.rt:94:5
 loop-less : tie.Need-loop-less Inv-loop μ-loop
 loop-less c = let f = turn-further (c .before .before .before .before .before .before .before .before .before .before .before .before .before .before .loop .inv .0) _ (c .before .before .before .before .before .before .before .before .before .before .one-turn .ensures .0) (c .before .before .before .before .before .if2 .left) in omega (arith, f .0, f .1)
 
--- src/runs.rt:94:5
 loop-again : tie.Need-loop-again Inv-loop μ-loop
 loop-again c = (going-turn (c .before .before .before .before .before .before .before .before .before .before .before .before .before .before .loop .inv .0) _ _ _ _ (c .before .before .before .before .before .before .before .before .before .before .before .before .before .loop-test .taken) (omega (arith, going-length (c .before .before .before .before .before .before .before .before .before .before .before .before .before .before .loop .inv .0), c .before .before .before .before .before .before .before .before .before .before .before .before .if1 .left)) (c .before .before .before .before .before .before .before .before .before .before .one-turn .ensures .0) (c .before .before .before .before .before .before .before .before .before .before .one-turn .ensures .1) (c .before .before .before .before .before .if2 .left) (c .before .before .put-report .ensures), c .before .before .before .before .before .before .before .before .before .before .one-turn .kept .0 ∙ c .before .before .before .before .before .before .before .before .before .before .before .before .before .before .loop .inv .1)
 
--- src/runs.rt:89:1
 same-length-5 : tie.Need-same-length-5 Inv-loop μ-loop
 same-length-5 c = c .before .loop .inv .1
 
--- src/runs.rt:89:1
 same-length-6 : tie.Need-same-length-6 Inv-loop μ-loop
 same-length-6 c = going-length (c .before .loop .inv .0)
 
--- src/runs.rt:89:1
 returns-3 : tie.Need-returns-3 Inv-loop μ-loop
 returns-3 c = going-end (c .before .loop .inv .0) (omega (arith, c .loop-test .left))
 

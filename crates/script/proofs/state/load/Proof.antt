@@ -1,7 +1,6 @@
 use mathlib.Core.Path.{_∙_, _≡_, sym}
 use borrow.Author.Needs.{needs}
 use native.Mathlib.Omega.{arith}
-use mathlib.Core.List.{List}
 use Prim.Native.Nat.{_≤_, _-_}
 use lib.ListN.{length, length-set, take}
 use Rattle.model.specs.Script.State.{fileBytes, wordIn}
@@ -20,43 +19,33 @@ Inv-loop bytes room₀ i₀ room i = (i ≤ wordCount) × (length room ≡ wordC
 abbrev μ-loop : tie.MeasureT-loop
 μ-loop bytes room₀ i₀ room i = wordCount - i
 
--- src/state.rt:31:9
 returns : tie.Need-returns Inv-loop μ-loop
-returns c = (filled-other _ (c .if1 .taken), omega arith)
+returns c = (filled-other (c .before .before .before .args .bytes .now) (λ e. omega (arith, c .if1 .taken)), omega arith)
 
--- src/state.rt:34:5
 loop-holds : tie.Need-loop-holds Inv-loop μ-loop
-loop-holds c = (omega arith, c .before .before .before .pre, c .if1 .left, filled-none _)
+loop-holds c = (omega arith, c .before .before .before .pre, omega (arith, c .if1 .left), filled-none _)
 
--- src/state.rt:35:19
 word-in-requires : tie.Need-word-in-requires Inv-loop μ-loop
 word-in-requires c κs = (omega (arith, c .before .loop .inv .2), c .loop-test .taken)
 
--- src/state.rt:35:9
 mul-room : tie.Need-mul-room Inv-loop μ-loop
 mul-room c = search needs
 
--- src/state.rt:35:9
 slice-write-room : tie.Need-slice-write-room Inv-loop μ-loop
 slice-write-room c = omega (arith, c .before .before .loop .inv .1)
 
--- src/state.rt:36:9
 add-i : tie.Need-add-i Inv-loop μ-loop
 add-i c = search needs
 
--- src/state.rt:34:5
 loop-less : tie.Need-loop-less Inv-loop μ-loop
 loop-less c = omega arith
 
--- src/state.rt:34:5
 loop-again : tie.Need-loop-again Inv-loop μ-loop
 loop-again c = (omega arith, rw (length-set) (c .before .before .loop .inv .1), c .before .before .loop .inv .2, filled-more _ _ _ _ (omega (arith, c .before .before .loop .inv .1)) (c .before .before .loop .inv .3) (c .word-in .ensures))
 
--- src/state.rt:26:1
 same-length : tie.Need-same-length Inv-loop μ-loop
 same-length c = c .before .loop .inv .1 ∙ sym (c .before .before .before .before .before .pre)
 
--- src/state.rt:26:1
 returns-2 : tie.Need-returns-2 Inv-loop μ-loop
 returns-2 c = (filled-all _ _ (c .before .loop .i) (c .before .loop .inv .2) (omega arith) (c .before .loop .inv .3), omega arith)
 

@@ -6,15 +6,12 @@ use Rattle.script.proofs.turns.settled.Reads as reads
 use Rattle.script.proofs.turns.settled.Lts as lts
 use Rattle.script.proofs.reports.settle.Reads as settle-reads
 
--- src/turns.rt:40:9
 settle-requires : tie.Need-settle-requires
 settle-requires c κs = search needs
 
--- src/turns.rt:37:1
 same-length : tie.Need-same-length
 same-length c = search needs
 
--- src/turns.rt:37:1
 returns : tie.Need-returns
 returns c = (rw (c .before .before .settle .ensures .reported) refl, c .before .before .settle .ensures .words)
 

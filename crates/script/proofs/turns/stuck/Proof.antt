@@ -6,11 +6,9 @@ use Rattle.script.proofs.turns.stuck.Reads as reads
 use Rattle.script.proofs.turns.stuck.Lts as lts
 use Rattle.script.proofs.reports.bare.Reads as bare-reads
 
--- src/turns.rt:32:17
 bare-requires : tie.Need-bare-requires
 bare-requires c κs = search needs
 
--- src/turns.rt:27:1
 returns : tie.Need-returns
 returns c = rw (c .bare .ensures) refl
 

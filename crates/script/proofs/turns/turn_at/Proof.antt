@@ -9,43 +9,33 @@ use Rattle.request_text.proofs.reading.read_seven.Reads as read-seven-reads
 use Rattle.script.proofs.turns.settled.Reads as settled-reads
 use Rattle.script.proofs.turns.stuck.Reads as stuck-reads
 
--- src/turns.rt:54:57
 slice-aggregate-read-seven : tie.Need-slice-aggregate-read-seven
 slice-aggregate-read-seven c = search needs
 
--- src/turns.rt:54:11
 read-seven-requires : tie.Need-read-seven-requires
 read-seven-requires c κs = search needs
 
--- src/turns.rt:55:24
 enum-known-k : tie.Need-enum-known-k
 enum-known-k c = search needs
 
--- src/turns.rt:55:30
 stuck-requires : tie.Need-stuck-requires
 stuck-requires c κs = search needs
 
--- src/turns.rt:56:21
 enum-known-next : tie.Need-enum-known-next
 enum-known-next c = search needs
 
--- src/turns.rt:56:46
 slice-aggregate-settled : tie.Need-slice-aggregate-settled
 slice-aggregate-settled c = search needs
 
--- src/turns.rt:56:30
 settled-requires : tie.Need-settled-requires
 settled-requires c κs = search needs
 
--- src/turns.rt:48:1
 returns : tie.Need-returns
 returns c = let z = turn-bad (c .before .before .before .before .before .before .before .before .before .args .tables .now) (c .before .before .before .before .before .before .before .before .before .args .p) (rw (c .before .before .k .given .1) at (c .before .before .before .before .before .read-seven .ensures)) in (c .stuck .ensures ∙ sym (z .0), sym (z .1))
 
--- src/turns.rt:48:1
 same-length : tie.Need-same-length
 same-length c = search needs
 
--- src/turns.rt:48:1
 returns-2 : tie.Need-returns-2
 returns-2 c = let z = turn-next (c .before .before .before .before .before .before .before .before .before .before .before .before .before .args .tables .now) (c .before .before .before .before .before .before .before .before .before .before .before .before .before .args .p) (rw (c .before .before .before .before .before .before .next .given .1) at (c .before .before .before .before .before .before .before .before .before .read-seven .ensures)) in (c .before .before .settled .ensures .0 ∙ sym (z .0), c .before .before .settled .ensures .1 ∙ sym (z .1))
 

@@ -9,11 +9,9 @@ use Rattle.script.proofs.windows.had_room.Tie as tie
 use Rattle.script.proofs.windows.had_room.Reads as reads
 use Rattle.script.proofs.windows.had_room.Lts as lts
 
--- src/windows.rt:38:9
 returns : tie.Need-returns
 returns c = rw (lt-leb reportBytes (c .before .args .len - c .before .args .n) (omega (arith, c .if1 .taken))) refl
 
--- src/windows.rt:34:1
 returns-2 : tie.Need-returns-2
 returns-2 c = search needs
 

@@ -13,39 +13,30 @@ Inv-loop window₀ from len i₀ j₀ window i j = Moved window₀ window from i
 abbrev μ-loop : tie.MeasureT-loop
 μ-loop window₀ from len i₀ j₀ window i j = len - j
 
--- src/windows.rt:17:5
 loop-holds : tie.Need-loop-holds Inv-loop μ-loop
 loop-holds c = (moved-start _ _, c .pre .0)
 
--- src/windows.rt:18:21
 slice-read-window : tie.Need-slice-read-window Inv-loop μ-loop
 slice-read-window c = omega (arith, c .before .before .loop .inv .0 .long, c .before .before .before .pre .1)
 
--- src/windows.rt:18:9
 slice-write-window : tie.Need-slice-write-window Inv-loop μ-loop
 slice-write-window c = omega (arith, c .before .before .loop .inv .0 .long, c .before .before .loop .inv .0 .step, c .before .before .before .pre .1)
 
--- src/windows.rt:19:9
 add-i : tie.Need-add-i Inv-loop μ-loop
 add-i c = let e = c .before .before .loop .inv .0 .step in search needs
 
--- src/windows.rt:20:9
 add-j : tie.Need-add-j Inv-loop μ-loop
 add-j c = search needs
 
--- src/windows.rt:17:5
 loop-less : tie.Need-loop-less Inv-loop μ-loop
 loop-less c = omega arith
 
--- src/windows.rt:17:5
 loop-again : tie.Need-loop-again Inv-loop μ-loop
 loop-again c = (moved-more (c .before .before .loop .inv .0) (omega (arith, c .before .before .before .pre .1)), omega arith)
 
--- src/windows.rt:11:1
 same-length : tie.Need-same-length Inv-loop μ-loop
 same-length c = c .before .loop .inv .0 .long
 
--- src/windows.rt:11:1
 returns : tie.Need-returns Inv-loop μ-loop
 returns c = moved-all (c .before .loop .inv .0) (c .before .before .pre .0) (omega (arith, c .loop-test .left, c .before .loop .inv .1))
 
