@@ -103,3 +103,52 @@ state-bytes w h small =
     let n : length (bytesOf w) ≡ fileBytes = omega (arith, bytes-length w) in
     ext-getD 0 (stateOf (bytesOf w)) w (state-length (bytesOf w) n ∙ sym h)
     (λ i l. state-at (bytesOf w) i n (omega (arith, state-length (bytesOf w) n)) ∙ bytes-at w small i)
+
+-- ---- the words of bytes
+
+-- the four bytes of a word are those that it was put together from
+first-byte : (a b c d : ℕ) → a < 256 → (a + 256 * b + 65536 * c + 16777216 * d) % 256 ≡ a
+first-byte a b c d h = omega arith
+
+second-byte : (a b c d : ℕ) → a < 256 → b < 256 → (a + 256 * b + 65536 * c + 16777216 * d) / 256 % 256 ≡ b
+second-byte a b c d h g = omega arith
+
+third-byte : (a b c d : ℕ) → a < 256 → b < 256 → c < 256 → (a + 256 * b + 65536 * c + 16777216 * d) / 65536 % 256 ≡ c
+third-byte a b c d h g k = omega arith
+
+fourth-byte : (a b c d : ℕ) → a < 256 → b < 256 → c < 256 → d < 256 → (a + 256 * b + 65536 * c + 16777216 * d) / 16777216 % 256 ≡ d
+fourth-byte a b c d h g k l = omega arith
+
+-- words that are those in some bytes have these bytes
+words-bytes : (w s : List ℕ) → length s ≡ wordBytes * length w → ((i : ℕ) → getD s i 0 < 256) → ((i : ℕ) → i < length w → getD w i 0 ≡ wordIn s i)
+    → bytesOf w ≡ s
+unfolding bytesOf
+words-bytes [] [] h small is = refl
+words-bytes [] (a ∷ s) h small is = absurd (omega arith)
+words-bytes (v ∷ w) [] h small is = absurd (omega arith)
+words-bytes (v ∷ w) (a ∷ []) h small is = absurd (omega arith)
+words-bytes (v ∷ w) (a ∷ b ∷ []) h small is = absurd (omega arith)
+words-bytes (v ∷ w) (a ∷ b ∷ c ∷ []) h small is = absurd (omega arith)
+words-bytes (v ∷ w) (a ∷ b ∷ c ∷ d ∷ s) h small is =
+    let front : v ≡ a + 256 * b + 65536 * c + 16777216 * d = is 0 (omega arith) in
+    let rest : bytesOf w ≡ s = words-bytes w s (omega arith) (λ i. small (suc (suc (suc (suc i)))))
+    (λ i l. is (suc i) (omega arith) ∙ word-later a b c d s i) in
+    rw (
+      front,
+      first-byte a b c d (small 0),
+      second-byte a b c d (small 0) (small 1),
+      third-byte a b c d (small 0) (small 1) (small 2),
+      fourth-byte a b c d (small 0) (small 1) (small 2) (small 3),
+      rest,
+    )
+
+-- Rule 12.1: the words of a file of 9,216 bytes have the bytes of that file,
+pub bytes-state : (s : List ℕ) → length s ≡ fileBytes → ((i : ℕ) → getD s i 0 < 256) → bytesOf (stateOf s) ≡ s
+bytes-state s h small =
+    words-bytes (stateOf s) s (omega (arith, state-length s h)) small
+    (λ i l. state-at s i h (omega (arith, state-length s h)))
+
+-- so two such files with the same tables are the same.
+pub state-one : (s r : List ℕ) → length s ≡ fileBytes → length r ≡ fileBytes → ((i : ℕ) → getD s i 0 < 256) → ((i : ℕ) → getD r i 0 < 256)
+    → stateOf s ≡ stateOf r → s ≡ r
+state-one s r h g small tiny e = sym (bytes-state s h small) ∙ ap bytesOf e ∙ bytes-state r g tiny
