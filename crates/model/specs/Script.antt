@@ -7,3 +7,4 @@ pub mod StateLaws
 pub mod Windows
 pub mod ReportLaws
 pub mod WindowLaws
+pub mod FedLaws

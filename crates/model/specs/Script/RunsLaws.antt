@@ -2,7 +2,7 @@
 -- report is that of the tables after exactly the requests before it.
 use mathlib.Core.List.{List, [], _++_, _∷_, append-assoc, append-nil}
 use mathlib.Core.Path.{_∙_, _≡_, ap, ap₂, refl, sym}
-use Prim.Native.Nat.{_<_, suc, zero, ℕ}
+use Prim.Native.Nat.{_+_, _<_, _≤_, suc, zero, ℕ}
 use native.Mathlib.Omega.{arith}
 use lib.ListN.{getD, length, take}
 use Rattle.model.specs.Request.Step.{afterOf}
@@ -11,7 +11,7 @@ use Rattle.model.specs.Script.Runs.{Answered, Reported, Runs, Writes, cu
 use Rattle.model.specs.Text.Lines.{readLine}
 use Rattle.model.specs.Text.NearLaws.{read-longer, read-shorter}
 use Rattle.model.specs.Text.Wording.{Lines, Wording, badLine, lines, readSeven, sixteen, textOf}
-use Rattle.model.specs.Text.WordingLaws.{text-back}
+use Rattle.model.specs.Text.WordingLaws.{Written, text-back, text-there}
 use Rattle.model.specs.Theorem.Statements.{afterWords}
 
 -- one run behind another is a run
@@ -23,6 +23,11 @@ runs-append (turn e r) q = turn e (runs-append r q)
 pub runs-longer : {t s t′ s′ : List ℕ} {rs : List Report} → Runs t s rs t′ s′ → (x : List ℕ) → Runs t (s ++ x) rs t′ (s′ ++ x)
 runs-longer stay x = stay
 runs-longer (turn {s = s} {x = y} {m = m} e r) x = turn (read-longer s m y e x) (runs-longer r x)
+
+-- each report of a run takes at least one byte of the script
+pub runs-shorter : {t s t′ s′ : List ℕ} {rs : List Report} → Runs t s rs t′ s′ → length rs + length s′ ≤ length s
+runs-shorter stay = omega arith
+runs-shorter (turn {s = s} {x = x} {m = m} e r) = omega (arith, read-shorter s m x e, runs-shorter r)
 
 -- a run, and behind it all of what is left
 pub runs-answered : {t s t′ s′ : List ℕ} {rs rs′ : List Report} → Runs t s rs t′ s′ → Answered t′ s′ rs′ → Answered t s (rs ++ rs′)
@@ -147,3 +152,22 @@ pub runs-report : {t s t′ s′ : List ℕ} {rs : List Report} → Runs t s rs 
 unfolding afterWords
 runs-report stay = record { wordings = []; text = refl; many = refl; each = λ i h. absurd (omega arith); after = refl }
 runs-report (turn e r) = reported-turn e (runs-report r)
+
+-- each of these wordings has a text
+abbrev pub AllWritten : List Wording → Type 0
+AllWritten [] = Unit {0}
+AllWritten (m ∷ ms) = Written m × AllWritten ms
+
+-- the reports of wordings, each on the tables that those before it leave
+abbrev pub reportsOf : List ℕ → List Wording → List Report
+reportsOf t [] = []
+reportsOf t (m ∷ ms) = report t (sixteen m) ∷ reportsOf (afterOf t (sixteen m)) ms
+
+-- Rules 12.2 and 12.3: and where texts stand one behind another, they are run with exactly these reports, as far as what follows them.
+pub texts-runs : (t : List ℕ) (ms : List Wording) (x : List ℕ) → AllWritten ms → Runs t (texts ms ++ x) (reportsOf t ms) (afterWords t (requests ms)) x
+unfolding afterWords
+texts-runs t [] x h = stay
+texts-runs t (m ∷ ms) x h =
+    turn
+    (ap readSeven (append-assoc (textOf m) (texts ms) x) ∙ text-there m (texts ms ++ x) (h .0))
+    (texts-runs (afterOf t (sixteen m)) ms x (h .1))
