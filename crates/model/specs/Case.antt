@@ -10,6 +10,7 @@ pub mod S1Script
 pub mod Condemned
 pub mod CondemnedFlows
 pub mod CondemnedLists
+pub mod CondemnedRuns
 pub mod Damaged
 pub mod DamagedFound
 pub mod S2
