@@ -1,5 +1,5 @@
--- Wrong runs of a script on case state S1, and that the statement of a script's reports rejects them: each would pass if the statement did not tie every
--- report to the tables that the requests before it have left (rule 12.3), or did not say where a run ends (rules 12.2 and 12.4).
+-- Wrong runs of a script on case state S1, and that the statement of a script's reports rejects them. One of them would pass if the statement did not
+-- tie each report to the tables that the requests before it have left (rule 12.3), or did not say where a run ends (rules 12.2 and 12.4).
 use mathlib.Core.Bool.{Bool, _&&_, false, not, true}
 use mathlib.Core.List.{List, [], _++_, _∷_, append-nil}
 use mathlib.Core.Logic.{_≢_}

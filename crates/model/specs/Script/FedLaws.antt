@@ -25,7 +25,8 @@ output-some [] h = absurd (omega arith)
 output-some (r ∷ rs) h = omega arith
 
 -- With room for a report, the last window leaves nothing, or fewer bytes than it had.
-last-shorter : (n : ℕ) (t w : List ℕ) → reportBytes ≤ n → ran t w true n .line ≡ 0 → ran t w true n .rest ≢ [] → length (ran t w true n .rest) < length w
+last-shorter : (n : ℕ) (t w : List ℕ) → reportBytes ≤ n → ran t w true n .line ≡ 0 → ran t w true n .rest ≢ []
+    → length (ran t w true n .rest) < length w
 last-shorter n t w room good more = cases (lt-or-le 0 (length (output rs))) settled idle
   where
     rs : List Report
@@ -57,7 +58,8 @@ end-some (suc k) n t w room h =
 
 -- ---- all pieces
 
--- Rules 12.2 and 12.4: with room for one report at least, every script is answered to its end, whatever the tables, the bytes held and the pieces to come.
+-- Rules 12.2 and 12.4: with room for one report at least, every script is answered to its end, whatever the tables, the bytes held and the
+-- pieces to come.
 pub fed-some : (n : ℕ) → reportBytes ≤ n → (t w : List ℕ) (cs : List (List ℕ)) → (rs : List Report) × Fed n t w cs rs
 fed-some n room t w [] = end-some (suc (length w)) n t w room (omega arith)
 fed-some n room t w (c ∷ cs) =

@@ -164,7 +164,8 @@ reportsOf t [] = []
 reportsOf t (m ∷ ms) = report t (sixteen m) ∷ reportsOf (afterOf t (sixteen m)) ms
 
 -- Rules 12.2 and 12.3: and where texts stand one behind another, they are run with exactly these reports, as far as what follows them.
-pub texts-runs : (t : List ℕ) (ms : List Wording) (x : List ℕ) → AllWritten ms → Runs t (texts ms ++ x) (reportsOf t ms) (afterWords t (requests ms)) x
+pub texts-runs : (t : List ℕ) (ms : List Wording) (x : List ℕ) → AllWritten ms
+    → Runs t (texts ms ++ x) (reportsOf t ms) (afterWords t (requests ms)) x
 unfolding afterWords
 texts-runs t [] x h = stay
 texts-runs t (m ∷ ms) x h =

@@ -4,7 +4,7 @@ use Prim.Native.Nat.{suc, zero, ℕ}
 use lib.Dec.{eqb}
 use Rattle.model.specs.Basics.Choice.{pick}
 use Rattle.model.specs.Text.Lines.{next}
-use Rattle.model.specs.Text.Numbers.{Read, bad, digits, got, isDigit, number}
+use Rattle.model.specs.Text.Numbers.{Read, digits, got, isDigit, number}
 
 -- the dot
 abbrev pub dotByte : ℕ

@@ -1,29 +1,37 @@
 -- Reading a request's text and writing it are inverse, for the next seven lines of some bytes and for a whole text.
-use mathlib.Core.List.{List, [], _++_, _∷_, append-assoc}
+use mathlib.Core.List.{List, [], _++_, _∷_, append-assoc, append-nil}
 use mathlib.Core.Path.{_∙_, _≡_, ap, refl, sym}
 use Prim.Native.Nat.{_+_, _<_, _≤_, ℕ}
 use native.Mathlib.Omega.{arith}
 use lib.ListN.{length, length-append}
-use Rattle.model.specs.Text.LineLaws.{Form, length-line, line-back, line-there, numbers}
+use Rattle.model.specs.Request.Words.{nameCount}
+use Rattle.model.specs.Text.LineLaws.{length-line, line-back, line-there, numbers}
 use Rattle.model.specs.Text.Lines.{line, readLine}
 use Rattle.model.specs.Text.Numbers.{Read, bad, digits, got, most, number}
 use Rattle.model.specs.Text.ReferenceLaws.{AllFit, references}
 use Rattle.model.specs.Text.References.{joined, reference}
-use Rattle.model.specs.Text.Wording.{Lines, Wording, aKey, atEnd, bKey, badLine, cKey, lines, opKey, orLine, readSeven, readText, ref2Key, refKey, textOf, userKey}
+use Rattle.model.specs.Text.Wording.{Lines, Wording, aKey, atEnd, bKey, badLine, cKey, lines, opKey, orLine, readSeven, readText}
+use Rattle.model.specs.Text.Wording.{ref2Key, refKey, textOf, userKey}
 
 -- the requests that some text gives
 pub record Written (m : Wording) : Type 0 where
   pub user : m .user ≤ most
   pub operation : m .operation ≤ most
-  pub first : (length (m .first) ≤ 4) × AllFit (m .first)
-  pub second : (length (m .second) ≤ 4) × AllFit (m .second)
+  pub first : (length (m .first) ≤ nameCount) × AllFit (m .first)
+  pub second : (length (m .second) ≤ nameCount) × AllFit (m .second)
   pub a : m .a ≤ most
   pub b : m .b ≤ most
   pub c : m .c ≤ most
 
 text-onto : (m : Wording) (x : List ℕ)
     → textOf m ++ x
-    ≡ line userKey (digits (m .user)) ++ (line opKey (digits (m .operation)) ++ (line refKey (joined (m .first)) ++ (line ref2Key (joined (m .second)) ++ (line aKey (digits (m .a)) ++ (line bKey (digits (m .b)) ++ (line cKey (digits (m .c)) ++ x))))))
+    ≡ line userKey (digits (m .user)) ++
+    (line opKey (digits (m .operation)) ++
+    (line refKey (joined (m .first)) ++
+    (line ref2Key (joined (m .second)) ++
+    (line aKey (digits (m .a)) ++
+    (line bKey (digits (m .b)) ++
+    (line cKey (digits (m .c)) ++ x))))))
 unfolding textOf
 text-onto m x = simp append-assoc
 
@@ -42,7 +50,8 @@ text-there m x ok =
       line-there numbers cKey (m .c) _ (ok .c),
     )
 
-orLine-back : {A : Type 0} {C : Type 0} (k : ℕ) (r : Read A) (f : A → List ℕ → Lines) (m : Wording) (y : List ℕ) → orLine k r f ≡ lines m y → ((a : A) (x : List ℕ) → r ≡ got a x → f a x ≡ lines m y → C) → C
+orLine-back : {A C : Type 0} (k : ℕ) (r : Read A) (f : A → List ℕ → Lines) (m : Wording) (y : List ℕ) → orLine k r f ≡ lines m y
+    → ((a : A) (x : List ℕ) → r ≡ got a x → f a x ≡ lines m y → C) → C
 orLine-back k (got a x) f m y e g = g a x refl e
 orLine-back k bad f m y e g = let z : _≡_ {A = ℕ} 0 1 = cc in absurd (omega arith)
 
@@ -74,7 +83,13 @@ text-back s m x e =
 -- how long the seven lines are
 pub text-length : (m : Wording)
     → length (textOf m)
-    ≡ length (line userKey (digits (m .user))) + (length (line opKey (digits (m .operation))) + (length (line refKey (joined (m .first))) + (length (line ref2Key (joined (m .second))) + (length (line aKey (digits (m .a))) + (length (line bKey (digits (m .b))) + length (line cKey (digits (m .c))))))))
+    ≡ length (line userKey (digits (m .user))) +
+    (length (line opKey (digits (m .operation))) +
+    (length (line refKey (joined (m .first))) +
+    (length (line ref2Key (joined (m .second))) +
+    (length (line aKey (digits (m .a))) +
+    (length (line bKey (digits (m .b))) +
+    length (line cKey (digits (m .c))))))))
 unfolding textOf
 text-length m = simp length-append
 
@@ -82,14 +97,12 @@ text-length m = simp length-append
 pub text-some : (m : Wording) → 0 < length (textOf m)
 text-some m = omega (arith, text-length m, length-line userKey (digits (m .user)))
 
--- the two directions of a whole text
+-- a whole text: from the wording and back to it,
 pub whole-there : (m : Wording) → Written m → readText (textOf m) ≡ lines m []
 unfolding readText
-whole-there m ok = ap (λ l. atEnd (readSeven l)) (sym (append-nil′ (textOf m))) ∙ rw (text-there m [] ok)
-  where
-    append-nil′ : (l : List ℕ) → l ++ [] ≡ l
-    append-nil′ = mathlib.Core.List.append-nil
+whole-there m ok = ap (λ l. atEnd (readSeven l)) (sym (append-nil (textOf m))) ∙ rw (text-there m [] ok)
 
+-- and from the text and back to that
 pub whole-back : (s : List ℕ) (m : Wording) (x : List ℕ) → readText s ≡ lines m x → Written m × (s ≡ textOf m)
 unfolding readText
 whole-back s m x e = go (readSeven s) refl e
@@ -98,7 +111,7 @@ whole-back s m x e = go (readSeven s) refl e
     go (lines p []) f g =
         let eq : p ≡ m = cc in
         let b : Written p × (s ≡ textOf p ++ []) = text-back s p [] f in
-        let c : Written p × (s ≡ textOf p) = (b .0, b .1 ∙ mathlib.Core.List.append-nil (textOf p)) in
+        let c : Written p × (s ≡ textOf p) = (b .0, b .1 ∙ append-nil (textOf p)) in
         rw eq at c
     go (lines p (b ∷ y)) f g = let z : _≡_ {A = ℕ} 0 1 = cc in absurd (omega arith)
     go (badLine k) f g = let z : _≡_ {A = ℕ} 0 1 = cc in absurd (omega arith)
