@@ -45,13 +45,15 @@ reports-told t d (m ∷ ms) h e =
 
 -- ---- the script and its run
 
--- user 2 shows 4.1 with a = 3, shows 5 with a = 1, and acknowledges 9 and 2
+-- a request of user 2: operation, first reference, a and b
 abbrev asked : ℕ → List ℕ → ℕ → ℕ → Wording
 asked o r a b = record { user = 2; operation = o; first = r; second = []; a = a; b = b; c = 0 }
 
+-- show 4.1 with a = 3;
 abbrev opening : List Wording
 opening = asked 10 (4 ∷ 1 ∷ []) 3 0 ∷ []
 
+-- then show 5 with a = 1, and acknowledge 9 and 2
 abbrev pub threeAsked : List Wording
 threeAsked = opening ++ (asked 10 (5 ∷ []) 1 0 ∷ asked 20 [] 9 2 ∷ [])
 
@@ -59,6 +61,7 @@ threeAsked = opening ++ (asked 10 (5 ∷ []) 1 0 ∷ asked 20 [] 9 2 ∷ [])
 abbrev tells : ℕ → ℕ → ℕ → Report
 tells n h m = record { answer = n; held = h; missed = m }
 
+-- the reports of the three
 abbrev pub threeReports : List Report
 threeReports = tells 9 9 1 ∷ tells 15 9 2 ∷ tells 0 0 0 ∷ []
 
@@ -180,6 +183,7 @@ wrongReports =
     ∷ (tells 9 9 1 ∷ unread ∷ [])
     ∷ []
 
+-- each of these lists is rejected.
 pub reports-condemned : (i : ℕ) → i < length wrongReports → Answered s1Words (texts threeAsked) (getD wrongReports i []) → ⊥
 reports-condemned i h x = none-at threeReports wrongReports tt i h (answered-unique x three-answered)
 
@@ -197,13 +201,14 @@ damaged-bad x = refl
 abbrev pub damagedReports : List Report
 damagedReports = tells 9 9 1 ∷ unread ∷ []
 
+-- That is its run,
 pub damaged-answered : (x : List ℕ) → Answered s1Words (damagedScript x) damagedReports
 damaged-answered x =
     subst (λ rs. Answered s1Words (damagedScript x) (rs ++ (unread ∷ [])))
     (reports-told s1Words s1 opening s1Words-length s1Words-tables ∙ opening-told)
     (cut (texts-runs s1Words opening (85 ∷ x) (first-written, tt)) (damaged-bad x))
 
--- What such a script is not answered with:
+-- and these are not:
 abbrev pub wrongEnds : List (List Report)
 wrongEnds =
     -- the run went on behind 18, with the acknowledgement that may follow, or with 18 again (rule 12.4)
@@ -220,5 +225,6 @@ wrongEnds =
     ∷ (tells 9 9 1 ∷ tells 18 9 1 ∷ [])
     ∷ []
 
+-- each of them is rejected, whatever follows the letter.
 pub ends-condemned : (x : List ℕ) (i : ℕ) → i < length wrongEnds → Answered s1Words (damagedScript x) (getD wrongEnds i []) → ⊥
 ends-condemned x i h a = none-at damagedReports wrongEnds tt i h (answered-unique a (damaged-answered x))

@@ -8,8 +8,8 @@ use Rattle.model.specs.Script.Reports.{Report, output, report, unread}
 use Rattle.model.specs.Text.Wording.{Wording, badLine, lines, readSeven, sixteen, textOf}
 use Rattle.model.specs.Theorem.Statements.{afterWords}
 
--- Runs t s rs t′ s′: from the tables t on, the script s is answered with rs as far as s′, and then the tables are t′. A request's report is that of the
--- tables it finds, and the next request finds what it leaves.
+-- Runs t s rs t′ s′: from the tables t on, the script s is answered with rs as far as s′, and then the tables are t′. A request's report is that of
+-- the tables it finds, and the next request finds what it leaves.
 pub data Runs : List ℕ → List ℕ → List Report → List ℕ → List ℕ → Type 0 where
   stay : {t s : List ℕ} → Runs t s [] t s
   turn : {t s x t′ s′ : List ℕ} {m : Wording} {rs : List Report} → readSeven s ≡ lines m x → Runs (afterOf t (sixteen m)) x rs t′ s′

@@ -149,10 +149,11 @@ number-back (b ∷ s) n rest e =
     rw (digits-byte b d) at w))
     (λ h. let z : bad ≡ got n rest = rw h at e in let y : _≡_ {A = ℕ} 0 1 = cc in absurd (omega arith))
 
--- the first byte of a number is a digit
+-- a digit more behind leaves the first byte
 digits-longer : (n b : ℕ) (s : List ℕ) → 10 ≤ n → n ≤ most → digits (n / 10) ≡ b ∷ s → digits n ≡ b ∷ (s ++ ((zeroByte + n % 10) ∷ []))
 digits-longer n b s h l e = digits-step n h (omega arith) ∙ ap (λ d. d ++ ((zeroByte + n % 10) ∷ [])) e
 
+-- the first byte of a number is a digit
 pub digits-first : (n : ℕ) → n ≤ most → (b : ℕ) × (s : List ℕ) × (digits n ≡ b ∷ s) × (isDigit b ≡ true)
 digits-first n l = go digitCount n l (omega arith)
   where
