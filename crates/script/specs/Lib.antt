@@ -9,4 +9,4 @@ pub mod TurnLaws
 pub mod EndsLaws
 pub mod RunLaws
 pub mod GoingLaws
-pub mod Whole
+pub mod WholeLaws

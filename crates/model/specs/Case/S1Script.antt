@@ -16,8 +16,8 @@ use Rattle.model.specs.Request.Step.{afterOf}
 use Rattle.model.specs.Request.Words.{requestOf}
 use Rattle.model.specs.Script.ReportLaws.{report-told, told}
 use Rattle.model.specs.Script.Reports.{Report, output, report, reportText, untold}
-use Rattle.model.specs.Script.Runs.{Writes, stay, turn, whole}
-use Rattle.model.specs.Script.RunsLaws.{writes-unique}
+use Rattle.model.specs.Script.Runs.{Outputs, stay, turn, whole}
+use Rattle.model.specs.Script.RunsLaws.{outputs-unique}
 use Rattle.model.specs.Script.State.{bytesOf, stateOf}
 use Rattle.model.specs.Script.StateLaws.{state-bytes}
 use Rattle.model.specs.Text.Lines.{line, readLine}
@@ -107,7 +107,7 @@ unfolding output reportText line digits
 output-is = refl
 
 -- Rule 13: of S1 and this script the program writes these six lines,
-pub s1-script-writes : Writes s1Words s1Script s1Output
+pub s1-script-writes : Outputs s1Words s1Script s1Output
 s1-script-writes = record {
   reports = report s1Words (sixteen first) ∷ report (afterOf s1Words (sixteen first)) (sixteen second) ∷ [];
   answered = whole (turn first-read (turn second-read stay));
@@ -115,8 +115,8 @@ s1-script-writes = record {
 }
 
 -- and nothing else;
-pub s1-script-only : (o : List ℕ) → Writes s1Words s1Script o → o ≡ s1Output
-s1-script-only o w = writes-unique w s1-script-writes
+pub s1-script-only : (o : List ℕ) → Outputs s1Words s1Script o → o ≡ s1Output
+s1-script-only o w = outputs-unique w s1-script-writes
 
 -- ---- S1 as a file
 
@@ -138,8 +138,8 @@ pub s1-file : stateOf (bytesOf s1Words) ≡ s1Words
 s1-file = state-bytes s1Words s1Words-length (fitting-at s1Words s1Words-fitting)
 
 -- and so of the file with the bytes of S1.
-pub s1-file-writes : Writes (stateOf (bytesOf s1Words)) s1Script s1Output
-s1-file-writes = subst (λ t. Writes t s1Script s1Output) (sym s1-file) s1-script-writes
+pub s1-file-writes : Outputs (stateOf (bytesOf s1Words)) s1Script s1Output
+s1-file-writes = subst (λ t. Outputs t s1Script s1Output) (sym s1-file) s1-script-writes
 
-pub s1-file-only : (o : List ℕ) → Writes (stateOf (bytesOf s1Words)) s1Script o → o ≡ s1Output
-s1-file-only o w = writes-unique w s1-file-writes
+pub s1-file-only : (o : List ℕ) → Outputs (stateOf (bytesOf s1Words)) s1Script o → o ≡ s1Output
+s1-file-only o w = outputs-unique w s1-file-writes

@@ -21,7 +21,7 @@ pub data Answered (t s : List ℕ) : List Report → Type 0 where
   cut : {t′ x : List ℕ} {b k : ℕ} {rs : List Report} → Runs t s rs t′ (b ∷ x) → readSeven (b ∷ x) ≡ badLine k → Answered t s (rs ++ (unread ∷ []))
 
 -- Rule 12: what the program writes, o, of the tables t and the script s.
-pub record Writes (t s o : List ℕ) : Type 0 where
+pub record Outputs (t s o : List ℕ) : Type 0 where
   pub reports : List Report
   pub answered : Answered t s reports
   pub written : o ≡ output reports

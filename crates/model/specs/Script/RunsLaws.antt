@@ -7,7 +7,7 @@ use native.Mathlib.Omega.{arith}
 use lib.ListN.{getD, length, take}
 use Rattle.model.specs.Request.Step.{afterOf}
 use Rattle.model.specs.Script.Reports.{Report, output, report, unread}
-use Rattle.model.specs.Script.Runs.{Answered, Reported, Runs, Writes, cut, requests, stay, texts, turn, whole}
+use Rattle.model.specs.Script.Runs.{Answered, Reported, Runs, Outputs, cut, requests, stay, texts, turn, whole}
 use Rattle.model.specs.Text.Lines.{readLine}
 use Rattle.model.specs.Text.NearLaws.{read-longer, read-shorter}
 use Rattle.model.specs.Text.Wording.{Lines, Wording, badLine, lines, readSeven, sixteen, textOf}
@@ -116,17 +116,17 @@ pub answered-empty : {t : List ℕ} {rs : List Report} → Answered t [] rs → 
 answered-empty p = answered-unique p (whole stay)
 
 -- Rules 12 and 14.2: exactly one output fits tables and a script,
-pub writes-unique : {t s o o′ : List ℕ} → Writes t s o → Writes t s o′ → o ≡ o′
-writes-unique p q = p .written ∙ ap output (answered-unique (p .answered) (q .answered)) ∙ sym (q .written)
+pub outputs-unique : {t s o o′ : List ℕ} → Outputs t s o → Outputs t s o′ → o ≡ o′
+outputs-unique p q = p .written ∙ ap output (answered-unique (p .answered) (q .answered)) ∙ sym (q .written)
 
 -- and there is one;
-pub writes-some : (t s : List ℕ) → (o : List ℕ) × Writes t s o
-writes-some t s = let w = answered-some t s in (output (w .0), record { reports = w .0; answered = w .1; written = refl })
+pub outputs-some : (t s : List ℕ) → (o : List ℕ) × Outputs t s o
+outputs-some t s = let w = answered-some t s in (output (w .0), record { reports = w .0; answered = w .1; written = refl })
 
 -- of a script of no bytes it is nothing (rule 12.2).
-pub writes-empty : {t o : List ℕ} → Writes t [] o → o ≡ []
+pub outputs-empty : {t o : List ℕ} → Outputs t [] o → o ≡ []
 unfolding output
-writes-empty p = p .written ∙ ap output (answered-empty (p .answered))
+outputs-empty p = p .written ∙ ap output (answered-empty (p .answered))
 
 -- one request more in front
 reported-turn : {t s x t′ s′ : List ℕ} {m : Wording} {rs : List Report} → readSeven s ≡ lines m x → Reported (afterOf t (sixteen m)) x rs t′ s′

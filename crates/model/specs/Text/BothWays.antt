@@ -12,17 +12,18 @@ use Rattle.model.specs.Basics.Cases.{cases, lt-or-le, true-or-false}
 use Rattle.model.specs.Basics.TestLaws.{fails-false}
 use Rattle.model.specs.List.Listing.{roomShort}
 use Rattle.model.specs.Request.Words.{nameCount, requestOf, requestWords}
-use Rattle.model.specs.Text.Unfinished.{longest}
 use Rattle.model.specs.Text.CallLaws.{gives-reads, gives-short, gives-writes, reads-gives, write-fits, write-short, write-without, writes-gives}
 use Rattle.model.specs.Text.Given.{HasText, Small}
 use Rattle.model.specs.Text.GivenLaws.{gives-hasText, hasText-agrees, names-few}
 use Rattle.model.specs.Text.LineLaws.{length-line}
-use Rattle.model.specs.Text.Lines.{line, readLine}
+use Rattle.model.specs.Text.Lines.{line}
+use Rattle.model.specs.Text.NearLaws.{read-bad}
 use Rattle.model.specs.Text.NumberLaws.{length-most}
-use Rattle.model.specs.Text.Numbers.{Read, bad, digits, got, most, number}
+use Rattle.model.specs.Text.Numbers.{digits, most, number}
 use Rattle.model.specs.Text.Reading.{Reads, lineIn, readNumber}
-use Rattle.model.specs.Text.References.{dotted, joined, reference}
-use Rattle.model.specs.Text.Wording.{Lines, Wording, aKey, atEnd, bKey, badLine, cKey, lines, opKey, orLine, readSeven, readText, ref2Key}
+use Rattle.model.specs.Text.References.{dotted, joined}
+use Rattle.model.specs.Text.Unfinished.{longest}
+use Rattle.model.specs.Text.Wording.{Lines, Wording, aKey, atEnd, bKey, badLine, cKey, lines, opKey, readSeven, readText, ref2Key}
 use Rattle.model.specs.Text.Wording.{refKey, textOf, userKey, wordingOf}
 use Rattle.model.specs.Text.WordingLaws.{text-length}
 use Rattle.model.specs.Text.WordsLaws.{Textual, hasText-says}
@@ -136,29 +137,16 @@ write-number-small w =
         text-longest (wordingOf (requestOf w)) (names-few (requestOf w .first) (t .first-few)) (names-few (requestOf w .second) (t .second-few))
 
 -- the line of seven at which reading stops
-orLine-most : {A : Type 0} (k : ℕ) (r : Read A) (f : A → List ℕ → Lines) → k ≤ 7 → ((a : A) (x : List ℕ) → lineIn (f a x) ≤ 7)
-    → lineIn (orLine k r f) ≤ 7
-orLine-most k (got a x) f h g = g a x
-orLine-most k bad f h g = h
-
-seven-most : (s : List ℕ) → lineIn (readSeven s) ≤ 7
-unfolding readSeven
-seven-most s =
-    orLine-most 1 (readLine userKey number s) _ (omega arith) λ user s₁.
-    orLine-most 2 (readLine opKey number s₁) _ (omega arith) λ operation s₂.
-    orLine-most 3 (readLine refKey reference s₂) _ (omega arith) λ first s₃.
-    orLine-most 4 (readLine ref2Key reference s₃) _ (omega arith) λ second s₄.
-    orLine-most 5 (readLine aKey number s₄) _ (omega arith) λ a s₅.
-    orLine-most 6 (readLine bKey number s₅) _ (omega arith) λ b s₆.
-    orLine-most 7 (readLine cKey number s₆) _ (omega arith) λ c s₇.
-    omega arith
+seven-most : (s : List ℕ) (r : Lines) → readSeven s ≡ r → lineIn r ≤ 7
+seven-most s (lines m x) e = omega arith
+seven-most s (badLine k) e = read-bad s k e .1
 
 -- and the reader's is 8 at most.
 pub read-number-small : (s w : List ℕ) → readNumber s w ≤ 8
 unfolding readNumber readText
 read-number-small s w =
     cases (true-or-false (eqb (length w) requestWords))
-    (λ h. rw h (go (readSeven s) (seven-most s)))
+    (λ h. rw h (go (readSeven s) (seven-most s (readSeven s) refl)))
     (λ h. rw h (omega arith))
   where
     go : (r : Lines) → lineIn r ≤ 7 → lineIn (atEnd r) ≤ 8

@@ -39,12 +39,12 @@ module _ (w : List ℕ) (h : length w ≡ requestWords) (t : hasText (requestOf 
   write-counts = rw (eq-eqb (length w) requestWords h, t)
 
 -- The answer 0 says that the words are sixteen, that they have a text and that it has room.
-pub record Wrote (w : List ℕ) (n : ℕ) : Type 0 where
+pub record Put (w : List ℕ) (n : ℕ) : Type 0 where
   pub sixteen : length w ≡ requestWords
   pub text : hasText (requestOf w) ≡ true
   pub room : length (textOfWords w) ≤ n
 
-pub write-done : (w : List ℕ) (n : ℕ) → 0 ≡ writeAnswer w n → Wrote w n
+pub write-done : (w : List ℕ) (n : ℕ) → 0 ≡ writeAnswer w n → Put w n
 unfolding writeAnswer
 write-done w n e =
     cases (true-or-false (eqb (length w) requestWords))
@@ -82,7 +82,7 @@ gives-short {s} {w} {room} {r} {a} {k} g x l =
 -- What was written, as many bytes as the number says, is a text that gives the words.
 pub writes-gives : {w room r : List ℕ} {k : ℕ} → Small w → Writes w room 0 k r → Gives (take k r) w
 writes-gives {w} {room} {r} {k} s x =
-    let d : Wrote w (length room) = write-done w (length room) (x .answer) in
+    let d : Put w (length room) = write-done w (length room) (x .answer) in
     let n : length (textOfWords w) ≡ k = sym (x .number ∙ write-counts w (d .sixteen) (d .text)) in
     let e : take k r ≡ textOfWords w = ap (take k) (x .bytes) ∙ take-at (textOfWords w) (drop (length (textOfWords w)) room) k n in
     subst (λ (t : List ℕ). Gives t w) (sym e) (gives-own (d .sixteen) s (d .text))

@@ -33,7 +33,7 @@ abbrev pub spell : ℕ → ℕ → List ℕ → List ℕ
 spell zero n rest = rest
 spell (suc k) n rest = pick (ltb n 10) ((zeroByte + n) ∷ rest) (spell k (n / 10) ((zeroByte + n % 10) ∷ rest))
 
--- Rule 11.2: a number's digits, as bytes.
+-- Rule 11.2: the digits of a number that has at most ten, as bytes.
 unfoldable pub digits : ℕ → List ℕ
 digits n = spell digitCount n []
 

@@ -73,7 +73,8 @@ further-back (suc k) (b ∷ s) ns x e =
     (λ h. let z : got [] (b ∷ s) ≡ got ns x = rw h at e in
     let p : [] ≡ ns = cc in let q : b ∷ s ≡ x = cc in rw (← p) (omega arith, (tt, q)))
 
-reference-digit : (s : List ℕ) (b : ℕ) (t : List ℕ) → s ≡ b ∷ t → isDigit b ≡ true → reference s ≡ nameAnd 3 s
+-- where a digit stands first there is a name
+pub reference-digit : (s : List ℕ) (b : ℕ) (t : List ℕ) → s ≡ b ∷ t → isDigit b ≡ true → reference s ≡ nameAnd 3 s
 reference-digit s b t e d = rw (e, d)
 
 -- the names of a reference that is written are read again, in front of a line's end

@@ -13,9 +13,14 @@ use Rattle.model.specs.Text.LineLaws.{next-back}
 use Rattle.model.specs.Text.Lines.{behind, lineEnd, next, readLine}
 use Rattle.model.specs.Text.NumberLaws.{digit-of}
 use Rattle.model.specs.Text.Numbers.{Read, bad, digitCount, got, isDigit, more, most, number, zeroByte}
+use Rattle.model.specs.Text.ReferenceLaws.{reference-digit}
 use Rattle.model.specs.Text.References.{dotByte, further, nameAnd, reference}
-use Rattle.model.specs.Text.Unfinished.{extended}
-use Rattle.model.specs.Text.Wording.{Lines, aKey, bKey, cKey, opKey, orLine, readSeven, ref2Key, refKey, userKey}
+use Rattle.model.specs.Text.Wording.{Lines, aKey, bKey, badLine, cKey, lines, opKey, orLine, readSeven, ref2Key, refKey, userKey}
+
+-- what was read, with further bytes behind it
+abbrev pub extended : Lines → List ℕ → Lines
+extended (lines m u) x = lines m (u ++ x)
+extended (badLine k) x = badLine k
 
 -- the weight of some bytes
 abbrev pub weight : (ℕ → ℕ) → List ℕ → ℕ
@@ -100,10 +105,6 @@ takes-line f h key value v t = takes-next (takes-key f key) (λ _. tail) (omega 
     tail = takes-next t (λ a. end a) (omega arith) (omega arith) (omega arith)
 
 -- ---- numbers and references
-
--- where a digit stands, a reference is a name and further ones
-digit-named : (s : List ℕ) (b : ℕ) (t : List ℕ) → s ≡ b ∷ t → isDigit b ≡ true → reference s ≡ nameAnd 3 s
-digit-named s b t e d = rw (e, d)
 
 -- a number larger than this has room for k digits more at most
 abbrev limit : ℕ → ℕ
@@ -214,13 +215,13 @@ module _ (f : ℕ → ℕ) (d : ℕ) (digit : (b : ℕ) → isDigit b ≡ true �
         (λ h. inl (rw h))
       where
         on : isDigit b ≡ true → nameAnd 3 (b ∷ (s ++ x)) ≡ longer (nameAnd 3 (b ∷ s)) x → reference (b ∷ (s ++ x)) ≡ longer (reference (b ∷ s)) x
-        on h c = digit-named (b ∷ (s ++ x)) b (s ++ x) refl h ∙ c ∙ ap (λ r. longer r x) (sym (digit-named (b ∷ s) b s refl h))
+        on h c = reference-digit (b ∷ (s ++ x)) b (s ++ x) refl h ∙ c ∙ ap (λ r. longer r x) (sym (reference-digit (b ∷ s) b s refl h))
 
     reference-uses : (s ns u : List ℕ) → reference s ≡ got ns u → weight f s ≤ four + weight f u
     reference-uses [] ns u e = omega arith
     reference-uses (b ∷ s) ns u e =
         cases (true-or-false (isDigit b))
-        (λ h. takes-nameAnd 3 (takes-further 3) .uses (b ∷ s) ns u (sym (digit-named (b ∷ s) b s refl h) ∙ e))
+        (λ h. takes-nameAnd 3 (takes-further 3) .uses (b ∷ s) ns u (sym (reference-digit (b ∷ s) b s refl h) ∙ e))
         (λ h. let y : got [] (b ∷ s) ≡ got ns u = rw h at e in let q : b ∷ s ≡ u = cc in rw (← q) (omega arith))
 
     takes-reference : Takes f reference (suc four) four

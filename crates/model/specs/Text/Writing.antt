@@ -11,7 +11,7 @@ use Rattle.model.specs.Request.Ladder.{namesFit}
 use Rattle.model.specs.Request.Words.{Request, nameCount, requestOf, requestWords}
 use Rattle.model.specs.Text.Wording.{textOf, wordingOf}
 
--- The refusals of the writer beside 17 (rules 7.1 and 7.5).
+-- Rule 11.3: the refusals of the writer beside 17. Its 5 is no refusal of a step, and leaves no notice.
 abbrev pub wrongSize : ℕ
 wrongSize = 1
 

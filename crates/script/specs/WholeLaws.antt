@@ -12,7 +12,7 @@ use lib.Seq.{take-at}
 use borrow.Author.Tests.{eqb-false, eqb-true}
 use Rattle.model.specs.Basics.Cases.{cases, true-or-false}
 use Rattle.model.specs.Script.Reports.{Report, output}
-use Rattle.model.specs.Script.Runs.{Answered, Runs, Writes, stay, turn}
+use Rattle.model.specs.Script.Runs.{Answered, Runs, Outputs, stay, turn}
 use Rattle.model.specs.Script.WindowLaws.{fed-answered, ran-runs}
 use Rattle.model.specs.Script.Windows.{Fed, done, ran}
 use Rattle.model.specs.Text.NearLaws.{read-shorter}
@@ -51,7 +51,7 @@ module _ {t s room : List ℕ} {r : Ran} {u out : List ℕ} (x : RunsOn t s true
       (λ e. inl (eqb-false (ran t s true (length room) .line) 0 e))
 
   -- Rule 12: the reports in the room are the whole output of the script.
-  pub run-writes : (r .place .line ≢ 0) ⊎ (r .place .at ≡ length s) → Writes t s (take (r .bytes) out)
+  pub run-writes : (r .place .line ≢ 0) ⊎ (r .place .at ≡ length s) → Outputs t s (take (r .bytes) out)
   run-writes h =
       let f : Fed (length room) t s [] (ran t s true (length room) .reports) = done (at-end h) in
       record {
