@@ -2,8 +2,11 @@
 // is decided by the functions of `script`; here bytes are moved.
 use libc::STDIN_FILENO;
 use libc::STDOUT_FILENO;
-ghost use Prim.Native.Nat.{_≤_};
-ghost use lib.ListN.{length};
+ghost use mathlib.Core.Bool.{true};
+ghost use mathlib.Core.Path.{_≡_};
+ghost use Prim.Native.Nat.{_<_, _≤_};
+ghost use lib.ListN.{length, take};
+ghost use Rattle.model.specs.Text.Unfinished.{longest};
 
 // The bytes of the state file at the front of the room, and how many there are: none where there is no such file, or it cannot be read.
 fn read_state(room: &mut [u8]) -> usize
@@ -18,21 +21,36 @@ fn read_state(room: &mut [u8]) -> usize
     n
 }
 
-// Reads once behind the first len bytes of the window, if more are wanted, and answers how many bytes there are then.
+// Reads once behind the first len bytes of the window, if more are wanted, and answers how many bytes there are then. Those that wait in the
+// window stay. A read that fails is told, and brings nothing.
 fn fetch(window: &mut [u8], len: usize, wanted: bool) -> usize
-    requires { ⌜ len ≤ length (now window) ⌝ }
-    ensures { λ r. ⌜ (len ≤ r) × (r ≤ length (now (window .entry))) ⌝ }
+    requires { ⌜ (len ≤ length (now window)) × (wanted ≡ true → len < length (now window)) ⌝ }
+    ensures { λ r. ⌜ (len ≤ r) × (r ≤ length (now (window .entry))) × (take len (now (window .exit)) ≡ take len (now (window .entry))) ⌝ }
 {
     if !wanted {
         return len;
     }
     let got = libc::read(STDIN_FILENO, &mut window[len..]);
+    if got < 0 {
+        os::fail(b"standard input");
+    }
     len + io::count(got, &window[len..])
+}
+
+// Writes reports, or tells that they cannot be written.
+fn put(reports: &[u8]) -> bool {
+    if io::write_all(STDOUT_FILENO, reports) {
+        return true;
+    }
+    os::fail(b"standard output");
+    false
 }
 
 // Runs what arrives of the script, piece by piece, and writes the reports of each piece before it asks for the next. A loop must be seen to
 // end, and nothing says that input does: so it counts down from a number that no script uses up.
-fn serve(tables: &mut [u32], window: &mut [u8], out: &mut [u8]) {
+fn serve(tables: &mut [u32], window: &mut [u8], out: &mut [u8])
+    requires { ⌜ longest < length (now window) ⌝ }
+{
     let mut turns = u64::MAX;
     let mut len: usize = 0;
     let mut wanted = true;
@@ -41,7 +59,7 @@ fn serve(tables: &mut [u32], window: &mut [u8], out: &mut [u8]) {
         let filled = fetch(window, len, wanted);
         last = last | wanted & (filled == len);
         let r = script::runs::run(tables, &window[..filled], last, out);
-        if !io::write_all(STDOUT_FILENO, &out[..r.bytes]) {
+        if !put(&out[..r.bytes]) {
             return;
         }
         let place = r.place;

@@ -1,21 +1,23 @@
 -- What the run of a window says of a whole script. It has one result; and where nothing is left and nothing follows, or a request could not be
 -- read, the bytes that it put into the room are what the program must write.
-use mathlib.Core.Bool.{Bool, true}
+use mathlib.Core.Bool.{Bool, _&&_, false, true}
 use mathlib.Core.List.{List, [], _∷_, append-nil}
 use mathlib.Core.Logic.{_⊎_, _≢_, inl, inr}
 use mathlib.Core.Path.{_∙_, _≡_, ap, refl, subst, sym}
-use Prim.Native.Nat.{_-_, _≤_, ℕ}
+use Prim.Native.Nat.{_-_, _<_, _≤_, ℕ}
 use native.Mathlib.Omega.{arith}
-use lib.Dec.{eqb}
+use lib.Dec.{eqb, ltb}
 use lib.ListN.{length, take}
 use lib.Seq.{take-at}
-use borrow.Author.Tests.{eqb-false, eqb-true}
+use borrow.Author.Tests.{eqb-false, eqb-true, ltb-true}
+use Rattle.lines.specs.OntoLaws.{empty}
 use Rattle.model.specs.Basics.Cases.{cases, true-or-false}
 use Rattle.model.specs.Script.Reports.{Report, output}
-use Rattle.model.specs.Script.Runs.{Answered, Runs, Outputs, stay, turn}
-use Rattle.model.specs.Script.WindowLaws.{fed-answered, ran-runs}
-use Rattle.model.specs.Script.Windows.{Fed, done, ran}
-use Rattle.model.specs.Text.NearLaws.{read-shorter}
+use Rattle.model.specs.Script.Runs.{Answered, Outputs}
+use Rattle.model.specs.Script.RunsLaws.{runs-shorter}
+use Rattle.model.specs.Script.WindowLaws.{fed-answered, ran-rest-short, ran-runs}
+use Rattle.model.specs.Script.Windows.{Fed, done, ran, reportBytes}
+use Rattle.model.specs.Text.Unfinished.{ends, lineTotal, longest, unfinished}
 use Rattle.script.specs.Running.{RunsOn}
 use Rattle.script.specs.declared.runs.Ran.{Ran}
 use Rattle.script.specs.declared.turns.Place.{Place}
@@ -28,14 +30,14 @@ runs-unique t s last room r q u v out to x y =
     let b : r .bytes ≡ q .bytes = x .wrote .many ∙ sym (y .wrote .many) in
     (λ i. record { place = p i; bytes = b i }, x .tables ∙ sym (y .tables), x .wrote .now-is ∙ sym (y .wrote .now-is))
 
--- what a run leaves is no longer than what it had
-runs-left : {t s u x : List ℕ} {rs : List Report} → Runs t s rs u x → length x ≤ length s
-runs-left stay = omega arith
-runs-left (turn {s = s} {x = x} {m = m} e f) = omega (arith, read-shorter s m x e, runs-left f)
-
-none-left : (l : List ℕ) → length l ≡ 0 → l ≡ []
-none-left [] e = refl
-none-left (b ∷ l) e = absurd (omega arith)
+-- what is waited on is short
+unfinished-few : (s : List ℕ) → unfinished s ≡ true → length s < longest
+unfolding unfinished
+unfinished-few s e = go (ltb (length s) longest) refl e
+  where
+    go : (b : Bool) → ltb (length s) longest ≡ b → (b && ltb (ends s) lineTotal) ≡ true → length s < longest
+    go true q h = ltb-true (length s) longest q
+    go false q h = let y : _≡_ {A = ℕ} 0 1 = cc in absurd (omega arith)
 
 module _ {t s room : List ℕ} {r : Ran} {u out : List ℕ} (x : RunsOn t s true room r u out) where
   -- where nothing is left of the window, nothing is left of the model's
@@ -43,10 +45,10 @@ module _ {t s room : List ℕ} {r : Ran} {u out : List ℕ} (x : RunsOn t s true
   at-end (inl h) = inl (λ e. h (ap (λ (p : Place). p .line) (x .place) ∙ e))
   at-end (inr h) =
       cases (true-or-false (eqb (ran t s true (length room) .line) 0))
-      (λ e. inr (none-left (ran t s true (length room) .rest) (omega (
+      (λ e. inr (empty (ran t s true (length room) .rest) (omega (
         arith,
         ap (λ (p : Place). p .at) (x .place),
-        runs-left (ran-runs t s true (length room) .good (eqb-true (ran t s true (length room) .line) 0 e)),
+        runs-shorter (ran-runs t s true (length room) .good (eqb-true (ran t s true (length room) .line) 0 e)),
       ))))
       (λ e. inl (eqb-false (ran t s true (length room) .line) 0 e))
 
@@ -59,3 +61,15 @@ module _ {t s room : List ℕ} {r : Ran} {u out : List ℕ} (x : RunsOn t s true
         answered = subst (λ (l : List ℕ). Answered t l (ran t s true (length room) .reports)) (append-nil s) (fed-answered f);
         written = rw (x .wrote .now-is, x .wrote .many) (take-at (output (ran t s true (length room) .reports)) _ _ refl);
       }
+
+-- Rule 12.4: where a run had room for another report and is not over, fewer bytes are left than the longest request has.
+pub kept-short : {t s : List ℕ} {last : Bool} {room : List ℕ} {r : Ran} {u out : List ℕ} → RunsOn t s last room r u out
+    → r .place .line ≡ 0 → reportBytes ≤ length room - r .bytes → length s - r .place .at < longest
+kept-short {t} {s} {last} {room} {r} x z h =
+    let n = ran t s last (length room) in
+    let at : r .place .at ≡ length s - length (n .rest) = ap (λ (p : Place). p .at) (x .place) in
+    let line : n .line ≡ 0 = sym (ap (λ (p : Place). p .line) (x .place)) ∙ z in
+    let left = runs-shorter (ran-runs t s last (length room) .good line) in
+    cases (ran-rest-short t s last (length room) line (omega (arith, x .wrote .many)))
+    (λ e. let l : length (n .rest) ≡ 0 = ap length e in omega arith)
+    (λ e. let l : length (n .rest) < longest = unfinished-few (n .rest) (e .1) in omega arith)

@@ -28,7 +28,7 @@ pub fn bare(answer: u32) -> Report
     }
 }
 
-// The report of an answer and of what user u holds in the tables.
+// The report of an answer and of what a user holds in the tables.
 fn full(tables: &[u32], user: u32, answer: u32) -> Report
     requires { ⌜ UserIn (now tables) user ⌝ }
     ensures { λ r. ⌜ r ≡ record { answer = answer; held = tablesOf (now (tables .entry)) .user user held; missed = tablesOf (now (tables .entry)) .user user missed } ⌝ }

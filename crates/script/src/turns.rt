@@ -43,7 +43,8 @@ fn settled(tables: &mut [u32], words: &[u32], next: usize) -> Turned
     }
 }
 
-// The turn by value: the next seven lines of the script are read, and the step answers them.
+// The turn by value: the next seven lines of the script are read, and the step answers them. Whoever calls it has seen that there are bytes
+// left and that no request before could not be read: of these two it asks nothing, and reads from the index on.
 pub fn turn_at(tables: &mut [u32], script: &[u8], p: Place) -> Turned
     requires { ⌜ p .at ≤ length (now script) ⌝ }
     ensures { λ r. ⌜ (r ≡ turnedOf (now (tables .entry)) (now (script .entry)) p) × (now (tables .exit) ≡ leftOf (now (tables .entry)) (now (script .entry)) p) ⌝ }

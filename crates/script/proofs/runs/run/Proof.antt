@@ -46,16 +46,16 @@ same-length-4 : tie.Need-same-length-4 Inv-loop μ-loop
 same-length-4 c = c .before .before .halt .kept .1 .1 .0 ∙ going-length (c .before .before .before .before .before .before .before .before .before .before .before .before .before .loop .inv .0)
 
 returns-2 : tie.Need-returns-2 Inv-loop μ-loop
-returns-2 c = going-halt (c .before .before .before .before .before .before .before .before .before .before .before .before .before .loop .inv .0) _ _ _ _ (c .before .before .before .before .before .before .before .before .before .before .before .before .loop-test .taken) (omega (arith, going-length (c .before .before .before .before .before .before .before .before .before .before .before .before .before .loop .inv .0), c .before .before .before .before .before .before .before .before .before .before .before .if1 .left)) (c .before .before .before .before .before .before .before .before .before .one-turn .ensures .0) (c .before .before .before .before .before .before .before .before .before .one-turn .ensures .1) (c .before .before .before .before .if2 .taken) (c .before .before .halt .ensures)
+returns-2 c = going-halt (c .before .before .before .before .before .before .before .before .before .before .before .before .before .loop .inv .0) _ _ _ _ (c .before .before .before .before .before .before .before .before .before .before .before .before .loop-test .taken) (omega (arith, going-length (c .before .before .before .before .before .before .before .before .before .before .before .before .before .loop .inv .0), c .before .before .before .before .before .before .before .before .before .before .before .if1 .left)) (c .before .before .before .before .before .before .before .before .before .one-turn .ensures .0) (c .before .before .before .before .before .before .before .before .before .one-turn .ensures .1) (λ e. omega (arith, c .before .before .before .before .if2 .taken)) (c .before .before .halt .ensures)
 
 put-report-requires : tie.Need-put-report-requires Inv-loop μ-loop
 put-report-requires c κs = omega (arith, going-length (c .before .before .before .before .before .before .before .before .before .before .before .loop .inv .0), c .before .before .before .before .before .before .before .before .before .before .before .loop .inv .0 .fits, c .before .before .before .before .before .before .before .before .before .if1 .left)
 
 loop-less : tie.Need-loop-less Inv-loop μ-loop
-loop-less c = let f = turn-further (c .before .before .before .before .before .before .before .before .before .before .before .before .before .before .loop .inv .0) _ (c .before .before .before .before .before .before .before .before .before .before .one-turn .ensures .0) (c .before .before .before .before .before .if2 .left) in omega (arith, f .0, f .1)
+loop-less c = let f = turn-further (c .before .before .before .before .before .before .before .before .before .before .before .before .before .before .loop .inv .0) _ (c .before .before .before .before .before .before .before .before .before .before .one-turn .ensures .0) (omega (arith, c .before .before .before .before .before .if2 .left)) in omega (arith, f .0, f .1)
 
 loop-again : tie.Need-loop-again Inv-loop μ-loop
-loop-again c = (going-turn (c .before .before .before .before .before .before .before .before .before .before .before .before .before .before .loop .inv .0) _ _ _ _ (c .before .before .before .before .before .before .before .before .before .before .before .before .before .loop-test .taken) (omega (arith, going-length (c .before .before .before .before .before .before .before .before .before .before .before .before .before .before .loop .inv .0), c .before .before .before .before .before .before .before .before .before .before .before .before .if1 .left)) (c .before .before .before .before .before .before .before .before .before .before .one-turn .ensures .0) (c .before .before .before .before .before .before .before .before .before .before .one-turn .ensures .1) (c .before .before .before .before .before .if2 .left) (c .before .before .put-report .ensures), c .before .before .before .before .before .before .before .before .before .before .one-turn .kept .0 ∙ c .before .before .before .before .before .before .before .before .before .before .before .before .before .before .loop .inv .1)
+loop-again c = (going-turn (c .before .before .before .before .before .before .before .before .before .before .before .before .before .before .loop .inv .0) _ _ _ _ (c .before .before .before .before .before .before .before .before .before .before .before .before .before .loop-test .taken) (omega (arith, going-length (c .before .before .before .before .before .before .before .before .before .before .before .before .before .before .loop .inv .0), c .before .before .before .before .before .before .before .before .before .before .before .before .if1 .left)) (c .before .before .before .before .before .before .before .before .before .before .one-turn .ensures .0) (c .before .before .before .before .before .before .before .before .before .before .one-turn .ensures .1) (omega (arith, c .before .before .before .before .before .if2 .left)) (c .before .before .put-report .ensures), c .before .before .before .before .before .before .before .before .before .before .one-turn .kept .0 ∙ c .before .before .before .before .before .before .before .before .before .before .before .before .before .before .loop .inv .1)
 
 same-length-5 : tie.Need-same-length-5 Inv-loop μ-loop
 same-length-5 c = c .before .loop .inv .1
