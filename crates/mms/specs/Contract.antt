@@ -38,11 +38,6 @@ Writing w room a r = Writes w room (a .no) (a .number) r
 abbrev pub exported : Answer → ℕ
 exported a = a .no * 4294967296 + a .number
 
--- The step for C.
-pub record Exporting (t q : List ℕ) (a : ℕ) (r : List ℕ) : Type 0 where
-  pub answer : a ≡ exported (stepping t q)
-  pub words : r ≡ afterOf t q
-
 -- A call that promises P of its answer and of what stands afterwards in the slice that it writes, for C: the answer comes in one word.
 pub record Exports (P : Answer → List ℕ → Type 0) (a : ℕ) (r : List ℕ) : Type 0 where
   pub answer : Answer

@@ -5,7 +5,7 @@ use mathlib.Core.Path.{_∙_, _≡_, ap, sym}
 use Prim.Native.Nat.{_%_, _*_, _+_, _/_, _<_, ℕ}
 use native.Mathlib.Omega.{arith}
 use lib.ListN.{length}
-use Rattle.mms.specs.Contract.{Exporting, Exports, Listing, Reading, Stepping, Writing, checking, exported}
+use Rattle.mms.specs.Contract.{Exports, Listing, Reading, Stepping, Writing, checking, exported}
 use Rattle.mms.specs.declared.Answer.{Answer}
 use Rattle.model.specs.List.Complete.{Complete}
 use Rattle.model.specs.List.Listing.{barred, listAnswer, listNumber, opens, roomAfter}
@@ -62,10 +62,6 @@ exported-unique a b h k e =
     let m : a .number ≡ b .number = omega arith in
     λ i. record { no = n i; number = m i }
 
--- The step for C has one answer, and leaves one list of words.
-pub exported-step-unique : (t q : List ℕ) (a b : ℕ) (r s : List ℕ) → Exporting t q a r → Exporting t q b s → (a ≡ b) × (r ≡ s)
-exported-step-unique t q a b r s x y = (x .answer ∙ sym (y .answer), x .words ∙ sym (y .words))
-
 -- Whatever has one answer and leaves one slice has them for C too,
 pub exports-unique : (P : Answer → List ℕ → Type 0) → ((a b : Answer) (r s : List ℕ) → P a r → P b s → (a ≡ b) × (r ≡ s))
     → (a b : ℕ) (r s : List ℕ) → Exports P a r → Exports P b s → (a ≡ b) × (r ≡ s)
@@ -81,7 +77,11 @@ exports-parts P small a r x =
     let w : a ≡ x .answer .no * 4294967296 + x .answer .number = x .word in
     (omega arith, omega arith)
 
--- So it is with the list,
+-- So it is with the step,
+pub exported-step-unique : (t q : List ℕ) (a b : ℕ) (r s : List ℕ) → Exports (Stepping t q) a r → Exports (Stepping t q) b s → (a ≡ b) × (r ≡ s)
+exported-step-unique t q = exports-unique (Stepping t q) (step-unique t q)
+
+-- with the list,
 pub exported-list-unique : (t : List ℕ) (u : ℕ) (room : List ℕ) (a b : ℕ) (r s : List ℕ) → Exports (Listing t u room) a r → Exports (Listing t u room) b s
     → (a ≡ b) × (r ≡ s)
 exported-list-unique t u room = exports-unique (Listing t u room) (list-unique t u room)

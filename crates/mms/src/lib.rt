@@ -1,7 +1,7 @@
 // The desk's public calls, and their C exports. Each takes any words or bytes, and none asks anything of them. An answer is a pair: document
 // 01's number, and a count, a need or a line that goes with some of them, which is 0 for the check and the step.
 ghost use mathlib.Core.Path.{_≡_};
-ghost use Rattle.mms.specs.Contract.{Exporting, Exports, Listing, Reading, Stepping, Writing, checking, exported};
+ghost use Rattle.mms.specs.Contract.{Exports, Listing, Reading, Stepping, Writing, checking, exported};
 
 pub struct Answer {
     pub no: u32,
@@ -79,7 +79,7 @@ pub extern "C" fn mms_check(tables: &[u32]) -> u64
 // `step` for C.
 #[no_mangle]
 pub extern "C" fn mms_step(tables: &mut [u32], request: &[u32]) -> u64
-    ensures { λ r. ⌜ Exporting (now (tables .entry)) (now (request .entry)) r (now (tables .exit)) ⌝ }
+    ensures { λ r. ⌜ Exports (Stepping (now (tables .entry)) (now (request .entry))) r (now (tables .exit)) ⌝ }
 {
     let a = step(tables, request);
     packed(a.no, a.number)

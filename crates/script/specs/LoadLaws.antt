@@ -2,14 +2,13 @@
 use mathlib.Core.List.{List, [], _++_, _∷_}
 use mathlib.Core.Path.{_∙_, _≡_, ap, refl, subst, sym}
 use Prim.Native.Nat.{_+_, _<_, suc, zero, ℕ}
-use native.Mathlib.Omega.{arith}
 use native.Mathlib.Numerals.{add-one}
-use lib.ListN.{length, length-set, set, take}
-use lib.Seq.{getD-set-same, take-set-le, take-suc}
+use lib.ListN.{length, set, take}
 use borrow.Author.Tests.{eq-eqb, ne-eqb}
 use Rattle.model.specs.Script.State.{fileBytes, stateOf, wordIn}
 use Rattle.model.specs.Tables.Layout.{wordCount}
 use Rattle.model.specs.Tables.WordsOf.{firstValues}
+use Rattle.script.specs.MoveLaws.{store-next}
 
 -- one value more
 values-more : (n : ℕ) (g : ℕ → ℕ) → firstValues (suc n) g ≡ firstValues n g ++ (g n ∷ [])
@@ -25,11 +24,7 @@ filled-none g = refl
 -- the first i words are filled, and now word i is
 pub filled-more : (r : List ℕ) (g : ℕ → ℕ) (i v : ℕ) → i < length r → take i r ≡ firstValues i g → v ≡ g i
     → take (i + 1) (set r i v) ≡ firstValues (i + 1) g
-filled-more r g i v h e q =
-    let z : i + 0 ≡ i = omega arith in
-    let kept : take i (set r i v) ≡ take i r = ap (λ (j : ℕ). take i (set r j v)) (sym z) ∙ take-set-le i r (i + 0) v (omega arith) in
-    rw (add-one i) (take-suc (set r i v) i 0 (rw (length-set r i v) h)
-    ∙ rw (kept, getD-set-same r i v 0 h, e, q) (sym (values-more i g)))
+filled-more r g i v h e q = store-next r i v h ∙ rw (e, q, add-one i) (sym (values-more i g))
 
 -- all words are filled
 pub filled-all : (s r : List ℕ) (i : ℕ) → length s ≡ fileBytes → i ≡ wordCount → take i r ≡ firstValues i (wordIn s) → take wordCount r ≡ stateOf s

@@ -1,5 +1,5 @@
 -- Bytes moved to the front of a buffer, one by one.
-use mathlib.Core.List.{List, [], _∷_}
+use mathlib.Core.List.{List, [], _++_, _∷_}
 use mathlib.Core.Logic.{_≢_}
 use mathlib.Core.Path.{_∙_, _≡_, ap, refl, sym}
 use Prim.Native.Nat.{_+_, _-_, _<_, _≤_, suc, zero, ℕ}
@@ -8,13 +8,16 @@ use native.Mathlib.Numerals.{add-one}
 use lib.ListN.{drop, getD, length, length-drop, length-set, set, take}
 use lib.Seq.{getD-drop, getD-set-other, getD-set-same, take-set-le, take-suc}
 
--- the front of r is that of d, and one element more
-pub front-more : (r d : List ℕ) (i v : ℕ) → i < length r → i < length d → take i r ≡ take i d → v ≡ getD d i 0 → take (i + 1) (set r i v) ≡ take (i + 1) d
-front-more r d i v h l e q =
+-- a store behind the first i elements is one element more
+pub store-next : (r : List ℕ) (i v : ℕ) → i < length r → take (i + 1) (set r i v) ≡ take i r ++ (v ∷ [])
+store-next r i v h =
     let z : i + 0 ≡ i = omega arith in
     let kept : take i (set r i v) ≡ take i r = ap (λ (j : ℕ). take i (set r j v)) (sym z) ∙ take-set-le i r (i + 0) v (omega arith) in
-    rw (add-one i) (take-suc (set r i v) i 0 (rw (length-set r i v) h)
-    ∙ rw (kept, getD-set-same r i v 0 h, e, q) (sym (take-suc d i 0 l)))
+    rw (add-one i) (take-suc (set r i v) i 0 (rw (length-set r i v) h) ∙ rw (kept, getD-set-same r i v 0 h) refl)
+
+-- the front of r is that of d, and one element more
+front-more : (r d : List ℕ) (i v : ℕ) → i < length r → i < length d → take i r ≡ take i d → v ≡ getD d i 0 → take (i + 1) (set r i v) ≡ take (i + 1) d
+front-more r d i v h l e q = store-next r i v h ∙ rw (e, q, add-one i) (sym (take-suc d i 0 l))
 
 take-none : (n : ℕ) → [] ≡ take {A = ℕ} n []
 take-none zero = refl

@@ -1,7 +1,7 @@
 -- What the run of a window says of a whole script. It has one result; and where nothing is left and nothing follows, or a request could not be
 -- read, the bytes that it put into the room are what the program must write.
 use mathlib.Core.Bool.{Bool, _&&_, false, true}
-use mathlib.Core.List.{List, [], _∷_, append-nil}
+use mathlib.Core.List.{List, [], append-nil}
 use mathlib.Core.Logic.{_⊎_, _≢_, inl, inr}
 use mathlib.Core.Path.{_∙_, _≡_, ap, refl, subst, sym}
 use Prim.Native.Nat.{_-_, _<_, _≤_, ℕ}
@@ -12,7 +12,7 @@ use lib.Seq.{take-at}
 use borrow.Author.Tests.{eqb-false, eqb-true, ltb-true}
 use Rattle.lines.specs.OntoLaws.{empty}
 use Rattle.model.specs.Basics.Cases.{cases, true-or-false}
-use Rattle.model.specs.Script.Reports.{Report, output}
+use Rattle.model.specs.Script.Reports.{output}
 use Rattle.model.specs.Script.Runs.{Answered, Outputs}
 use Rattle.model.specs.Script.RunsLaws.{runs-shorter}
 use Rattle.model.specs.Script.WindowLaws.{fed-answered, ran-rest-short, ran-runs}
