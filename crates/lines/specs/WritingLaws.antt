@@ -1,13 +1,12 @@
 -- The laws of writing a number and a line, in the steps in which code writes them.
-use mathlib.Core.List.{List, [], _++_, _∷_, append-assoc, append-nil}
-use mathlib.Core.Path.{_∙_, _≡_, ap, refl, subst, sym}
-use Prim.Native.Nat.{_%_, _+_, _-_, _/_, _<_, _≤_, suc, ℕ}
+use mathlib.Core.List.{List, [], _++_, _∷_, append-assoc}
+use mathlib.Core.Path.{_≡_, refl}
+use Prim.Native.Nat.{_%_, _*_, _+_, _-_, _/_, _<_, _≤_, ℕ}
 use native.Mathlib.Omega.{arith}
-use lib.ListN.{drop, getD, length, length-append, set, take, take-append-drop}
-use lib.Seq.{length-take-le, set-at, take-suc}
+use lib.ListN.{drop, length, set, take}
+use Rattle.lines.specs.Four.{four}
 use Rattle.lines.specs.Onto.{Wrote}
-use Rattle.lines.specs.OntoLaws.{empty, wrote-behind, wrote-byte, wrote-length}
-use Rattle.model.specs.Basics.Cases.{cases, lt-or-le}
+use Rattle.lines.specs.OntoLaws.{wrote-behind, wrote-byte, wrote-length, wrote-none}
 use Rattle.model.specs.Text.LineLaws.{is-line, length-line}
 use Rattle.model.specs.Text.Lines.{line, lineEnd}
 use Rattle.model.specs.Text.NumberLaws.{digits-small, digits-step, length-small, length-step}
@@ -39,86 +38,120 @@ length-more n h l =
     let s : length (digits (n / 100 / 100)) + 2 ≡ length (digits (n / 100)) = length-hundred (n / 100) (omega arith) (omega arith) in
     omega (arith, rw e at s, length-hundred n (omega arith) l)
 
--- ---- a number, written from its last digit to its first
+-- ---- the digits of a number, by its quotients
 
--- While v is written into the room d, which is now e: the digits behind index i stand there, and those before it are the digits of what is left.
-pub record Ending (d : List ℕ) (v i rest : ℕ) (e : List ℕ) : Type 0 where
-  pub front : List ℕ
-  pub tail : List ℕ
-  pub whole : digits v ≡ front ++ tail
-  pub at : i ≡ length front
-  pub left : 0 < i → front ≡ digits rest
-  pub small : rest ≤ v
-  pub now-is : e ≡ take i d ++ (tail ++ drop (length (digits v)) d)
+-- the last one, and those before it
+digits-last : (n : ℕ) → 10 ≤ n → n < 10000000000 → digits n ≡ digits (n / 10) ++ ((zeroByte + (n - n / 10 * 10)) ∷ [])
+digits-last n h l =
+    let e : n % 10 ≡ n - n / 10 * 10 = omega arith in
+    rw (digits-step n h l, e)
 
--- a number's last digit, and those before it
-record Last (n : ℕ) : Type 0 where
-  before : List ℕ
-  digits-are : digits n ≡ before ++ ((zeroByte + n % 10) ∷ [])
-  tenth : 0 < length before → before ≡ digits (n / 10)
+-- two, three and four digits
+digits-two : (n : ℕ) → 10 ≤ n → n < 100 → digits n ≡ (zeroByte + n / 10) ∷ (zeroByte + (n - n / 10 * 10)) ∷ []
+digits-two n h l = rw (digits-last n h (omega arith), digits-small (n / 10) (omega arith))
 
-last-digit : (n : ℕ) → n < 10000000000 → Last n
-last-digit n l =
-    cases (lt-or-le n 10)
-    (λ h. let e : n % 10 ≡ n = omega arith in record { before = []; digits-are = rw e (digits-small n h); tenth = λ g. absurd (omega arith) })
-    (λ h. record { before = digits (n / 10); digits-are = digits-step n h l; tenth = λ g. refl })
+digits-three : (n : ℕ) → 100 ≤ n → n < 1000
+    → digits n ≡ (zeroByte + n / 100) ∷ (zeroByte + (n / 10 - n / 100 * 10)) ∷ (zeroByte + (n - n / 10 * 10)) ∷ []
+digits-three n h l =
+    let e : n / 10 / 10 ≡ n / 100 = omega arith in
+    rw (digits-last n (omega arith) (omega arith), digits-two (n / 10) (omega arith) (omega arith), e)
 
--- the byte before some others that stand behind index j
-set-before : (d x : List ℕ) (j b : ℕ) → j < length d → set (take (suc j) d ++ x) j b ≡ take j d ++ (b ∷ x)
-set-before d x j b h =
-    rw (take-suc d j 0 h, append-assoc (take j d) (getD d j 0 ∷ []) x, set-at (take j d) (getD d j 0) x b j (length-take-le j d (omega arith)))
+pub digits-four : (n : ℕ) → 1000 ≤ n → n < 10000 → digits n ≡ four n
+unfolding four
+digits-four n h l =
+    let e : n / 10 / 10 ≡ n / 100 = omega arith in
+    let f : n / 10 / 100 ≡ n / 1000 = omega arith in
+    let x : n / 100 % 10 ≡ n / 100 - n / 1000 * 10 = omega arith in
+    let y : n / 10 % 10 ≡ n / 10 - n / 100 * 10 = omega arith in
+    let z : n % 10 ≡ n - n / 10 * 10 = omega arith in
+    rw (digits-last n (omega arith) (omega arith), digits-three (n / 10) (omega arith) (omega arith), e, f, x, y, z)
 
-module _ {d : List ℕ} {v : ℕ} (room : length (digits v) ≤ length d) where
-  -- before the first turn
-  pub ending-start : {n : ℕ} → n ≡ length (digits v) → Ending d v n v d
-  ending-start m =
-      record {
-        front = digits v;
-        tail = [];
-        whole = sym (append-nil (digits v));
-        at = m;
-        left = λ h. refl;
-        small = omega arith;
-        now-is = rw m (sym (take-append-drop (length (digits v)) d));
-      }
+-- the last four digits of a number are those of what is left of its ten thousands
+thousands : (n : ℕ) → n % 10000 / 1000 ≡ n / 1000 % 10
+thousands n = omega arith
 
-  -- what is left to write fits
-  pub ending-room : {i rest : ℕ} {e : List ℕ} → Ending d v i rest e → i ≤ length d
-  ending-room w = omega (arith, w .at, ap length (w .whole), length-append (w .front) (w .tail))
+hundreds : (n : ℕ) → n % 10000 / 100 % 10 ≡ n / 100 % 10
+hundreds n = omega arith
 
-  turn : {rest : ℕ} {e : List ℕ} (j : ℕ) → v < 10000000000 → Ending d v (suc j) rest e → Ending d v j (rest / 10) (set e j (zeroByte + rest % 10))
-  turn {rest} {e} j f w =
-      let b = zeroByte + rest % 10 in
-      let l : Last rest = last-digit rest (omega (arith, w .small)) in
-      let s : w .front ≡ l .before ++ (b ∷ []) = w .left (omega arith) ∙ l .digits-are in
-      let n : suc j ≡ length (l .before) + 1 = w .at ∙ ap length s ∙ length-append (l .before) (b ∷ []) in
-      record {
-        front = l .before;
-        tail = b ∷ w .tail;
-        whole = w .whole ∙ ap (λ x. x ++ w .tail) s ∙ append-assoc (l .before) (b ∷ []) (w .tail);
-        at = omega (arith, n);
-        left = λ h. l .tenth (omega (arith, n));
-        small = omega (arith, w .small);
-        now-is = ap (λ x. set x j b) (w .now-is) ∙ set-before d (w .tail ++ drop (length (digits v)) d) j b (omega (arith, ending-room w));
-      }
+tens : (n : ℕ) → n % 10000 / 10 % 10 ≡ n / 10 % 10
+tens n = omega arith
 
-  -- a turn: the last digit of what is left
-  pub ending-turn : {i rest : ℕ} {e : List ℕ} → v < 10000000000 → 0 < i
-      → Ending d v i rest e → Ending d v (i - 1) (rest / 10) (set e (i - 1) (zeroByte + rest % 10))
-  ending-turn {i} {rest} {e} f h w =
-      let s : i ≡ suc (i - 1) = omega arith in
-      turn (i - 1) f (subst (λ (k : ℕ). Ending d v k rest e) s w)
+ones : (n : ℕ) → n % 10000 % 10 ≡ n % 10
+ones n = omega arith
 
-  ended : {rest n : ℕ} {e : List ℕ} → n ≡ length (digits v) → Ending d v 0 rest e → Wrote (digits v) d e n
-  ended m w =
-      let t : digits v ≡ w .tail = w .whole ∙ ap (λ x. x ++ w .tail) (empty (w .front) (sym (w .at))) in
-      record { many = m; now-is = w .now-is ∙ ap (λ x. x ++ drop (length (digits v)) d) (sym t) }
+-- four digits behind those of the ten thousands
+digits-more : (n : ℕ) → 10000 ≤ n → n < 10000000000 → digits n ≡ digits (n / 10000) ++ four (n % 10000)
+unfolding four
+digits-more n h l =
+    let a : n / 10 / 10 ≡ n / 100 = omega arith in
+    let b : n / 100 / 10 ≡ n / 1000 = omega arith in
+    let c : n / 1000 / 10 ≡ n / 10000 = omega arith in
+    rw (
+      thousands n,
+      hundreds n,
+      tens n,
+      ones n,
+      digits-step n (omega arith) l,
+      digits-step (n / 10) (omega arith) (omega arith),
+      a,
+      digits-step (n / 100) (omega arith) (omega arith),
+      b,
+      digits-step (n / 1000) (omega arith) (omega arith),
+      c,
+    )
+    (simp append-assoc)
 
-  -- behind the last turn
-  pub ending-end : {i rest n : ℕ} {e : List ℕ} → n ≡ length (digits v) → i ≤ 0 → Ending d v i rest e → Wrote (digits v) d e n
-  ending-end {i} {rest} {n} {e} m h w =
-      let z : i ≡ 0 = omega arith in
-      ended m (subst (λ (k : ℕ). Ending d v k rest e) z w)
+-- ---- a number, written digit by digit
+
+-- one to four digits at the front of a room
+pub wrote-one : {d : List ℕ} (n : ℕ) → n < 10 → length (digits n) ≤ length d → Wrote (digits n) d (set d 0 (zeroByte + n)) 1
+wrote-one {d} n h m = rw (digits-small n h) (wrote-byte (zeroByte + n) (wrote-none d) (omega (arith, length-small n h)))
+
+pub wrote-two : {d : List ℕ} (n : ℕ) → 10 ≤ n → n < 100 → length (digits n) ≤ length d
+    → Wrote (digits n) d (set (set d 0 (zeroByte + n / 10)) 1 (zeroByte + (n - n / 10 * 10))) 2
+wrote-two {d} n h l m =
+    let r : 2 ≤ length d = omega (arith, length-two n h l) in
+    rw (digits-two n h l) (wrote-byte _ (wrote-byte _ (wrote-none d) (omega arith)) (omega arith))
+
+pub wrote-three : {d : List ℕ} (n : ℕ) → 100 ≤ n → n < 1000 → length (digits n) ≤ length d
+    → Wrote (digits n) d (set (set (set d 0 (zeroByte + n / 100)) 1 (zeroByte + (n / 10 - n / 100 * 10))) 2 (zeroByte + (n - n / 10 * 10))) 3
+wrote-three {d} n h l m =
+    let r : 3 ≤ length d = omega (arith, length-three n h l) in
+    rw (digits-three n h l) (wrote-byte _ (wrote-byte _ (wrote-byte _ (wrote-none d) (omega arith)) (omega arith)) (omega arith))
+
+pub wrote-four : {d : List ℕ} (n : ℕ) → 4 ≤ length d
+    → Wrote
+    (four n)
+    d
+    (set
+    (set (set (set d 0 (zeroByte + n / 1000)) 1 (zeroByte + (n / 100 - n / 1000 * 10))) 2 (zeroByte + (n / 10 - n / 100 * 10)))
+    3
+    (zeroByte + (n - n / 10 * 10)))
+    4
+unfolding four
+wrote-four {d} n r =
+    let x : n / 100 % 10 ≡ n / 100 - n / 1000 * 10 = omega arith in
+    let y : n / 10 % 10 ≡ n / 10 - n / 100 * 10 = omega arith in
+    let z : n % 10 ≡ n - n / 10 * 10 = omega arith in
+    rw (x, y, z) (wrote-byte _ (wrote-byte _ (wrote-byte _ (wrote-byte _ (wrote-none d) (omega arith)) (omega arith)) (omega arith)) (omega arith))
+
+-- four digits are four bytes
+pub four-long : (n : ℕ) → length (four n) ≡ 4
+unfolding four
+four-long n = refl
+
+-- behind the ten thousands there is room for four digits
+pub more-room : {d xs : List ℕ} {a : ℕ} (n : ℕ) → 10000 ≤ n → n < 10000000000 → length (digits n) ≤ length d
+    → Wrote (digits (n / 10000)) d xs a → a + 4 ≤ length xs
+more-room {d} {xs} {a} n h l m w =
+    let e : a + 4 ≤ length d = omega (arith, length-more n h l, w .many) in
+    omega (arith, wrote-length w (omega arith))
+
+-- the ten thousands are written, and four digits directly behind them
+pub wrote-more : {d xs ys : List ℕ} {a r : ℕ} (n : ℕ) → 10000 ≤ n → n < 10000000000
+    → Wrote (digits (n / 10000)) d xs a → Wrote (four (n % 10000)) (take (length xs - a) (drop a xs)) ys r
+    → Wrote (digits n) d (take a xs ++ (ys ++ drop (length xs - a) (drop a xs))) (a + r)
+wrote-more n h l w v = rw (digits-more n h l) (wrote-behind w v)
 
 -- What the writer of a line owes once the key and its value are written: room for LF, and the line with it.
 pub record LineWrote (key v d xs ys : List ℕ) (k n : ℕ) : Type 0 where

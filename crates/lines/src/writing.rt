@@ -1,8 +1,9 @@
 // The writers of numbers and lines (rules 11.2 and 11.3). Each writes at the front of the part of the output that it is lent, leaves what
 // stands behind, and answers how many bytes it wrote.
 ghost use mathlib.Core.Path.{_≡_};
-ghost use Prim.Native.Nat.{_+_, _≤_};
+ghost use Prim.Native.Nat.{_+_, _<_, _≤_};
 ghost use lib.ListN.{length};
+ghost use Rattle.lines.specs.Four.{four};
 ghost use Rattle.lines.specs.Onto.{Puts, Wrote};
 ghost use Rattle.model.specs.Text.Lines.{line};
 ghost use Rattle.model.specs.Text.Numbers.{digits};
@@ -26,20 +27,74 @@ pub fn number_len(v: u32) -> usize
     number_len(v / 10000) + 4
 }
 
-// Writes the digits of a number, from the last one to the first.
+// Writes the four digits of a number below 10,000, zeros in front of it included.
+fn write_four(out: &mut [u8], v: u32) -> usize
+    requires { ⌜ (v < 10000) × (4 ≤ length (now out)) ⌝ }
+    ensures { λ r. ⌜ Wrote (four v) (now (out .entry)) (now (out .exit)) r ⌝ }
+{
+    let a = v / 1000;
+    let b = v / 100;
+    let c = v / 10;
+    out[0] = 48 + a as u8;
+    out[1] = 48 + (b - a * 10) as u8;
+    out[2] = 48 + (c - b * 10) as u8;
+    out[3] = 48 + (v - c * 10) as u8;
+    4
+}
+
+// Writes the digits of a number below 10,000.
+fn write_short(out: &mut [u8], v: u32) -> usize
+    requires { ⌜ (v < 10000) × (length (digits v) ≤ length (now out)) ⌝ }
+    ensures { λ r. ⌜ Wrote (digits v) (now (out .entry)) (now (out .exit)) r ⌝ }
+{
+    if v < 10 {
+        out[0] = 48 + v as u8;
+        return 1;
+    }
+    let c = v / 10;
+    if v < 100 {
+        out[0] = 48 + c as u8;
+        out[1] = 48 + (v - c * 10) as u8;
+        return 2;
+    }
+    if v < 1000 {
+        let b = v / 100;
+        out[0] = 48 + b as u8;
+        out[1] = 48 + (c - b * 10) as u8;
+        out[2] = 48 + (v - c * 10) as u8;
+        return 3;
+    }
+    write_four(out, v)
+}
+
+// Writes the digits of a number below 100,000,000: those of its ten thousands, and four behind them.
+fn write_middle(out: &mut [u8], v: u32) -> usize
+    requires { ⌜ (v < 100000000) × (length (digits v) ≤ length (now out)) ⌝ }
+    ensures { λ r. ⌜ Wrote (digits v) (now (out .entry)) (now (out .exit)) r ⌝ }
+{
+    if v < 10000 {
+        return write_short(out, v);
+    }
+    let n = write_short(out, v / 10000);
+    let m = write_four(&mut out[n..], v % 10000);
+    n + m
+}
+
+// Writes the digits of a number, a single one at once, and of a long one those of its ten thousands and four behind them.
 pub fn write_number(out: &mut [u8], v: u32) -> usize
     requires { ⌜ length (digits v) ≤ length (now out) ⌝ }
     ensures { λ r. ⌜ Wrote (digits v) (now (out .entry)) (now (out .exit)) r ⌝ }
 {
-    let n = number_len(v);
-    let mut i = n;
-    let mut rest = v;
-    while 0 < i {
-        i -= 1;
-        out[i] = 48 + (rest % 10) as u8;
-        rest = rest / 10;
+    if v < 10 {
+        out[0] = 48 + v as u8;
+        return 1;
     }
-    n
+    if v < 10000 {
+        return write_short(out, v);
+    }
+    let n = write_middle(out, v / 10000);
+    let m = write_four(&mut out[n..], v % 10000);
+    n + m
 }
 
 // Writes some bytes as they are.

@@ -1,63 +1,87 @@
-use mathlib.Core.Path.{_≡_, refl}
+use Prim.Native.Nat.{_%_, _+_, _/_, _≤_}
 use native.Mathlib.Omega.{arith}
-use lib.ListN.{length, length-set}
+use lib.ListN.{length}
+use Rattle.lines.specs.OntoLaws.{length-part}
+use Rattle.lines.specs.WritingLaws.{four-long, length-more, more-room, wrote-more, wrote-one}
+use Rattle.model.specs.Text.NumberLaws.{length-most, length-small}
 use borrow.Author.Needs.{needs}
-use Rattle.lines.specs.WritingLaws.{Ending, ending-end, ending-room, ending-start, ending-turn}
 use Rattle.lines.proofs.writing.write_number.Statement.{statement}
 use Rattle.lines.proofs.writing.write_number.Tie as tie
 use Rattle.lines.proofs.writing.write_number.Reads as reads
 use Rattle.lines.proofs.writing.write_number.Lts as lts
-use Rattle.lines.proofs.writing.number_len.Reads as number-len-reads
+use Rattle.lines.proofs.writing.write_four.Reads as write-four-reads
+use Rattle.lines.proofs.writing.write_middle.Reads as write-middle-reads
+use Rattle.lines.proofs.writing.write_short.Reads as write-short-reads
 
-abbrev Inv-loop : tie.InvT-loop
-Inv-loop out₀ v n i₀ rest₀ out i rest = (length out ≡ length out₀) × Ending out₀ v i rest out
-
-abbrev μ-loop : tie.MeasureT-loop
-μ-loop out₀ v n i₀ rest₀ out i rest = i
-
-number-len-requires : tie.Need-number-len-requires Inv-loop μ-loop
-number-len-requires c κs = search needs
-
-loop-holds : tie.Need-loop-holds Inv-loop μ-loop
-loop-holds c = (refl, ending-start (c .before .before .pre) (c .number-len .ensures))
-
-sub-i : tie.Need-sub-i Inv-loop μ-loop
-sub-i c = search needs
-
-cast-out : tie.Need-cast-out Inv-loop μ-loop
+cast-out : tie.Need-cast-out
 cast-out c = search needs
 
-add-out : tie.Need-add-out Inv-loop μ-loop
+add-out : tie.Need-add-out
 add-out c = search needs
 
-slice-write-out : tie.Need-slice-write-out Inv-loop μ-loop
-slice-write-out c = omega (arith, c .before .loop .inv .0, ending-room (c .before .before .before .before .pre) (c .before .loop .inv .1))
+slice-write-out : tie.Need-slice-write-out
+slice-write-out c = omega (arith, c .before .before .pre, length-small (c .before .before .args .v) (c .if1 .taken))
 
-loop-less : tie.Need-loop-less Inv-loop μ-loop
-loop-less c = search needs
+same-length : tie.Need-same-length
+same-length c = search needs
 
-loop-again : tie.Need-loop-again Inv-loop μ-loop
-loop-again c = (simp length-set (c .before .loop .inv .0), ending-turn (c .before .before .before .before .pre) (omega (arith, c .before .before .before .before .fits .v)) (c .loop-test .taken) (c .before .loop .inv .1))
+returns : tie.Need-returns
+returns c = wrote-one (c .before .before .args .v) (c .if1 .taken) (c .before .before .pre)
 
-same-length : tie.Need-same-length Inv-loop μ-loop
-same-length c = c .before .loop .inv .0
+write-short-requires : tie.Need-write-short-requires
+write-short-requires c κs = search needs
 
-returns : tie.Need-returns Inv-loop μ-loop
-returns c = ending-end (c .before .before .before .before .pre) (c .before .before .number-len .ensures) (c .loop-test .left) (c .before .loop .inv .1)
+same-length-2 : tie.Need-same-length-2
+same-length-2 c = search needs
+
+returns-2 : tie.Need-returns-2
+returns-2 c = search needs
+
+write-middle-requires : tie.Need-write-middle-requires
+write-middle-requires c κs = (omega (arith, c .before .before .before .before .fits .v), omega (arith, c .before .before .before .before .pre, length-more (c .before .before .before .before .args .v) (c .before .if2 .left) (omega (arith, c .before .before .before .before .fits .v))))
+
+-- there is room for four digits behind the ten thousands
+behind : (c : tie.After-slice-known3) → c .before .before .write-middle .result + 4 ≤ length (c .before .before .write-middle .last .0)
+behind c = more-room (c .before .before .before .before .before .before .before .args .v) (c .before .before .before .before .if2 .left) (omega (arith, c .before .before .before .before .before .before .before .fits .v)) (c .before .before .before .before .before .before .before .pre) (c .before .before .write-middle .ensures)
+
+sub-write-four : tie.Need-sub-write-four
+sub-write-four c = omega (arith, behind c)
+
+part-write-four-start : tie.Need-part-write-four-start
+part-write-four-start c = sub-write-four c
+
+part-write-four-end : tie.Need-part-write-four-end
+part-write-four-end c = search needs
+
+write-four-requires : tie.Need-write-four-requires
+write-four-requires c κs = (omega arith, omega (arith, behind (c .before), length-part (c .before .before .before .write-middle .last .0) (c .before .before .before .write-middle .result)))
+
+add-result : tie.Need-add-result
+add-result c = omega (arith, c .before .before .before .before .before .before .write-middle .ensures .many, length-most (c .before .before .before .before .before .before .before .before .before .before .before .args .v / 10000), c .before .before .write-four .ensures .many, four-long (c .before .before .before .before .before .before .before .before .before .before .before .args .v % 10000))
+
+same-length-3 : tie.Need-same-length-3
+same-length-3 c = search needs
+
+returns-3 : tie.Need-returns-3
+returns-3 c = wrote-more (c .before .before .before .before .before .before .before .before .before .before .before .args .v) (c .before .before .before .before .before .before .before .before .if2 .left) (omega (arith, c .before .before .before .before .before .before .before .before .before .before .before .fits .v)) (c .before .before .before .before .before .before .write-middle .ensures) (c .before .before .write-four .ensures)
 
 pub write-number-spec : {M : Type 1} → statement M
 write-number-spec =
     tie.close
     (tie.spec
-    Inv-loop
-    μ-loop
-    number-len-requires
-    loop-holds
-    sub-i
     cast-out
     add-out
     slice-write-out
-    loop-less
-    loop-again
     same-length
-    returns)
+    returns
+    write-short-requires
+    same-length-2
+    returns-2
+    write-middle-requires
+    sub-write-four
+    part-write-four-start
+    part-write-four-end
+    write-four-requires
+    add-result
+    same-length-3
+    returns-3)
