@@ -13,7 +13,7 @@ ghost use Rattle.model.specs.Request.Ladder.{namesFit};
 ghost use Rattle.model.specs.Request.Words.{nameCount, referenceAt, requestOf, requestWords};
 ghost use Rattle.model.specs.Text.Lines.{line};
 ghost use Rattle.model.specs.Text.Numbers.{digits};
-ghost use Rattle.model.specs.Text.References.{dotByte, dotted, joined};
+ghost use Rattle.model.specs.Text.References.{dotByte, joined};
 ghost use Rattle.model.specs.Text.Writing.{Writes, hasText, textOfWords};
 ghost use Rattle.request_text.specs.Sixteen.{Sixteen};
 
@@ -27,20 +27,16 @@ fn write_name(out: &mut [u8], v: u32) -> usize
     1 + n
 }
 
-// Writes further names, a dot before each.
-fn write_dotted(out: &mut [u8], names: &[u32]) -> usize
-    requires { ⌜ length (dotted (now names)) ≤ length (now out) ⌝ }
-    ensures { λ r. ⌜ Wrote (dotted (now (names .entry))) (now (out .entry)) (now (out .exit)) r ⌝ }
+// Writes a dot and a name at an index of the output, and answers the index behind it.
+fn put_name(out: &mut [u8], at: usize, v: u32) -> usize
+    requires { ⌜ at + length (dotByte ∷ digits v) ≤ length (now out) ⌝ }
+    ensures { λ r. ⌜ Puts (dotByte ∷ digits v) (now (out .entry)) at (now (out .exit)) r ⌝ }
 {
-    if names.len() == 0 {
-        return 0;
-    }
-    let n = write_name(out, names[0]);
-    let m = write_dotted(&mut out[n..], &names[1..]);
-    n + m
+    let n = write_name(&mut out[at..], v);
+    at + n
 }
 
-// Writes names, joined by dots.
+// Writes names, joined by dots: the first, and each other behind a dot.
 fn write_names(out: &mut [u8], names: &[u32]) -> usize
     requires { ⌜ length (joined (now names)) ≤ length (now out) ⌝ }
     ensures { λ r. ⌜ Wrote (joined (now (names .entry))) (now (out .entry)) (now (out .exit)) r ⌝ }
@@ -48,9 +44,13 @@ fn write_names(out: &mut [u8], names: &[u32]) -> usize
     if names.len() == 0 {
         return 0;
     }
-    let n = write_number(out, names[0]);
-    let m = write_dotted(&mut out[n..], &names[1..]);
-    n + m
+    let mut at = write_number(out, names[0]);
+    let mut i = 1;
+    while i < names.len() {
+        at = put_name(out, at, names[i]);
+        i += 1;
+    }
+    at
 }
 
 // Writes a line: a key with its equals sign, names directly behind it in the same bytes, and LF.

@@ -1,86 +1,80 @@
-use Prim.Native.Nat.{_<_}
+use mathlib.Core.List.{List, _∷_}
+use mathlib.Core.Path.{_≡_, _∙_, refl}
+use Prim.Native.Nat.{_-_, _<_, ℕ}
 use native.Mathlib.Omega.{arith}
-use lib.ListN.{length}
-use Rattle.lines.specs.OntoLaws.{empty, length-part, wrote-behind, wrote-none}
-use Rattle.request_text.specs.NameLaws.{joined-cons, joined-length}
+use lib.ListN.{getD, length, take}
+use lib.Seq.{take-all}
+use Rattle.lines.specs.Onto.{Wrote}
+use Rattle.lines.specs.OntoLaws.{empty, puts-room, wrote-none, wrote-puts}
+use Rattle.model.specs.Text.Numbers.{digits}
+use Rattle.model.specs.Text.References.{dotByte, joined}
+use Rattle.request_text.specs.NameLaws.{first-long, joined-first, joined-next, joined-room}
 use borrow.Author.Needs.{needs}
 use Rattle.request_text.proofs.writing.write_names.Statement.{statement}
 use Rattle.request_text.proofs.writing.write_names.Tie as tie
 use Rattle.request_text.proofs.writing.write_names.Reads as reads
 use Rattle.request_text.proofs.writing.write_names.Lts as lts
 use Rattle.lines.proofs.writing.write_number.Reads as write-number-reads
-use Rattle.request_text.proofs.writing.write_dotted.Reads as write-dotted-reads
+use Rattle.request_text.proofs.writing.put_name.Reads as put-name-reads
 
-returns : tie.Need-returns
+-- in whatever room the first name was written, the first i names now stand
+abbrev Inv-loop : tie.InvT-loop
+Inv-loop out₀ names at₀ i₀ out at i = (length out ≡ length out₀) × (0 < i) × ((d : List ℕ) → Wrote (digits (getD names 0 0)) d out₀ at₀ → Wrote (joined (take i names)) d out at)
+
+abbrev μ-loop : tie.MeasureT-loop
+μ-loop out₀ names at₀ i₀ out at i = length names - i
+
+returns : tie.Need-returns Inv-loop μ-loop
 returns c = rw (empty (c .before .before .before .args .names .now) (c .if1 .taken)) (wrote-none _)
 
-shared-slice-read-write-number : tie.Need-shared-slice-read-write-number
+shared-slice-read-write-number : tie.Need-shared-slice-read-write-number Inv-loop μ-loop
 shared-slice-read-write-number c = search needs
 
-write-number-requires : tie.Need-write-number-requires
-write-number-requires c κs =
-    let s = c .before .before .before .before .before in
-    let pos : 0 < length (s .args .names .now) = omega (arith, c .before .before .if1 .left) in
-    omega (arith, s .pre, joined-length (s .args .names .now) pos)
+write-number-requires : tie.Need-write-number-requires Inv-loop μ-loop
+write-number-requires c κs = omega (arith, c .before .before .before .before .before .pre, first-long (c .before .before .before .before .before .args .names .now) (omega (arith, c .before .before .if1 .left)))
 
-sub-write-dotted : tie.Need-sub-write-dotted
-sub-write-dotted c =
-    let s = c .before .before .before .before .before .before .before .before in
-    let w = c .before .before .write-number in
-    let pos : 0 < length (s .args .names .now) = omega (arith, c .before .before .before .before .before .if1 .left) in
-    omega (arith, s .pre, w .ensures .many, w .kept .0, joined-length (s .args .names .now) pos)
+loop-holds : tie.Need-loop-holds Inv-loop μ-loop
+loop-holds c = (refl, omega arith, λ d w. rw (joined-first (c .before .before .before .before .before .before .before .before .args .names .now) (omega (arith, c .before .before .before .before .before .if1 .left))) w)
 
-part-write-dotted-start : tie.Need-part-write-dotted-start
-part-write-dotted-start c = sub-write-dotted c
+mul-put-name : tie.Need-mul-put-name Inv-loop μ-loop
+mul-put-name c = search needs
 
-part-write-dotted-end : tie.Need-part-write-dotted-end
-part-write-dotted-end c = search needs
+shared-slice-read-put-name : tie.Need-shared-slice-read-put-name Inv-loop μ-loop
+shared-slice-read-put-name c = search needs
 
-sub-write-dotted-2 : tie.Need-sub-write-dotted-2
-sub-write-dotted-2 c = search needs
+put-name-requires : tie.Need-put-name-requires Inv-loop μ-loop
+put-name-requires c κs = puts-room (dotByte ∷ digits (getD (c .before .before .before .before .before .before .before .before .before .before .before .before .args .names .now) (c .before .before .before .loop .i) 0)) (c .before .before .before .loop .inv .2 (c .before .before .before .before .before .before .before .before .before .before .before .before .args .out .now) (c .before .before .before .before .before .before .write-number .ensures)) (omega (arith, c .before .before .before .before .before .before .before .before .before .before .before .before .pre, joined-room (c .before .before .before .before .before .before .before .before .before .before .before .before .args .names .now) (c .before .before .before .loop .i) (c .before .before .before .loop .inv .1) (c .before .before .loop-test .taken)))
 
-part-write-dotted-start-2 : tie.Need-part-write-dotted-start-2
-part-write-dotted-start-2 c = search needs
+add-i : tie.Need-add-i Inv-loop μ-loop
+add-i c = search needs
 
-part-write-dotted-end-2 : tie.Need-part-write-dotted-end-2
-part-write-dotted-end-2 c = search needs
+loop-less : tie.Need-loop-less Inv-loop μ-loop
+loop-less c = search needs
 
-write-dotted-requires : tie.Need-write-dotted-requires
-write-dotted-requires c κs =
-    let s = c .before .before .before .before .before .before .before .before .before .before in
-    let w = c .before .before .before .before .write-number in
-    let pos : 0 < length (s .args .names .now) = omega (arith, c .before .before .before .before .before .before .before .if1 .left) in
-    omega (arith, s .pre, w .ensures .many, w .kept .0, joined-length (s .args .names .now) pos, length-part (w .last .0) (w .result))
+loop-again : tie.Need-loop-again Inv-loop μ-loop
+loop-again c = (c .before .before .put-name .kept .0 ∙ c .before .before .before .before .before .before .loop .inv .0, omega arith, λ d w. rw (joined-next (c .before .before .before .before .before .before .before .before .before .before .before .before .before .before .before .args .names .now) (c .before .before .before .before .before .before .loop .i) (c .before .before .before .before .before .before .loop .inv .1) (c .before .before .before .before .before .loop-test .taken)) (wrote-puts (c .before .before .before .before .before .before .loop .inv .2 d w) (c .before .before .put-name .ensures)))
 
-add-result : tie.Need-add-result
-add-result c =
-    let s = c .before .before .before .before .before .before .before .before .before .before .before .before .before in
-    let pos : 0 < length (s .args .names .now) = omega (arith, c .before .before .before .before .before .before .before .before .before .before .if1 .left) in
-    omega (arith, s .pre, c .before .before .before .before .before .before .before .write-number .ensures .many, c .before .before .write-dotted .ensures .many, joined-length (s .args .names .now) pos, s .good)
+same-length : tie.Need-same-length Inv-loop μ-loop
+same-length c = c .before .loop .inv .0 ∙ c .before .before .before .before .write-number .kept .0
 
-same-length : tie.Need-same-length
-same-length c = search needs
-
-returns-2 : tie.Need-returns-2
-returns-2 c =
-    let s = c .before .before .before .before .before .before .before .before .before .before .before .before .before in
-    let pos : 0 < length (s .args .names .now) = omega (arith, c .before .before .before .before .before .before .before .before .before .before .if1 .left) in
-    rw (joined-cons (s .args .names .now) pos) (wrote-behind (c .before .before .before .before .before .before .before .write-number .ensures) (c .before .before .write-dotted .ensures))
+returns-2 : tie.Need-returns-2 Inv-loop μ-loop
+returns-2 c = rw (take-all (c .before .loop .i) (c .before .before .before .before .before .before .before .before .before .before .args .names .now) (c .loop-test .left)) at (c .before .loop .inv .2 (c .before .before .before .before .before .before .before .before .before .before .args .out .now) (c .before .before .before .before .write-number .ensures))
 
 pub write-names-spec : {M : Type 1} → statement M
 write-names-spec =
     tie.close
     (tie.spec
+    Inv-loop
+    μ-loop
     returns
     shared-slice-read-write-number
     write-number-requires
-    sub-write-dotted
-    part-write-dotted-start
-    part-write-dotted-end
-    sub-write-dotted-2
-    part-write-dotted-start-2
-    part-write-dotted-end-2
-    write-dotted-requires
-    add-result
+    loop-holds
+    mul-put-name
+    shared-slice-read-put-name
+    put-name-requires
+    add-i
+    loop-less
+    loop-again
     same-length
     returns-2)
