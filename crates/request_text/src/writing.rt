@@ -120,15 +120,34 @@ fn need(words: &[u32]) -> usize
     30 + (names + (first + last))
 }
 
-// Whether the name words behind the names of the reference whose length is word k are zero.
+// Whether the name words behind the names of the reference whose length is word k are zero. They are looked at from the last one on.
 fn names_fit(words: &[u32], k: usize) -> bool
     requires { ⌜ k + nameCount < length (now words) ⌝ }
     ensures { λ r. ⌜ r ≡ namesFit (referenceAt (now (words .entry)) k) ⌝ }
 {
     let n = words[k];
-    (!(n <= 3) | (words[k + 4] == 0))
-        & ((!(n <= 2) | (words[k + 3] == 0))
-            & ((!(n <= 1) | (words[k + 2] == 0)) & (!(n <= 0) | (words[k + 1] == 0))))
+    if 3 < n {
+        return true;
+    }
+    if words[k + 4] != 0 {
+        return false;
+    }
+    if 2 < n {
+        return true;
+    }
+    if words[k + 3] != 0 {
+        return false;
+    }
+    if 1 < n {
+        return true;
+    }
+    if words[k + 2] != 0 {
+        return false;
+    }
+    if 0 < n {
+        return true;
+    }
+    words[k + 1] == 0
 }
 
 // Whether some text has these sixteen words.
