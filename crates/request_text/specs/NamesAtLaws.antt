@@ -1,109 +1,130 @@
--- Reading names at an index, by the tests of the bytes: further names, a first name, and a reference.
+-- Reading names at an index, by the tests of the bytes: one name after the other, and a reference.
 use mathlib.Core.Bool.{false, true}
-use mathlib.Core.List.{List, [], _++_, _∷_, append-nil}
-use mathlib.Core.Path.{_∙_, _≡_, refl}
+use mathlib.Core.List.{List, [], _++_, _∷_, append-assoc}
+use mathlib.Core.Path.{_∙_, _≡_, ap, refl, sym}
 use Prim.Native.Nat.{_+_, _-_, _<_, _≤_, suc, zero, zero-le, ℕ}
 use native.Mathlib.Numerals.{add-one}
 use native.Mathlib.Omega.{arith}
-use lib.ListN.{drop, drop-of-length-le, getD, length, length-drop, length-set, set, take}
-use lib.Seq.{drop-cons, take-all}
+use lib.ListN.{drop, drop-of-length-le, getD, length, set, take}
+use lib.Seq.{drop-cons, drop-drop, drop-set-lt, take-suc-set}
 use borrow.Author.Tests.{ne-eqb}
-use borrow.Rule.Slice.PartMut.{same-len-mid}
 use Rattle.lines.specs.NumberAt.{NumberAt}
 use Rattle.lines.specs.NumberAtLaws.{digit}
 use Rattle.lines.specs.declared.reading.Number.the-variants.{Bad, Value}
 use Rattle.model.specs.Request.Words.{nameCount}
-use Rattle.model.specs.Text.Numbers.{Read, got, isDigit, nineByte, zeroByte}
+use Rattle.model.specs.Text.Lines.{next}
+use Rattle.model.specs.Text.Numbers.{Read, bad, got, isDigit, nineByte, zeroByte}
 use Rattle.model.specs.Text.References.{dotByte, further, nameAnd, reference}
 use Rattle.request_text.specs.NamesAt.{NamesIs}
 use Rattle.request_text.specs.declared.reading.Names.{Names}
 use Rattle.request_text.specs.declared.reading.Names.the-variants.{Are, Wrong}
 
--- the part of a room from an index on, as a caller lends it
-part-is : (xs : List ℕ) (a : ℕ) → take (length xs - a) (drop a xs) ≡ drop a xs
-part-is xs a = take-all (length xs - a) (drop a xs) (omega (arith, length-drop a xs))
+-- names that were read before, and then those of a reading
+abbrev after : List ℕ → Read (List ℕ) → Read (List ℕ)
+after ns r = next r (λ ms u. got (ns ++ ms) u)
 
--- a room after its first word was stored: the part behind it has place for one name less,
-pub part-room : (o : List ℕ) (v k : ℕ) → k + 1 ≤ length o → k ≤ length (take (length (set o 0 v) - 1) (drop 1 (set o 0 v)))
-part-room o v k h = rw (part-is (set o 0 v) 1, length-drop 1 (set o 0 v), length-set o 0 v) (omega arith)
+after-none : (r : Read (List ℕ)) → r ≡ after [] r
+after-none (got ms u) = refl
+after-none bad = refl
 
--- and when that part is back the room is as long as it was
-pub part-back : (o ys : List ℕ) (v : ℕ) → length ys ≡ length (take (length (set o 0 v) - 1) (drop 1 (set o 0 v)))
-    → length (take 1 (set o 0 v) ++ (ys ++ drop (length (set o 0 v) - 1) (drop 1 (set o 0 v)))) ≡ length o
-part-back o ys v e = same-len-mid 1 (length (set o 0 v) - 1) (set o 0 v) ys e ∙ length-set o 0 v
+after-one : (ns : List ℕ) (v : ℕ) (r : Read (List ℕ)) → after ns (after (v ∷ []) r) ≡ after (ns ++ (v ∷ [])) r
+after-one ns v (got ms u) = rw (append-assoc ns (v ∷ []) ms)
+after-one ns v bad = refl
+
+-- The first k names from the index `at` of the bytes s on stand in front of the room o, which is now p, and the next one is looked for at the
+-- index i.
+pub record NamesTo (s : List ℕ) (at : ℕ) (o p : List ℕ) (i k : ℕ) : Type 0 where
+  pub is : nameAnd 3 (drop at s) ≡ after (take k p) (nameAnd (3 - k) (drop i s))
+  pub kept : drop k p ≡ drop k o
+
+-- none was read yet
+pub names-start : (s : List ℕ) (at : ℕ) (o : List ℕ) → NamesTo s at o o at 0
+names-start s at o = record { is = after-none (nameAnd 3 (drop at s)); kept = refl }
+
+-- one word more is stored: the words before it stay, and those behind it
+stored-before : (p : List ℕ) (k v : ℕ) → k < length p → take (k + 1) (set p k v) ≡ take k p ++ (v ∷ [])
+stored-before p k v l = rw (add-one k) (take-suc-set p k v l)
+
+stored-behind : (o p : List ℕ) (k v : ℕ) → drop k p ≡ drop k o → drop (k + 1) (set p k v) ≡ drop (k + 1) o
+stored-behind o p k v e = drop-set-lt (k + 1) p k v (omega arith) ∙ sym (drop-drop 1 k p) ∙ ap (drop 1) e ∙ drop-drop 1 k o
 
 module _ (s : List ℕ) (at : ℕ) where
-  -- no name is read, and the room stays
-  no-names : (x : Read (List ℕ)) (k : ℕ) (o : List ℕ) → at ≤ length s → got [] (drop at s) ≡ x → NamesIs s x k o o (Are 0 at)
-  no-names x k o w e = record { is = e; within = w; few = zero-le; kept = refl }
-
   -- ---- further names
 
-  -- there is place for no more
-  pub none-left : (k : ℕ) (o : List ℕ) → at ≤ length s → k ≡ 0 → NamesIs s (further k (drop at s)) k o o (Are 0 at)
-  none-left k o w e = no-names (further k (drop at s)) k o w (rw e)
-
-  -- the bytes end
-  pub further-end : (k : ℕ) (o : List ℕ) → at ≤ length s → length s ≤ at → NamesIs s (further k (drop at s)) k o o (Are 0 at)
-  further-end k o w e = no-names (further k (drop at s)) k o w (rw (drop-of-length-le s {i = at} e) (go k))
+  -- none, where the bytes end,
+  pub further-end : (k : ℕ) → length s ≤ at → further k (drop at s) ≡ got [] (drop at s)
+  further-end k e = rw (drop-of-length-le s {i = at} e) (go k)
     where
-      go : (k : ℕ) → got [] [] ≡ further k []
+      go : (k : ℕ) → further k [] ≡ got [] []
       go zero = refl
       go (suc k) = refl
 
-  -- the next byte is no dot
-  pub no-dot : (k : ℕ) (o : List ℕ) → at < length s → (getD s at 0 ≡ dotByte → ⊥) → NamesIs s (further k (drop at s)) k o o (Are 0 at)
-  no-dot k o w n = no-names (further k (drop at s)) k o (omega arith) (rw (drop-cons s at 0 w) (go k))
+  -- or where the next byte is no dot
+  pub no-dot : (k : ℕ) → at < length s → (getD s at 0 ≡ dotByte → ⊥) → further k (drop at s) ≡ got [] (drop at s)
+  no-dot k w n = rw (drop-cons s at 0 w) (go k)
     where
-      go : (k : ℕ) → got [] (getD s at 0 ∷ drop (suc at) s) ≡ further k (getD s at 0 ∷ drop (suc at) s)
+      go : (k : ℕ) → further k (getD s at 0 ∷ drop (suc at) s) ≡ got [] (getD s at 0 ∷ drop (suc at) s)
       go zero = refl
       go (suc k) = rw (ne-eqb (getD s at 0) dotByte n)
 
-  -- what stands behind a dot
-  dot : (k : ℕ) → at < length s → getD s at 0 ≡ dotByte → (k ≡ 0 → ⊥) → nameAnd (k - 1) (drop (at + 1) s) ≡ further k (drop at s)
+  -- and else a name behind the dot, and at most one further name less
+  dot : (k : ℕ) → at < length s → getD s at 0 ≡ dotByte → (k ≡ 0 → ⊥) → further k (drop at s) ≡ nameAnd (k - 1) (drop (at + 1) s)
   dot zero w e n = absurd (n refl)
   dot (suc k) w e n = let p : suc k - 1 ≡ k = omega arith in rw (add-one at, drop-cons s at 0 w, e, p)
 
-  -- the next byte is a dot: a name stands behind it, and at most one further name less
-  pub dotted-are : {o p : List ℕ} {r : Names} (k : ℕ) → at < length s → getD s at 0 ≡ dotByte → (k ≡ 0 → ⊥)
-      → NamesIs s (nameAnd (k - 1) (drop (at + 1) s)) (k - 1 + 1) o p r → NamesIs s (further k (drop at s)) k o p r
-  dotted-are k w d n m = record { is = m .is ∙ dot k w d n; within = m .within; few = omega (arith, m .few, n); kept = m .kept }
+  -- ---- a name and further ones
 
-  -- ---- a first name
+  name-bad : (k : ℕ) → NumberAt s at Bad → nameAnd k (drop at s) ≡ bad
+  name-bad k n = rw (← n .is)
 
-  -- there is no number
-  pub first-bad : (k : ℕ) (o p : List ℕ) → NumberAt s at Bad → NamesIs s (nameAnd k (drop at s)) (k + 1) o p Wrong
-  first-bad k o p n = record { is = rw (← n .is); within = zero-le; few = zero-le; kept = tt }
+  name-got : {v j : ℕ} (k : ℕ) → NumberAt s at (Value v j) → nameAnd k (drop at s) ≡ after (v ∷ []) (further k (drop j s))
+  name-got k n = rw (← n .is)
 
-  -- there is one, and a further name is bad
-  pub first-wrong : {v j : ℕ} (k : ℕ) (o p q r : List ℕ) → NumberAt s at (Value v j) → NamesIs s (further k (drop j s)) k q r Wrong
-      → NamesIs s (nameAnd k (drop at s)) (k + 1) o p Wrong
-  first-wrong k o p q r n m = record { is = rw (← n .is, ← m .is); within = zero-le; few = zero-le; kept = tt }
+-- What comes next, where k names were read:
+module _ {s : List ℕ} {at : ℕ} {o p : List ℕ} {i k : ℕ} where
+  -- no number
+  pub names-bad : NamesTo s at o p i k → NumberAt s i Bad → (q : List ℕ) → NamesIs s (nameAnd 3 (drop at s)) nameCount o q Wrong
+  names-bad t n q = record { is = sym (t .is ∙ ap (after (take k p)) (name-bad s i (3 - k) n)); within = zero-le; few = zero-le; kept = tt }
 
-  -- all are good: the first name was stored, and the others were read into the part behind it
-  pub first-are : {v j n e : ℕ} (k : ℕ) (o ys : List ℕ) → 0 < length o → NumberAt s at (Value v j)
-      → NamesIs s (further k (drop j s)) k (take (length (set o 0 v) - 1) (drop 1 (set o 0 v))) ys (Are n e)
-      → NamesIs s (nameAnd k (drop at s)) (k + 1) o (take 1 (set o 0 v) ++ (ys ++ drop (length (set o 0 v) - 1) (drop 1 (set o 0 v)))) (Are (n + 1) e)
-  first-are k [] ys h a m = absurd (omega arith)
-  first-are {v} {j} {n} {e} k (x ∷ o) ys h a m =
-      let none : drop (length (v ∷ o) - 1) o ≡ [] = drop-of-length-le o {i = length (v ∷ o) - 1} (omega arith) in
-      let kept : drop n ys ≡ drop n o = m .kept ∙ rw (part-is (v ∷ o) 1) in
-      record {
-        is = rw (← a .is, ← m .is, none, append-nil, add-one n);
-        within = m .within;
-        few = omega (arith, m .few);
-        kept = rw (none, append-nil, add-one n) kept;
-      }
+  -- a number and a dot
+  pub names-turn : {v j : ℕ} → NamesTo s at o p i k → k < 3 → k < length p → NumberAt s i (Value v j) → j < length s → getD s j 0 ≡ dotByte
+      → NamesTo s at o (set p k v) (j + 1) (k + 1)
+  names-turn {v} {j} t h l n w d =
+      let some : 3 - k ≡ 0 → ⊥ = λ e. absurd (omega arith) in
+      let less : 3 - k - 1 ≡ 3 - (k + 1) = omega arith in
+      let one : nameAnd (3 - k) (drop i s) ≡ after (v ∷ []) (nameAnd (3 - k - 1) (drop (j + 1) s)) =
+      name-got s i (3 - k) n ∙ ap (after (v ∷ [])) (dot s j (3 - k) w d some) in
+      let all : nameAnd 3 (drop at s) ≡ after (take k p ++ (v ∷ [])) (nameAnd (3 - k - 1) (drop (j + 1) s)) =
+      t .is ∙ ap (after (take k p)) one ∙ after-one (take k p) v (nameAnd (3 - k - 1) (drop (j + 1) s)) in
+      record { is = rw (stored-before p k v l, ← less) all; kept = stored-behind o p k v (t .kept) }
+
+  -- a number, and no further name
+  pub names-end : {v j : ℕ} → NamesTo s at o p i k → k ≤ 3 → k < length p → NumberAt s i (Value v j) → further (3 - k) (drop j s) ≡ got [] (drop j s)
+      → NamesIs s (nameAnd 3 (drop at s)) nameCount o (set p k v) (Are (k + 1) j)
+  names-end {v} {j} t h l n e =
+      let all : nameAnd 3 (drop at s) ≡ got (take k p ++ (v ∷ [])) (drop j s) =
+      t .is ∙ ap (after (take k p)) (name-got s i (3 - k) n ∙ ap (after (v ∷ [])) e) in
+      record { is = rw (stored-before p k v l) (sym all); within = n .within; few = omega arith; kept = stored-behind o p k v (t .kept) }
+
+-- the fourth number is the last
+pub names-last : {s : List ℕ} {at : ℕ} {o p : List ℕ} {i k v j : ℕ} → NamesTo s at o p i k → k ≡ 3 → 3 < length p → NumberAt s i (Value v j)
+    → NamesIs s (nameAnd 3 (drop at s)) nameCount o (set p 3 v) (Are 4 j)
+names-last t e l n = names-end (rw e at t) (omega arith) l n refl
+
+module _ (s : List ℕ) (at : ℕ) where
+  -- no name is read, and the room stays
+  no-names : (o : List ℕ) → at ≤ length s → got [] (drop at s) ≡ reference (drop at s) → NamesIs s (reference (drop at s)) nameCount o o (Are 0 at)
+  no-names o w e = record { is = e; within = w; few = zero-le; kept = refl }
 
   -- ---- a reference
 
   -- the bytes end
   pub ref-end : (o : List ℕ) → at ≤ length s → length s ≤ at → NamesIs s (reference (drop at s)) nameCount o o (Are 0 at)
-  ref-end o w e = no-names (reference (drop at s)) nameCount o w (rw (drop-of-length-le s {i = at} e))
+  ref-end o w e = no-names o w (rw (drop-of-length-le s {i = at} e))
 
   -- the first byte is no digit
   pub ref-other : (o : List ℕ) → at < length s → isDigit (getD s at 0) ≡ false → NamesIs s (reference (drop at s)) nameCount o o (Are 0 at)
-  ref-other o w h = no-names (reference (drop at s)) nameCount o (omega arith) (rw (drop-cons s at 0 w, h))
+  ref-other o w h = no-names o (omega arith) (rw (drop-cons s at 0 w, h))
 
   -- the first byte is a digit
   ref-digit : at < length s → zeroByte ≤ getD s at 0 → getD s at 0 ≤ nineByte → nameAnd 3 (drop at s) ≡ reference (drop at s)

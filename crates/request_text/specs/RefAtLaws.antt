@@ -1,5 +1,6 @@
--- The four ways in which reading a line with a reference ends: without its key, with a bad name, without LF, or well.
+-- The ways in which reading a line with a reference ends: without its key, with a bad name, without LF, or well.
 use mathlib.Core.List.{List, [], _∷_}
+use mathlib.Core.Path.{_∙_}
 use Prim.Native.Nat.{zero-le, ℕ}
 use lib.ListN.{drop}
 use Rattle.lines.specs.LineAt.{KeyAt}
@@ -9,6 +10,7 @@ use Rattle.model.specs.Text.Lines.{lineEnd, readLine}
 use Rattle.model.specs.Text.References.{reference}
 use Rattle.request_text.specs.NamesAt.{NamesIs}
 use Rattle.request_text.specs.RefAt.{RefAt}
+use Rattle.request_text.specs.declared.reading.Names.{Names}
 use Rattle.request_text.specs.declared.reading.Names.the-variants.{Are, Wrong}
 
 module _ {s : List ℕ} {at : ℕ} {key o p : List ℕ} where
@@ -29,3 +31,8 @@ module _ {s : List ℕ} {at : ℕ} {key o p : List ℕ} where
       → RefAt s at key o p (Are n x)
   unfolding readLine
   ref-read k n e = record { is = rw (← k .is, ← n .is, ← e .is); within = e .within; few = n .few; kept = n .kept }
+
+  -- the key was read, and then the rest of the line
+  pub ref-behind : {i : ℕ} {r : Names} → KeyAt s at key (At i) → RefAt s i [] o p r → RefAt s at key o p r
+  unfolding readLine
+  ref-behind k e = record { is = e .is ∙ rw (← k .is); within = e .within; few = e .few; kept = e .kept }

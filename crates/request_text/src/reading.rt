@@ -2,26 +2,29 @@
 // so that those that it is lent change only where all is well.
 use lines::reading::Found;
 use lines::reading::Number;
+ghost use mathlib.Core.List.{[]};
 ghost use mathlib.Core.Path.{_≡_};
-ghost use Prim.Native.Nat.{_+_, _≤_};
+ghost use Prim.Native.Nat.{_≤_};
 ghost use lib.ListN.{drop, length};
+ghost use Rattle.lines.specs.LineAt.{LineAt};
 ghost use Rattle.model.specs.Request.Words.{nameCount, requestWords};
 ghost use Rattle.model.specs.Text.Reading.{Reads};
-ghost use Rattle.model.specs.Text.References.{further, nameAnd, reference};
+ghost use Rattle.model.specs.Text.References.{nameAnd, reference};
+ghost use Rattle.model.specs.Text.Wording.{cKey, ref2Key, refKey};
 ghost use Rattle.request_text.specs.NamesAt.{NamesIs};
 ghost use Rattle.request_text.specs.RefAt.{RefAt};
 ghost use Rattle.request_text.specs.Seven.{SevenAt, fresh};
 
 // How many names there are and the index behind them, or that one of them is bad.
 pub enum Names {
-    Are { n: usize, end: usize },
     Wrong,
+    Are { n: usize, end: usize },
 }
 
 // The index behind seven lines, or the first of them that is bad or missing.
 pub enum Seven {
-    Next(usize),
     BadLine(u32),
+    Next(usize),
 }
 
 // The answer, and with 18 the line.
@@ -30,36 +33,32 @@ pub struct Parsed {
     pub line: u32,
 }
 
-// A name and at most k further ones, into the front of the room.
-fn first_names(s: &[u8], at: usize, out: &mut [u32], k: usize) -> Names
-    requires { ⌜ (at ≤ length (now s)) × (k + 1 ≤ length (now out)) ⌝ }
-    ensures { λ r. ⌜ NamesIs (now (s .entry)) (nameAnd k (drop at (now (s .entry)))) (k + 1) (now (out .entry)) (now (out .exit)) r ⌝ }
+// One to four names, into the front of the room.
+fn first_names(s: &[u8], at: usize, out: &mut [u32]) -> Names
+    requires { ⌜ (at ≤ length (now s)) × (nameCount ≤ length (now out)) ⌝ }
+    ensures { λ r. ⌜ NamesIs (now (s .entry)) (nameAnd 3 (drop at (now (s .entry)))) nameCount (now (out .entry)) (now (out .exit)) r ⌝ }
 {
-    let Number::Value { v, next } = lines::reading::read_number(s, at) else {
+    let mut i = at;
+    let mut k = 0;
+    while k < 3 {
+        let Number::Value { v, next } = lines::reading::read_number(s, i) else {
+            return Names::Wrong;
+        };
+        out[k] = v;
+        k += 1;
+        if s.len() <= next {
+            return Names::Are { n: k, end: next };
+        }
+        if s[next] != 46 {
+            return Names::Are { n: k, end: next };
+        }
+        i = next + 1;
+    }
+    let Number::Value { v: last, next: end } = lines::reading::read_number(s, i) else {
         return Names::Wrong;
     };
-    out[0] = v;
-    let Names::Are { n, end } = more_names(s, next, &mut out[1..], k) else {
-        return Names::Wrong;
-    };
-    Names::Are { n: n + 1, end }
-}
-
-// At most k further names, each behind a dot.
-fn more_names(s: &[u8], at: usize, out: &mut [u32], k: usize) -> Names
-    requires { ⌜ (at ≤ length (now s)) × (k ≤ length (now out)) ⌝ }
-    ensures { λ r. ⌜ NamesIs (now (s .entry)) (further k (drop at (now (s .entry)))) k (now (out .entry)) (now (out .exit)) r ⌝ }
-{
-    if k == 0 {
-        return Names::Are { n: 0, end: at };
-    }
-    if s.len() <= at {
-        return Names::Are { n: 0, end: at };
-    }
-    if s[at] != 46 {
-        return Names::Are { n: 0, end: at };
-    }
-    first_names(s, at + 1, out, k - 1)
+    out[3] = last;
+    Names::Are { n: 4, end }
 }
 
 // A reference, none to four names, into the front of the room.
@@ -77,24 +76,51 @@ fn read_names(s: &[u8], at: usize, out: &mut [u32]) -> Names
     if 57 < b {
         return Names::Are { n: 0, end: at };
     }
-    first_names(s, at, out, 3)
+    first_names(s, at, out)
 }
 
-// The reference of the line at an index: the key, the names and LF. The answer's index is that behind the line.
-fn read_ref(s: &[u8], at: usize, key: &[u8], out: &mut [u32]) -> Names
+// The reference of the line at an index whose key was read already: the names and LF. The answer's index is that behind the line.
+fn read_ref(s: &[u8], at: usize, out: &mut [u32]) -> Names
     requires { ⌜ (at ≤ length (now s)) × (nameCount ≤ length (now out)) ⌝ }
-    ensures { λ r. ⌜ RefAt (now (s .entry)) at (now (key .entry)) (now (out .entry)) (now (out .exit)) r ⌝ }
+    ensures { λ r. ⌜ RefAt (now (s .entry)) at [] (now (out .entry)) (now (out .exit)) r ⌝ }
 {
-    let Found::At(i) = lines::reading::read_key(s, at, key) else {
+    let Names::Are { n, end } = read_names(s, at, out) else {
         return Names::Wrong;
     };
-    let Names::Are { n, end } = read_names(s, i, out) else {
-        return Names::Wrong;
-    };
-    let Found::At(j) = lines::reading::read_key(s, end, b"\n") else {
+    let Found::At(j) = lines::reading::read_end(s, end) else {
         return Names::Wrong;
     };
     Names::Are { n, end: j }
+}
+
+// The line of the first reference.
+fn first_ref(s: &[u8], at: usize, out: &mut [u32]) -> Names
+    requires { ⌜ (at ≤ length (now s)) × (nameCount ≤ length (now out)) ⌝ }
+    ensures { λ r. ⌜ RefAt (now (s .entry)) at refKey (now (out .entry)) (now (out .exit)) r ⌝ }
+{
+    let Found::At(i) = lines::reading::read_key(s, at, b"ref=") else {
+        return Names::Wrong;
+    };
+    read_ref(s, i, out)
+}
+
+// The line of the second reference.
+fn second_ref(s: &[u8], at: usize, out: &mut [u32]) -> Names
+    requires { ⌜ (at ≤ length (now s)) × (nameCount ≤ length (now out)) ⌝ }
+    ensures { λ r. ⌜ RefAt (now (s .entry)) at ref2Key (now (out .entry)) (now (out .exit)) r ⌝ }
+{
+    let Found::At(i) = lines::reading::read_key(s, at, b"ref2=") else {
+        return Names::Wrong;
+    };
+    read_ref(s, i, out)
+}
+
+// The last line.
+fn last_line(s: &[u8], at: usize) -> Number
+    requires { ⌜ at ≤ length (now s) ⌝ }
+    ensures { λ r. ⌜ LineAt (now (s .entry)) at cKey r ⌝ }
+{
+    lines::reading::read_line(s, at, b"c=")
 }
 
 // Seven lines at an index, into sixteen words that are all zero. At a bad line they are left somehow.
@@ -108,10 +134,10 @@ fn fill(s: &[u8], at: usize, w: &mut [u32]) -> Seven
     let Number::Value { v: op, next: s2 } = lines::reading::read_line(s, s1, b"op=") else {
         return Seven::BadLine(2);
     };
-    let Names::Are { n, end: s3 } = read_ref(s, s2, b"ref=", &mut w[3..7]) else {
+    let Names::Are { n, end: s3 } = first_ref(s, s2, &mut w[3..7]) else {
         return Seven::BadLine(3);
     };
-    let Names::Are { n: m, end: s4 } = read_ref(s, s3, b"ref2=", &mut w[8..12]) else {
+    let Names::Are { n: m, end: s4 } = second_ref(s, s3, &mut w[8..12]) else {
         return Seven::BadLine(4);
     };
     let Number::Value { v: a, next: s5 } = lines::reading::read_line(s, s4, b"a=") else {
@@ -120,7 +146,7 @@ fn fill(s: &[u8], at: usize, w: &mut [u32]) -> Seven
     let Number::Value { v: b, next: s6 } = lines::reading::read_line(s, s5, b"b=") else {
         return Seven::BadLine(6);
     };
-    let Number::Value { v: c, next: s7 } = lines::reading::read_line(s, s6, b"c=") else {
+    let Number::Value { v: c, next: s7 } = last_line(s, s6) else {
         return Seven::BadLine(7);
     };
     w[0] = user;

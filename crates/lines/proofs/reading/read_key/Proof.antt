@@ -1,64 +1,74 @@
-use mathlib.Core.Path.{_≡_, refl, _∙_}
-use Prim.Native.Nat.{_-_, _≤_}
+use mathlib.Core.Path.{_∙_, _≡_}
+use Prim.Native.Nat.{_+_, _-_, _≤_}
 use native.Mathlib.Omega.{arith}
 use lib.ListN.{drop, length}
-use borrow.Author.Needs.{needs}
-use Rattle.lines.specs.LineAtLaws.{behind-differs, behind-end, behind-short, behind-turn, key-at, key-nothing}
+use borrow.Author.Tests.{not-false, not-true}
+use Rattle.lines.specs.LineAtLaws.{key-at, key-end, key-nothing, key-short, key-start, key-turn}
+use Rattle.model.specs.Basics.Choice.{pick}
 use Rattle.model.specs.Text.Lines.{behind}
+use Rattle.model.specs.Text.Numbers.{bad}
+use borrow.Author.Needs.{needs}
 use Rattle.lines.proofs.reading.read_key.Statement.{statement}
 use Rattle.lines.proofs.reading.read_key.Tie as tie
 use Rattle.lines.proofs.reading.read_key.Reads as reads
 use Rattle.lines.proofs.reading.read_key.Lts as lts
 
 abbrev Inv-loop : tie.InvT-loop
-Inv-loop s at key i₀ j₀ i j = (i ≤ length key) × (j ≤ length s) × (behind key (drop at s) ≡ behind (drop i key) (drop j s))
+Inv-loop s at key i₀ same₀ i same = (i ≤ length key) × (behind key (drop at s) ≡ pick same (behind (drop i key) (drop (at + i) s)) bad)
 
 abbrev μ-loop : tie.MeasureT-loop
-μ-loop s at key i₀ j₀ i j = length key - i
+μ-loop s at key i₀ same₀ i same = length key - i
 
-loop-holds : tie.Need-loop-holds Inv-loop μ-loop
-loop-holds c = (omega arith, c .pre, refl)
+sub-if1 : tie.Need-sub-if1 Inv-loop μ-loop
+sub-if1 c = search needs
 
 returns : tie.Need-returns Inv-loop μ-loop
-returns c = key-nothing (c .before .before .loop .inv .2 ∙ behind-short _ _ _ _ (c .before .loop-test .taken) (c .if1 .taken))
+returns c = key-short (c .if1 .taken)
 
-shared-slice-read-if2 : tie.Need-shared-slice-read-if2 Inv-loop μ-loop
-shared-slice-read-if2 c = search needs
+loop-holds : tie.Need-loop-holds Inv-loop μ-loop
+loop-holds c = (omega arith, key-start (c .before .args .s .now) (c .before .args .key .now) (c .before .args .at))
 
-shared-slice-read-if2-2 : tie.Need-shared-slice-read-if2-2 Inv-loop μ-loop
-shared-slice-read-if2-2 c = search needs
+add-same : tie.Need-add-same Inv-loop μ-loop
+add-same c = search needs
 
-returns-2 : tie.Need-returns-2 Inv-loop μ-loop
-returns-2 c =
-    let if2 = c .if2 in
-    let if1 = c .before .before .before .if1 in
-    let test = c .before .before .before .before .loop-test in
-    let l = c .before .before .before .before .before .loop in
-    key-nothing (l .inv .2 ∙ behind-differs _ _ _ _ (test .taken) (if1 .left) (if2 .taken))
+shared-slice-read-same : tie.Need-shared-slice-read-same Inv-loop μ-loop
+shared-slice-read-same c = search needs
+
+shared-slice-read-same-2 : tie.Need-shared-slice-read-same-2 Inv-loop μ-loop
+shared-slice-read-same-2 c = search needs
 
 add-i : tie.Need-add-i Inv-loop μ-loop
 add-i c = search needs
-
-add-j : tie.Need-add-j Inv-loop μ-loop
-add-j c = search needs
 
 loop-less : tie.Need-loop-less Inv-loop μ-loop
 loop-less c = search needs
 
 loop-again : tie.Need-loop-again Inv-loop μ-loop
 loop-again c =
-    let if2 = c .if2 in
-    let if1 = c .before .before .before .if1 in
-    let test = c .before .before .before .before .loop-test in
-    let l = c .before .before .before .before .before .loop in
-    (omega arith, omega arith, l .inv .2 ∙ behind-turn _ _ _ _ (test .taken) (if1 .left) (if2 .left))
+    let test = c .before .before .loop-test in
+    let l = c .before .before .before .loop in
+    let a = c .before .before .before .before .before .args in
+    (omega arith, l .inv .1 ∙ key-turn (a .s .now) (a .key .now) (a .at) (l .i) (l .same) (test .taken) (omega arith))
+
+returns-2 : tie.Need-returns-2 Inv-loop μ-loop
+returns-2 c =
+    let l = c .before .before .loop in
+    key-nothing (l .inv .1 ∙ rw (not-true (l .same) (c .if2 .taken)))
+
+add-t6 : tie.Need-add-t6 Inv-loop μ-loop
+add-t6 c = search needs
 
 returns-3 : tie.Need-returns-3 Inv-loop μ-loop
 returns-3 c =
-    let test = c .loop-test in
-    let l = c .before .loop in
-    let a = c .before .before .args in
-    key-at (l .inv .1) (l .inv .2 ∙ behind-end (a .s .now) _ _ (l .j) (test .left))
+    let if2 = c .if2 in
+    let test = c .before .loop-test in
+    let l = c .before .before .loop in
+    let a = c .before .before .before .before .args in
+    let test = test in
+    let l = l in
+    let a = a in
+    let all = key-end (a .s .now) (a .key .now) (a .at) (l .i) (l .same) (test .left) in
+    key-at (omega arith) (l .inv .1 ∙ all ∙ rw (not-false (l .same) (if2 .left)))
 
 pub read-key-spec : {M : Type 1} → statement M
 read-key-spec =
@@ -66,13 +76,15 @@ read-key-spec =
     (tie.spec
     Inv-loop
     μ-loop
-    loop-holds
+    sub-if1
     returns
-    shared-slice-read-if2
-    shared-slice-read-if2-2
-    returns-2
+    loop-holds
+    add-same
+    shared-slice-read-same
+    shared-slice-read-same-2
     add-i
-    add-j
     loop-less
     loop-again
+    returns-2
+    add-t6
     returns-3)

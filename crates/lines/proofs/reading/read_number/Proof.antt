@@ -3,7 +3,7 @@ use Prim.Native.Nat.{_-_, _≤_}
 use native.Mathlib.Omega.{arith}
 use lib.ListN.{drop, length}
 use borrow.Author.Needs.{needs}
-use Rattle.lines.specs.NumberAtLaws.{high, low, more-end, more-other, more-over, more-turn, number-bad, number-end, number-first, number-got, number-other, number-zero}
+use Rattle.lines.specs.NumberAtLaws.{byte, high, low, more-end, more-other, more-over, more-turn, number-bad, number-end, number-first, number-got, number-other, number-zero, other, range}
 use Rattle.model.specs.Text.Numbers.{more, most, number}
 use Rattle.lines.proofs.reading.read_number.Statement.{statement}
 use Rattle.lines.proofs.reading.read_number.Tie as tie
@@ -70,18 +70,8 @@ returns-5 c =
     let if5 = c .before .if5 in
     let test = c .before .before .before .loop-test in
     let l = c .before .before .before .before .loop in
-    number-got (value2 .ensures) (l .inv .0) (l .inv .2 ∙ more-other _ _ _ (test .taken) (low _ (if5 .taken)))
-
-value-requires-3 : tie.Need-value-requires-3 Inv-loop μ-loop
-value-requires-3 c κs = search needs
-
-returns-6 : tie.Need-returns-6 Inv-loop μ-loop
-returns-6 c =
-    let value3 = c .value3 in
-    let if6 = c .before .if6 in
-    let test = c .before .before .before .before .loop-test in
-    let l = c .before .before .before .before .before .loop in
-    number-got (value3 .ensures) (l .inv .0) (l .inv .2 ∙ more-other _ _ _ (test .taken) (high _ (if6 .taken)))
+    let a = c .before .before .before .before .before .before .before .before .before .before .before .before .args in
+    number-got (value2 .ensures) (l .inv .0) (l .inv .2 ∙ more-other _ _ _ (test .taken) (other (byte (a .s .now) (l .i)) (if5 .taken)))
 
 mul-v : tie.Need-mul-v Inv-loop μ-loop
 mul-v c = search needs
@@ -90,20 +80,31 @@ wide-requires-2 : tie.Need-wide-requires-2 Inv-loop μ-loop
 wide-requires-2 c κs = search needs
 
 sub-v-2 : tie.Need-sub-v-2 Inv-loop μ-loop
-sub-v-2 c = search needs
+sub-v-2 c =
+    let wide2 = c .wide2 in
+    let if5 = c .before .if5 in
+    let l = c .before .before .before .before .loop in
+    let a = c .before .before .before .before .before .before .before .before .before .before .before .before .args in
+    omega (arith, wide2 .ensures, range (byte (a .s .now) (l .i)) (if5 .left) .0)
 
 add-v : tie.Need-add-v Inv-loop μ-loop
-add-v c = search needs
+add-v c =
+    let wide2 = c .wide2 in
+    let if5 = c .before .if5 in
+    let l = c .before .before .before .before .loop in
+    let a = c .before .before .before .before .before .before .before .before .before .before .before .before .args in
+    omega (arith, wide2 .ensures, range (byte (a .s .now) (l .i)) (if5 .left) .1, l .inv .1)
 
-returns-7 : tie.Need-returns-7 Inv-loop μ-loop
-returns-7 c =
-    let if7 = c .if7 in
+returns-6 : tie.Need-returns-6 Inv-loop μ-loop
+returns-6 c =
+    let if6 = c .if6 in
     let wide2 = c .before .wide2 in
-    let if6 = c .before .before .if6 in
-    let if5 = c .before .before .before .if5 in
-    let test = c .before .before .before .before .before .loop-test in
-    let l = c .before .before .before .before .before .before .loop in
-    number-bad (l .inv .2 ∙ more-over _ _ _ (test .taken) (if5 .left) (if6 .left) (rw (wide2 .ensures) at (if7 .taken)))
+    let if5 = c .before .before .if5 in
+    let test = c .before .before .before .before .loop-test in
+    let l = c .before .before .before .before .before .loop in
+    let a = c .before .before .before .before .before .before .before .before .before .before .before .before .before .args in
+    let r = range (byte (a .s .now) (l .i)) (if5 .left) in
+    number-bad (l .inv .2 ∙ more-over _ _ _ (test .taken) (r .0) (r .1) (rw (wide2 .ensures) at (if6 .taken)))
 
 add-i-2 : tie.Need-add-i-2 Inv-loop μ-loop
 add-i-2 c = search needs
@@ -113,23 +114,24 @@ loop-less c = search needs
 
 loop-again : tie.Need-loop-again Inv-loop μ-loop
 loop-again c =
-    let if7 = c .if7 in
+    let if6 = c .if6 in
     let wide2 = c .before .wide2 in
-    let if6 = c .before .before .if6 in
-    let if5 = c .before .before .before .if5 in
-    let test = c .before .before .before .before .before .loop-test in
-    let l = c .before .before .before .before .before .before .loop in
-    (omega arith, if7 .left, rw (wide2 .ensures) (l .inv .2 ∙ more-turn _ _ _ (test .taken) (if5 .left) (if6 .left) (rw (wide2 .ensures) at (if7 .left))))
+    let if5 = c .before .before .if5 in
+    let test = c .before .before .before .before .loop-test in
+    let l = c .before .before .before .before .before .loop in
+    let a = c .before .before .before .before .before .before .before .before .before .before .before .before .before .args in
+    let r = range (byte (a .s .now) (l .i)) (if5 .left) in
+    (omega arith, if6 .left, rw (wide2 .ensures) (l .inv .2 ∙ more-turn _ _ _ (test .taken) (r .0) (r .1) (rw (wide2 .ensures) at (if6 .left))))
 
-value-requires-4 : tie.Need-value-requires-4 Inv-loop μ-loop
-value-requires-4 c κs = search needs
+value-requires-3 : tie.Need-value-requires-3 Inv-loop μ-loop
+value-requires-3 c κs = search needs
 
-returns-8 : tie.Need-returns-8 Inv-loop μ-loop
-returns-8 c =
-    let value4 = c .value4 in
+returns-7 : tie.Need-returns-7 Inv-loop μ-loop
+returns-7 c =
+    let value3 = c .value3 in
     let test = c .before .loop-test in
     let l = c .before .before .loop in
-    number-got (value4 .ensures) (l .inv .0) (l .inv .2 ∙ more-end _ _ _ (test .left))
+    number-got (value3 .ensures) (l .inv .0) (l .inv .2 ∙ more-end _ _ _ (test .left))
 
 pub read-number-spec : {M : Type 1} → statement M
 read-number-spec =
@@ -150,15 +152,13 @@ read-number-spec =
     shared-slice-read-b
     value-requires-2
     returns-5
-    value-requires-3
-    returns-6
     mul-v
     wide-requires-2
     sub-v-2
     add-v
-    returns-7
+    returns-6
     add-i-2
     loop-less
     loop-again
-    value-requires-4
-    returns-8)
+    value-requires-3
+    returns-7)

@@ -10,7 +10,28 @@ use Rattle.request_text.proofs.reading.fill.Tie as tie
 use Rattle.request_text.proofs.reading.fill.Reads as reads
 use Rattle.request_text.proofs.reading.fill.Lts as lts
 use Rattle.lines.proofs.reading.read_line.Reads as read-line-reads
-use Rattle.request_text.proofs.reading.read_ref.Reads as read-ref-reads
+use Rattle.request_text.proofs.reading.first_ref.Reads as first-ref-reads
+use Rattle.request_text.proofs.reading.last_line.Reads as last-line-reads
+use Rattle.request_text.proofs.reading.second_ref.Reads as second-ref-reads
+
+-- where all seven lines were good, the room has still sixteen words
+room : (c : tie.After-known-told7)
+    → let v7 = c .before in let l7 = v7 .before .before in
+    let v6 = l7 .before .before in let l6 = v6 .before .before in
+    let v5 = l6 .before .before .before in let l5 = v5 .before .before in
+    let v4 = l5 .before .before .before in let l4 = v4 .before .before .before .before in
+    let v3 = l4 .before .before .before in let l3 = v3 .before .before .before .before in
+    let a = l3 .before .before .before .before .before .before .before .before .before .before .before .before .before .before in
+    length (withBoth (a .args .w .now) (l3 .first-ref .last .1 .1 .0) (l4 .second-ref .last .1 .1 .0)) ≡ requestWords
+room c =
+    let v7 = c .before in let l7 = v7 .before .before in
+    let v6 = l7 .before .before in let l6 = v6 .before .before in
+    let v5 = l6 .before .before .before in let l5 = v5 .before .before in
+    let v4 = l5 .before .before .before in let l4 = v4 .before .before .before .before in
+    let v3 = l4 .before .before .before in let l3 = v3 .before .before .before .before in
+    let a = l3 .before .before .before .before .before .before .before .before .before .before .before .before .before .before in
+    both-length (a .args .w .now) (l3 .first-ref .last .1 .1 .0) (l4 .second-ref .last .1 .1 .0) (a .pre .1)
+    (l3 .first-ref .kept .1 .1 .0) (l4 .second-ref .kept .1 .1 .0)
 
 slice-aggregate-read-line : tie.Need-slice-aggregate-read-line
 slice-aggregate-read-line c = search needs
@@ -49,23 +70,20 @@ returns-2 c =
     (rw (v1 .user .given .1) at (l1 .read-line .ensures))
     (rw (c .enum-told2 .given .1) at (l2 .read-line2 .ensures)))
 
-slice-aggregate-read-ref : tie.Need-slice-aggregate-read-ref
-slice-aggregate-read-ref c = search needs
+sub-first-ref : tie.Need-sub-first-ref
+sub-first-ref c = search needs
 
-sub-read-ref : tie.Need-sub-read-ref
-sub-read-ref c = search needs
+part-first-ref-start : tie.Need-part-first-ref-start
+part-first-ref-start c = search needs
 
-part-read-ref-start : tie.Need-part-read-ref-start
-part-read-ref-start c = search needs
-
-part-read-ref-end : tie.Need-part-read-ref-end
-part-read-ref-end c =
-    let a = c .before .before .before .before .before .before .before .before .before .before .before .before .before in
+part-first-ref-end : tie.Need-part-first-ref-end
+part-first-ref-end c =
+    let a = c .before .before .before .before .before .before .before .before .before .before .before .before in
     rw (a .pre .1) (omega arith)
 
-read-ref-requires : tie.Need-read-ref-requires
-read-ref-requires c κs =
-    let v2 = c .before .before .before in let l2 = v2 .before .before in
+first-ref-requires : tie.Need-first-ref-requires
+first-ref-requires c κs =
+    let v2 = c .before .before in let l2 = v2 .before .before in
     let a = l2 .before .before .before .before .before .before .before .before .before in
     ((rw (v2 .op .given .1) at (l2 .read-line2 .ensures)) .within, omega (arith, ap length (first-part _ (a .pre .1))))
 
@@ -81,34 +99,31 @@ same-length c = search needs
 returns-3 : tie.Need-returns-3
 returns-3 c =
     let l3 = c .before .before .before .before in
-    let v2 = l3 .before .before .before .before in let l2 = v2 .before .before in
+    let v2 = l3 .before .before .before in let l2 = v2 .before .before in
     let v1 = l2 .before .before .before in let l1 = v1 .before .before in
     seven-bad (bad3
     (rw (v1 .user .given .1) at (l1 .read-line .ensures))
     (rw (v2 .op .given .1) at (l2 .read-line2 .ensures))
-    (rw (c .enum-told3 .given .1) at (l3 .read-ref .ensures)))
+    (rw (c .enum-told3 .given .1) at (l3 .first-ref .ensures)))
 
-slice-aggregate-read-ref-2 : tie.Need-slice-aggregate-read-ref-2
-slice-aggregate-read-ref-2 c = search needs
+sub-second-ref : tie.Need-sub-second-ref
+sub-second-ref c = search needs
 
-sub-read-ref-2 : tie.Need-sub-read-ref-2
-sub-read-ref-2 c = search needs
+part-second-ref-start : tie.Need-part-second-ref-start
+part-second-ref-start c = search needs
 
-part-read-ref-start-2 : tie.Need-part-read-ref-start-2
-part-read-ref-start-2 c = search needs
+part-second-ref-end : tie.Need-part-second-ref-end
+part-second-ref-end c =
+    let l3 = c .before .before .before .before .before in
+    let a = l3 .before .before .before .before .before .before .before .before .before .before .before .before .before .before in
+    omega (arith, first-length (a .args .w .now) (l3 .first-ref .last .1 .1 .0) (a .pre .1) (l3 .first-ref .kept .1 .1 .0))
 
-part-read-ref-end-2 : tie.Need-part-read-ref-end-2
-part-read-ref-end-2 c =
-    let l3 = c .before .before .before .before .before .before in
-    let a = l3 .before .before .before .before .before .before .before .before .before .before .before .before .before .before .before in
-    omega (arith, first-length (a .args .w .now) (l3 .read-ref .last .1 .1 .1 .0) (a .pre .1) (l3 .read-ref .kept .1 .1 .1 .0))
-
-read-ref-requires-2 : tie.Need-read-ref-requires-2
-read-ref-requires-2 c κs =
-    let v3 = c .before .before .before in let l3 = v3 .before .before .before .before in
-    let a = l3 .before .before .before .before .before .before .before .before .before .before .before .before .before .before .before in
-    let e = second-part (a .args .w .now) (l3 .read-ref .last .1 .1 .1 .0) (a .pre .1) (l3 .read-ref .kept .1 .1 .1 .0) in
-    ((rw (v3 .n .given .1) at (l3 .read-ref .ensures)) .within, omega (arith, ap length e))
+second-ref-requires : tie.Need-second-ref-requires
+second-ref-requires c κs =
+    let v3 = c .before .before in let l3 = v3 .before .before .before .before in
+    let a = l3 .before .before .before .before .before .before .before .before .before .before .before .before .before .before in
+    let e = second-part (a .args .w .now) (l3 .first-ref .last .1 .1 .0) (a .pre .1) (l3 .first-ref .kept .1 .1 .0) in
+    ((rw (v3 .n .given .1) at (l3 .first-ref .ensures)) .within, omega (arith, ap length e))
 
 enum-known-m : tie.Need-enum-known-m
 enum-known-m c = search needs
@@ -122,20 +137,20 @@ same-length-2 c = search needs
 returns-4 : tie.Need-returns-4
 returns-4 c =
     let l4 = c .before .before .before .before in
-    let v3 = l4 .before .before .before .before in let l3 = v3 .before .before .before .before in
-    let v2 = l3 .before .before .before .before in let l2 = v2 .before .before in
+    let v3 = l4 .before .before .before in let l3 = v3 .before .before .before .before in
+    let v2 = l3 .before .before .before in let l2 = v2 .before .before in
     let v1 = l2 .before .before .before in let l1 = v1 .before .before in
     seven-bad (bad4
     (rw (v1 .user .given .1) at (l1 .read-line .ensures))
     (rw (v2 .op .given .1) at (l2 .read-line2 .ensures))
-    (rw (v3 .n .given .1) at (l3 .read-ref .ensures))
-    (rw (c .enum-told4 .given .1) at (l4 .read-ref2 .ensures)))
+    (rw (v3 .n .given .1) at (l3 .first-ref .ensures))
+    (rw (c .enum-told4 .given .1) at (l4 .second-ref .ensures)))
 
 slice-aggregate-read-line-3 : tie.Need-slice-aggregate-read-line-3
 slice-aggregate-read-line-3 c = search needs
 
 read-line-requires-3 : tie.Need-read-line-requires-3
-read-line-requires-3 c κs = (rw (c .before .before .m .given .1) at (c .before .before .before .before .before .before .read-ref2 .ensures)) .within
+read-line-requires-3 c κs = (rw (c .before .before .m .given .1) at (c .before .before .before .before .before .before .second-ref .ensures)) .within
 
 enum-known-a : tie.Need-enum-known-a
 enum-known-a c = search needs
@@ -150,14 +165,14 @@ returns-5 : tie.Need-returns-5
 returns-5 c =
     let l5 = c .before .before in
     let v4 = l5 .before .before .before in let l4 = v4 .before .before .before .before in
-    let v3 = l4 .before .before .before .before in let l3 = v3 .before .before .before .before in
-    let v2 = l3 .before .before .before .before in let l2 = v2 .before .before in
+    let v3 = l4 .before .before .before in let l3 = v3 .before .before .before .before in
+    let v2 = l3 .before .before .before in let l2 = v2 .before .before in
     let v1 = l2 .before .before .before in let l1 = v1 .before .before in
     seven-bad (bad5
     (rw (v1 .user .given .1) at (l1 .read-line .ensures))
     (rw (v2 .op .given .1) at (l2 .read-line2 .ensures))
-    (rw (v3 .n .given .1) at (l3 .read-ref .ensures))
-    (rw (v4 .m .given .1) at (l4 .read-ref2 .ensures))
+    (rw (v3 .n .given .1) at (l3 .first-ref .ensures))
+    (rw (v4 .m .given .1) at (l4 .second-ref .ensures))
     (rw (c .enum-told5 .given .1) at (l5 .read-line3 .ensures)))
 
 slice-aggregate-read-line-4 : tie.Need-slice-aggregate-read-line-4
@@ -180,22 +195,19 @@ returns-6 c =
     let l6 = c .before .before in
     let v5 = l6 .before .before .before in let l5 = v5 .before .before in
     let v4 = l5 .before .before .before in let l4 = v4 .before .before .before .before in
-    let v3 = l4 .before .before .before .before in let l3 = v3 .before .before .before .before in
-    let v2 = l3 .before .before .before .before in let l2 = v2 .before .before in
+    let v3 = l4 .before .before .before in let l3 = v3 .before .before .before .before in
+    let v2 = l3 .before .before .before in let l2 = v2 .before .before in
     let v1 = l2 .before .before .before in let l1 = v1 .before .before in
     seven-bad (bad6
     (rw (v1 .user .given .1) at (l1 .read-line .ensures))
     (rw (v2 .op .given .1) at (l2 .read-line2 .ensures))
-    (rw (v3 .n .given .1) at (l3 .read-ref .ensures))
-    (rw (v4 .m .given .1) at (l4 .read-ref2 .ensures))
+    (rw (v3 .n .given .1) at (l3 .first-ref .ensures))
+    (rw (v4 .m .given .1) at (l4 .second-ref .ensures))
     (rw (v5 .a .given .1) at (l5 .read-line3 .ensures))
     (rw (c .enum-told6 .given .1) at (l6 .read-line4 .ensures)))
 
-slice-aggregate-read-line-5 : tie.Need-slice-aggregate-read-line-5
-slice-aggregate-read-line-5 c = search needs
-
-read-line-requires-5 : tie.Need-read-line-requires-5
-read-line-requires-5 c κs = (rw (c .before .before .b .given .1) at (c .before .before .before .before .read-line4 .ensures)) .within
+last-line-requires : tie.Need-last-line-requires
+last-line-requires c κs = (rw (c .before .b .given .1) at (c .before .before .before .read-line4 .ensures)) .within
 
 enum-known-c : tie.Need-enum-known-c
 enum-known-c c = search needs
@@ -206,51 +218,32 @@ enum-told-7 c = search needs
 same-length-5 : tie.Need-same-length-5
 same-length-5 c =
     let l7 = c .before .before in
-    let v6 = l7 .before .before .before in let l6 = v6 .before .before in
+    let v6 = l7 .before .before in let l6 = v6 .before .before in
     let v5 = l6 .before .before .before in let l5 = v5 .before .before in
     let v4 = l5 .before .before .before in let l4 = v4 .before .before .before .before in
-    let v3 = l4 .before .before .before .before in let l3 = v3 .before .before .before .before in
-    let a = l3 .before .before .before .before .before .before .before .before .before .before .before .before .before .before .before in
-    both-length (a .args .w .now) (l3 .read-ref .last .1 .1 .1 .0) (l4 .read-ref2 .last .1 .1 .1 .0) (a .pre .1)
-    (l3 .read-ref .kept .1 .1 .1 .0) (l4 .read-ref2 .kept .1 .1 .1 .0)
+    let v3 = l4 .before .before .before in let l3 = v3 .before .before .before .before in
+    let a = l3 .before .before .before .before .before .before .before .before .before .before .before .before .before .before in
+    both-length (a .args .w .now) (l3 .first-ref .last .1 .1 .0) (l4 .second-ref .last .1 .1 .0) (a .pre .1)
+    (l3 .first-ref .kept .1 .1 .0) (l4 .second-ref .kept .1 .1 .0)
     ∙ ap length (sym (a .pre .1))
 
 returns-7 : tie.Need-returns-7
 returns-7 c =
     let l7 = c .before .before in
-    let v6 = l7 .before .before .before in let l6 = v6 .before .before in
+    let v6 = l7 .before .before in let l6 = v6 .before .before in
     let v5 = l6 .before .before .before in let l5 = v5 .before .before in
     let v4 = l5 .before .before .before in let l4 = v4 .before .before .before .before in
-    let v3 = l4 .before .before .before .before in let l3 = v3 .before .before .before .before in
-    let v2 = l3 .before .before .before .before in let l2 = v2 .before .before in
+    let v3 = l4 .before .before .before in let l3 = v3 .before .before .before .before in
+    let v2 = l3 .before .before .before in let l2 = v2 .before .before in
     let v1 = l2 .before .before .before in let l1 = v1 .before .before in
     seven-bad (bad7
     (rw (v1 .user .given .1) at (l1 .read-line .ensures))
     (rw (v2 .op .given .1) at (l2 .read-line2 .ensures))
-    (rw (v3 .n .given .1) at (l3 .read-ref .ensures))
-    (rw (v4 .m .given .1) at (l4 .read-ref2 .ensures))
+    (rw (v3 .n .given .1) at (l3 .first-ref .ensures))
+    (rw (v4 .m .given .1) at (l4 .second-ref .ensures))
     (rw (v5 .a .given .1) at (l5 .read-line3 .ensures))
     (rw (v6 .b .given .1) at (l6 .read-line4 .ensures))
-    (rw (c .enum-told7 .given .1) at (l7 .read-line5 .ensures)))
-
--- where all seven lines were good, the room has still sixteen words
-room : (c : tie.After-known-told7)
-    → let v7 = c .before in let l7 = v7 .before .before in
-    let v6 = l7 .before .before .before in let l6 = v6 .before .before in
-    let v5 = l6 .before .before .before in let l5 = v5 .before .before in
-    let v4 = l5 .before .before .before in let l4 = v4 .before .before .before .before in
-    let v3 = l4 .before .before .before .before in let l3 = v3 .before .before .before .before in
-    let a = l3 .before .before .before .before .before .before .before .before .before .before .before .before .before .before .before in
-    length (withBoth (a .args .w .now) (l3 .read-ref .last .1 .1 .1 .0) (l4 .read-ref2 .last .1 .1 .1 .0)) ≡ requestWords
-room c =
-    let v7 = c .before in let l7 = v7 .before .before in
-    let v6 = l7 .before .before .before in let l6 = v6 .before .before in
-    let v5 = l6 .before .before .before in let l5 = v5 .before .before in
-    let v4 = l5 .before .before .before in let l4 = v4 .before .before .before .before in
-    let v3 = l4 .before .before .before .before in let l3 = v3 .before .before .before .before in
-    let a = l3 .before .before .before .before .before .before .before .before .before .before .before .before .before .before .before in
-    both-length (a .args .w .now) (l3 .read-ref .last .1 .1 .1 .0) (l4 .read-ref2 .last .1 .1 .1 .0) (a .pre .1)
-    (l3 .read-ref .kept .1 .1 .1 .0) (l4 .read-ref2 .kept .1 .1 .1 .0)
+    (rw (c .enum-told7 .given .1) at (l7 .last-line .ensures)))
 
 slice-write-w : tie.Need-slice-write-w
 slice-write-w c = omega (arith, room c)
@@ -261,11 +254,11 @@ slice-write-w-2 c = simp length-set (omega (arith, room c))
 cast-w : tie.Need-cast-w
 cast-w c =
     let v7 = c .before in let l7 = v7 .before .before in
-    let v6 = l7 .before .before .before in let l6 = v6 .before .before in
+    let v6 = l7 .before .before in let l6 = v6 .before .before in
     let v5 = l6 .before .before .before in let l5 = v5 .before .before in
     let v4 = l5 .before .before .before in let l4 = v4 .before .before .before .before in
-    let v3 = l4 .before .before .before .before in let l3 = v3 .before .before .before .before in
-    omega (arith, (rw (v3 .n .given .1) at (l3 .read-ref .ensures)) .few)
+    let v3 = l4 .before .before .before in let l3 = v3 .before .before .before .before in
+    omega (arith, (rw (v3 .n .given .1) at (l3 .first-ref .ensures)) .few)
 
 slice-write-w-3 : tie.Need-slice-write-w-3
 slice-write-w-3 c = simp length-set (omega (arith, room c))
@@ -273,10 +266,10 @@ slice-write-w-3 c = simp length-set (omega (arith, room c))
 cast-w-2 : tie.Need-cast-w-2
 cast-w-2 c =
     let v7 = c .before in let l7 = v7 .before .before in
-    let v6 = l7 .before .before .before in let l6 = v6 .before .before in
+    let v6 = l7 .before .before in let l6 = v6 .before .before in
     let v5 = l6 .before .before .before in let l5 = v5 .before .before in
     let v4 = l5 .before .before .before in let l4 = v4 .before .before .before .before in
-    omega (arith, (rw (v4 .m .given .1) at (l4 .read-ref2 .ensures)) .few)
+    omega (arith, (rw (v4 .m .given .1) at (l4 .second-ref .ensures)) .few)
 
 slice-write-w-4 : tie.Need-slice-write-w-4
 slice-write-w-4 c = simp length-set (omega (arith, room c))
@@ -293,27 +286,27 @@ slice-write-w-7 c = simp length-set (omega (arith, room c))
 same-length-6 : tie.Need-same-length-6
 same-length-6 c =
     let v7 = c .before in let l7 = v7 .before .before in
-    let v6 = l7 .before .before .before in let l6 = v6 .before .before in
+    let v6 = l7 .before .before in let l6 = v6 .before .before in
     let v5 = l6 .before .before .before in let l5 = v5 .before .before in
     let v4 = l5 .before .before .before in let l4 = v4 .before .before .before .before in
-    let v3 = l4 .before .before .before .before in let l3 = v3 .before .before .before .before in
-    let a = l3 .before .before .before .before .before .before .before .before .before .before .before .before .before .before .before in
+    let v3 = l4 .before .before .before in let l3 = v3 .before .before .before .before in
+    let a = l3 .before .before .before .before .before .before .before .before .before .before .before .before .before .before in
     simp length-set (room c ∙ ap length (sym (a .pre .1)))
 
 returns-8 : tie.Need-returns-8
 returns-8 c =
     let v7 = c .before in let l7 = v7 .before .before in
-    let v6 = l7 .before .before .before in let l6 = v6 .before .before in
+    let v6 = l7 .before .before in let l6 = v6 .before .before in
     let v5 = l6 .before .before .before in let l5 = v5 .before .before in
     let v4 = l5 .before .before .before in let l4 = v4 .before .before .before .before in
-    let v3 = l4 .before .before .before .before in let l3 = v3 .before .before .before .before in
-    let v2 = l3 .before .before .before .before in let l2 = v2 .before .before in
+    let v3 = l4 .before .before .before in let l3 = v3 .before .before .before .before in
+    let v2 = l3 .before .before .before in let l2 = v2 .before .before in
     let v1 = l2 .before .before .before in let l1 = v1 .before .before in
     let a = l1 .before .before .before .before in
-    let e3 = rw (v3 .n .given .1) at (l3 .read-ref .ensures) in
-    let e4 = rw (v4 .m .given .1) at (l4 .read-ref2 .ensures) in
+    let e3 = rw (v3 .n .given .1) at (l3 .first-ref .ensures) in
+    let e4 = rw (v4 .m .given .1) at (l4 .second-ref .ensures) in
     seven-next
-    ((rw (v7 .c .given .1) at (l7 .read-line5 .ensures)) .within)
+    ((rw (v7 .c .given .1) at (l7 .last-line .ensures)) .within)
     (read7
     (rw (v1 .user .given .1) at (l1 .read-line .ensures))
     (rw (v2 .op .given .1) at (l2 .read-line2 .ensures))
@@ -321,10 +314,10 @@ returns-8 c =
     e4
     (rw (v5 .a .given .1) at (l5 .read-line3 .ensures))
     (rw (v6 .b .given .1) at (l6 .read-line4 .ensures))
-    (rw (v7 .c .given .1) at (l7 .read-line5 .ensures)))
+    (rw (v7 .c .given .1) at (l7 .last-line .ensures)))
     (stored-is (a .args .w .now) _ _ _ _ _ _ _ _ _ (a .pre .1)
-    (l3 .read-ref .kept .1 .1 .1 .0) (e3 .few) (e3 .kept)
-    (l4 .read-ref2 .kept .1 .1 .1 .0) (e4 .few) (e4 .kept))
+    (l3 .first-ref .kept .1 .1 .0) (e3 .few) (e3 .kept)
+    (l4 .second-ref .kept .1 .1 .0) (e4 .few) (e4 .kept))
 
 pub fill-spec : {M : Type 1} → statement M
 fill-spec =
@@ -340,20 +333,18 @@ fill-spec =
     enum-known-op
     enum-told-2
     returns-2
-    slice-aggregate-read-ref
-    sub-read-ref
-    part-read-ref-start
-    part-read-ref-end
-    read-ref-requires
+    sub-first-ref
+    part-first-ref-start
+    part-first-ref-end
+    first-ref-requires
     enum-known-n
     enum-told-3
     same-length
     returns-3
-    slice-aggregate-read-ref-2
-    sub-read-ref-2
-    part-read-ref-start-2
-    part-read-ref-end-2
-    read-ref-requires-2
+    sub-second-ref
+    part-second-ref-start
+    part-second-ref-end
+    second-ref-requires
     enum-known-m
     enum-told-4
     same-length-2
@@ -370,8 +361,7 @@ fill-spec =
     enum-told-6
     same-length-4
     returns-6
-    slice-aggregate-read-line-5
-    read-line-requires-5
+    last-line-requires
     enum-known-c
     enum-told-7
     same-length-5

@@ -1,0 +1,65 @@
+use Rattle.lines.specs.LineAtLaws.{key-none, line-no-end, line-no-number, line-read}
+use borrow.Author.Needs.{needs}
+use Rattle.lines.proofs.reading.read_rest.Statement.{statement}
+use Rattle.lines.proofs.reading.read_rest.Tie as tie
+use Rattle.lines.proofs.reading.read_rest.Reads as reads
+use Rattle.lines.proofs.reading.read_rest.Lts as lts
+use Rattle.lines.proofs.reading.read_end.Reads as read-end-reads
+use Rattle.lines.proofs.reading.read_number.Reads as read-number-reads
+
+read-number-requires : tie.Need-read-number-requires
+read-number-requires c κs = search needs
+
+enum-known-v : tie.Need-enum-known-v
+enum-known-v c = search needs
+
+enum-told : tie.Need-enum-told
+enum-told c = search needs
+
+returns : tie.Need-returns
+returns c =
+    let enum-told = c .enum-told in
+    let read-number = c .before .before .read-number in
+    let pre = c .before .before .before .before .pre in
+    line-no-number (key-none (pre)) (rw (enum-told .given .1) at (read-number .ensures))
+
+read-end-requires : tie.Need-read-end-requires
+read-end-requires c κs = (rw (c .before .v .given .1) at (c .before .before .before .read-number .ensures)) .within
+
+enum-known-j : tie.Need-enum-known-j
+enum-known-j c = search needs
+
+enum-told-2 : tie.Need-enum-told-2
+enum-told-2 c = search needs
+
+returns-2 : tie.Need-returns-2
+returns-2 c =
+    let enum-told2 = c .enum-told2 in
+    let read-end = c .before .before .read-end in
+    let v = c .before .before .before .before .v in
+    let read-number = c .before .before .before .before .before .before .read-number in
+    let pre = c .before .before .before .before .before .before .before .before .pre in
+    line-no-end (key-none (pre)) (rw (v .given .1) at (read-number .ensures)) (rw (enum-told2 .given .1) at (read-end .ensures))
+
+returns-3 : tie.Need-returns-3
+returns-3 c =
+    let j = c .before .j in
+    let read-end = c .before .before .before .read-end in
+    let v = c .before .before .before .before .before .v in
+    let read-number = c .before .before .before .before .before .before .before .read-number in
+    let pre = c .before .before .before .before .before .before .before .before .before .pre in
+    line-read (key-none (pre)) (rw (v .given .1) at (read-number .ensures)) (rw (j .given .1) at (read-end .ensures))
+
+pub read-rest-spec : {M : Type 1} → statement M
+read-rest-spec =
+    tie.close
+    (tie.spec
+    read-number-requires
+    enum-known-v
+    enum-told
+    returns
+    read-end-requires
+    enum-known-j
+    enum-told-2
+    returns-2
+    returns-3)

@@ -1,0 +1,53 @@
+use Rattle.request_text.specs.RefAtLaws.{ref-behind, ref-no-key}
+use borrow.Author.Needs.{needs}
+use Rattle.request_text.proofs.reading.first_ref.Statement.{statement}
+use Rattle.request_text.proofs.reading.first_ref.Tie as tie
+use Rattle.request_text.proofs.reading.first_ref.Reads as reads
+use Rattle.request_text.proofs.reading.first_ref.Lts as lts
+use Rattle.lines.proofs.reading.read_key.Reads as read-key-reads
+use Rattle.request_text.proofs.reading.read_ref.Reads as read-ref-reads
+
+slice-aggregate-read-key : tie.Need-slice-aggregate-read-key
+slice-aggregate-read-key c = search needs
+
+read-key-requires : tie.Need-read-key-requires
+read-key-requires c κs = search needs
+
+enum-known-i : tie.Need-enum-known-i
+enum-known-i c = search needs
+
+enum-told : tie.Need-enum-told
+enum-told c = search needs
+
+returns : tie.Need-returns
+returns c = ref-no-key (rw (c .enum-told .given .1) at (c .before .before .read-key .ensures))
+
+read-ref-requires : tie.Need-read-ref-requires
+read-ref-requires c κs =
+    let i = c .before .before .i in
+    let read-key = c .before .before .before .before .read-key in
+    let pre = c .before .before .before .before .before .before .before .before .pre in
+    ((rw (i .given .1) at (read-key .ensures)) .within, pre .1)
+
+same-length : tie.Need-same-length
+same-length c = search needs
+
+returns-2 : tie.Need-returns-2
+returns-2 c =
+    let read-ref = c .before .before .read-ref in
+    let i = c .before .before .before .before .before .i in
+    let read-key = c .before .before .before .before .before .before .before .read-key in
+    ref-behind (rw (i .given .1) at (read-key .ensures)) (read-ref .ensures)
+
+pub first-ref-spec : {M : Type 1} → statement M
+first-ref-spec =
+    tie.close
+    (tie.spec
+    slice-aggregate-read-key
+    read-key-requires
+    enum-known-i
+    enum-told
+    returns
+    read-ref-requires
+    same-length
+    returns-2)
