@@ -93,7 +93,7 @@ fn read_ref(s: &[u8], at: usize, out: &mut [u32]) -> Names
     Names::Are { n, end: j }
 }
 
-// The line of the first reference.
+// The line of the first reference. Each key has a function of its own, so that it is compared in place.
 fn first_ref(s: &[u8], at: usize, out: &mut [u32]) -> Names
     requires { ⌜ (at ≤ length (now s)) × (nameCount ≤ length (now out)) ⌝ }
     ensures { λ r. ⌜ RefAt (now (s .entry)) at refKey (now (out .entry)) (now (out .exit)) r ⌝ }

@@ -1,15 +1,15 @@
 -- What the run of a window says of a whole script. It has one result; and where nothing is left and nothing follows, or a request could not be
 -- read, the bytes that it put into the room are what the program must write.
-use mathlib.Core.Bool.{Bool, _&&_, false, true}
+use mathlib.Core.Bool.{Bool, _&&_, _||_, false, not, true}
 use mathlib.Core.List.{List, [], append-nil}
 use mathlib.Core.Logic.{_⊎_, _≢_, inl, inr}
 use mathlib.Core.Path.{_∙_, _≡_, ap, refl, subst, sym}
 use Prim.Native.Nat.{_-_, _<_, _≤_, ℕ}
 use native.Mathlib.Omega.{arith}
-use lib.Dec.{eqb, ltb}
+use lib.Dec.{eqb, leb, ltb}
 use lib.ListN.{length, take}
 use lib.Seq.{take-at}
-use borrow.Author.Tests.{eqb-false, eqb-true, ltb-true}
+use borrow.Author.Tests.{eqb-false, eqb-true, leb-true, ltb-true}
 use Rattle.lines.specs.OntoLaws.{empty}
 use Rattle.model.specs.Basics.Cases.{cases, true-or-false}
 use Rattle.model.specs.Script.Reports.{output}
@@ -73,3 +73,16 @@ kept-short {t} {s} {last} {room} {r} x z h =
     cases (ran-rest-short t s last (length room) line (omega (arith, x .wrote .many)))
     (λ e. let l : length (n .rest) ≡ 0 = ap length e in omega arith)
     (λ e. let l : length (n .rest) < longest = unfinished-few (n .rest) (e .1) in omega arith)
+
+over-not : (l : ℕ) (b : Bool) → (not (eqb l 0) || b) ≡ false → l ≡ 0
+over-not l b e = go (eqb l 0) refl e
+  where
+    go : (t : Bool) → eqb l 0 ≡ t → (not t || b) ≡ false → l ≡ 0
+    go true q h = eqb-true l 0 q
+    go false q h = let y : _≡_ {A = ℕ} 0 1 = cc in absurd (omega arith)
+
+-- So it is with what the program asks: the run is not over, and had room for another report in a room of n bytes.
+pub wanted-short : {t s : List ℕ} {last : Bool} {room : List ℕ} {r : Ran} {u out : List ℕ} → RunsOn t s last room r u out → (x y b : Bool) (n : ℕ)
+    → x ≡ (not (eqb (r .place .line) 0) || b) → x ≡ false → n ≡ length room → y ≡ leb reportBytes (n - r .bytes) → y ≡ true → length s - r .place .at < longest
+wanted-short {r = r} w x y b n e f g h k =
+    kept-short w (over-not (r .place .line) b (sym e ∙ f)) (let l = leb-true reportBytes (n - r .bytes) (sym h ∙ k) in omega arith)
