@@ -10,7 +10,7 @@ ghost use Rattle.model.specs.Text.Lines.{lineEnd};
 ghost use Rattle.model.specs.Text.Numbers.{most};
 
 // A number and the index behind it, or that there is none. (In these enums the case that ends a reading stands first: then the compiler takes the
-// other for the usual one, and a short text costs a tenth less.)
+// other for the usual one, which makes reading a short text cheaper.)
 pub enum Number {
     Bad,
     Value { v: u32, next: usize },
