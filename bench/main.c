@@ -85,16 +85,22 @@ static bool read_option(const char *text, struct comparison *what)
     return false;
 }
 
+/* A seed, how many steps, and options. */
+static bool read_comparison(int count, char **words, struct comparison *what)
+{
+    if (count < 2 || !read_number(words[0], &what->seed) || !read_number(words[1], &what->steps))
+        return false;
+    for (int i = 2; i < count; i++)
+        if (!read_option(words[i], what))
+            return false;
+    return true;
+}
+
 static int run_compare(int count, char **words)
 {
     struct comparison what = { 0 };
 
-    if (count < 2 || !read_number(words[0], &what.seed) || !read_number(words[1], &what.steps))
-        return usage();
-    for (int i = 2; i < count; i++)
-        if (!read_option(words[i], &what))
-            return usage();
-    if ((what.faults & TEXT_FAULTS) != 0)
+    if (!read_comparison(count, words, &what) || (what.faults & TEXT_FAULTS) != 0)
         return usage();
     return compare(&what);
 }
@@ -103,12 +109,7 @@ static int run_texts(int count, char **words)
 {
     struct comparison what = { 0 };
 
-    if (count < 2 || !read_number(words[0], &what.seed) || !read_number(words[1], &what.steps))
-        return usage();
-    for (int i = 2; i < count; i++)
-        if (!read_option(words[i], &what))
-            return usage();
-    if ((what.faults & ~(uint32_t)TEXT_FAULTS) != 0 || what.only != 0)
+    if (!read_comparison(count, words, &what) || (what.faults & ~(uint32_t)TEXT_FAULTS) != 0 || what.only != 0)
         return usage();
     return compare_texts(what.seed, what.steps, what.faults);
 }
