@@ -1,20 +1,22 @@
 -- How many bytes the text of sixteen words takes.
 use mathlib.Core.List.{List}
-use mathlib.Core.Path.{_≡_, ap, refl}
+use mathlib.Core.Path.{_≡_}
 use Prim.Native.Nat.{_+_, _≤_, ℕ}
 use native.Mathlib.Omega.{arith}
-use lib.ListN.{drop, getD, length, length-take, take}
-use Rattle.model.specs.Request.Words.{nameCount}
+use lib.ListN.{length, length-take, take}
+use Rattle.model.specs.Request.Words.{nameCount, referenceAt, requestOf}
+use Rattle.model.specs.Text.BothWays.{text-longest}
+use Rattle.model.specs.Text.GivenLaws.{names-few}
 use Rattle.model.specs.Text.LineLaws.{length-line}
 use Rattle.model.specs.Text.NumberLaws.{length-most}
 use Rattle.model.specs.Text.Numbers.{digits}
 use Rattle.model.specs.Text.References.{joined}
-use Rattle.model.specs.Text.Wording.{Wording, aKey, bKey, cKey, opKey, ref2Key, refKey, textOf, userKey}
+use Rattle.model.specs.Text.Unfinished.{longest}
+use Rattle.model.specs.Text.Wording.{Wording, aKey, bKey, cKey, opKey, ref2Key, refKey, textOf, userKey, wordingOf}
 use Rattle.model.specs.Text.WordingLaws.{text-length}
 use Rattle.model.specs.Text.Writing.{textOfWords}
 use Rattle.request_text.specs.NameLaws.{joined-most}
 use Rattle.request_text.specs.Sixteen.{Sixteen}
-use Rattle.request_text.specs.TextLaws.{text-worded, worded}
 
 -- keys and line ends take 30 bytes, the values the others
 pub need-values : (m : Wording)
@@ -41,19 +43,7 @@ digits-bound {r} n e = omega (arith, length-most n)
 pub names-bound : {r : ℕ} (n : ℕ) (ns : List ℕ) → r ≡ length (joined (take n ns)) → n ≤ nameCount → r ≤ 43
 names-bound {r} n ns e h = omega (arith, joined-most (take n ns) (omega (arith, length-take n ns)))
 
--- Rule 11.2: the longest text is 166 bytes.
-pub need-most : (w : List ℕ) → Sixteen w → length (textOfWords w) ≤ 166
-need-most w x =
-    let m = worded w in
-    omega (
-      arith,
-      ap length (text-worded w x),
-      need-values m,
-      names-bound (getD w 2 0) (drop 3 w) refl (x .first),
-      names-bound (getD w 7 0) (drop 8 w) refl (x .second),
-      length-most (m .user),
-      length-most (m .operation),
-      length-most (m .a),
-      length-most (m .b),
-      length-most (m .c),
-    )
+-- Rule 11.2: no text of such words is longer than 166 bytes.
+pub need-most : (w : List ℕ) → Sixteen w → length (textOfWords w) ≤ longest
+unfolding requestOf referenceAt
+need-most w x = text-longest (wordingOf (requestOf w)) (names-few (referenceAt w 2) (x .first)) (names-few (referenceAt w 7) (x .second))
