@@ -1,0 +1,2 @@
+//! The desk's five calls, over the proved archive.
+pub mod words;

@@ -1,0 +1,1 @@
+//! Tables, requests and texts to try desks with.
