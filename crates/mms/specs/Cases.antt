@@ -6,8 +6,8 @@ use lib.ListN.{drop, length}
 use Rattle.mms.specs.Contract.{Listing}
 use Rattle.mms.specs.Unique.{list-unique}
 use Rattle.mms.specs.declared.Answer.{Answer}
-use Rattle.model.specs.Case.S1List.{s1-list-1, s1-list-2, s1-list-2-short, s1-list-unmarked, s1Unmarked}
-use Rattle.model.specs.Case.S1Words.{s1Words}
+use Rattle.cases.specs.Case.S1List.{s1-list-1, s1-list-2, s1-list-2-short, s1-list-unmarked, s1Unmarked}
+use Rattle.cases.specs.Case.S1Words.{s1Words}
 
 module _ (room : List ℕ) (a : Answer) (r : List ℕ) where
   -- user 2 has one entry, 5;

@@ -11,4 +11,4 @@ pub mod List
 pub mod Text
 pub mod Theorem
 pub mod Script
-pub mod Case
+pub mod Figures

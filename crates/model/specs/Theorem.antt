@@ -1,5 +1,6 @@
 -- What follows: kept, lawful, framed, noticed, unique; the definitions of the model papers.
 pub mod Definitions
+pub mod DefinitionLaws
 pub mod MayChange
 pub mod Statements
 pub mod NoRefusal

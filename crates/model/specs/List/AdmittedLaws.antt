@@ -14,7 +14,7 @@ use Rattle.model.specs.List.Admitted.{Admitted}
 use Rattle.model.specs.List.Listing.{barred, showing}
 use Rattle.model.specs.Request.Allowed.{Known, On}
 use Rattle.model.specs.Request.Ladder.{notLoggedOn, unknownUser}
-use Rattle.model.specs.Request.OperationLaws.{number-opOf}
+use Rattle.model.specs.Request.OperationLaws.{number-opOf, show-wants}
 use Rattle.model.specs.Request.Operations.{toShow}
 use Rattle.model.specs.Request.RungLaws.{notLoggedOn-fails, unknownUser-fails}
 use Rattle.model.specs.Request.Words.{Request, requestOf}
@@ -39,7 +39,7 @@ barred-admitted t u = go (eqb (check t) 0) (unknownUser (tablesOf t) q) (notLogg
     go true false true s x y z e = absurd (omega arith)
     go true false false s x y z e =
         let k = y .to tt in
-        record { whole = x .to tt .0; good = x .to tt .1; low = k .low; high = k .high; there = k .there; on = z .to tt tt }
+        record { whole = x .to tt .0; good = x .to tt .1; low = k .low; high = k .high; there = k .there; on = z .to tt show-wants }
     go false b c (other n) x y z e = absurd (n e)
 
 -- Where that holds, none of them applies.

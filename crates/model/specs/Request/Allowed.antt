@@ -1,5 +1,4 @@
 -- What an acceptance says: rungs 4 to 16 as statements. `Allowed` has a record for each operation that asks more than an operand's kind.
-use mathlib.Core.Bool.{not}
 use mathlib.Core.List.{List, List·Memᴰ}
 use mathlib.Core.Logic.{_≢_, _⊎_}
 use mathlib.Core.Option.{some}
@@ -13,7 +12,7 @@ use Rattle.model.specs.Level.{AtMost, Lower, Subset, downgrader, levelCo
 use Rattle.model.specs.Request.Asked.{Asked, HasRole, asked, basisOf, namedTriple, operand, own}
 use Rattle.model.specs.Request.Conditions.{levelOf}
 use Rattle.model.specs.Request.Form.{Between, Fits}
-use Rattle.model.specs.Request.Operations.{Op, clearanceEffect, levelEffect, numberOf, opOf, openLoggedOff, rowOf, toAcknowledge}
+use Rattle.model.specs.Request.Operations.{Op, clearanceEffect, levelEffect, numberOf, opOf, rowOf, toAcknowledge}
 use Rattle.model.specs.Request.Operations.{toAuthorised, toClear, toClearance, toCopy, toCreate, toCurrent, toDelete, toDeviceLevel}
 use Rattle.model.specs.Request.Operations.{toEdit, toGrant, toLevel, toLogin, toLogout, toMark, toMaximum, toMove, toRelease}
 use Rattle.model.specs.Request.Operations.{toRevoke, toShow}
@@ -55,9 +54,12 @@ Permitted d u o k e = Member (triples d e) placeCount (tripleOf u o k)
 abbrev pub Open : Tables → ℕ → List ℕ → Type 0
 Open d u way = (y : ℕ) → List·Memᴰ y way → d .entity y mark ≢ 0 → AtMost (d .entity y level) (d .user u clearance)
 
--- Rule 7.6.
+-- Rule 7.6: a login and an acknowledgement alone ask for no device.
+abbrev pub WantsDevice : Op → Type 0
+WantsDevice o = (o ≡ toLogin → ⊥) × (o ≡ toAcknowledge → ⊥)
+
 abbrev pub On : Op → Tables → ℕ → Type 0
-On o d u = T (not (openLoggedOff o)) → devices d u ≢ 0
+On o d u = WantsDevice o → devices d u ≢ 0
 
 -- Rule 6.1.
 pub record MayCreate (s : Asked) (d : Tables) : Type 0 where

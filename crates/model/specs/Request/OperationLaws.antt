@@ -1,14 +1,16 @@
 -- An operation and its number are one thing (rule 6).
-use mathlib.Core.Bool.{Bool, _&&_, false, true}
+use mathlib.Core.Bool.{Bool, _&&_, false, not, true}
 use mathlib.Core.List.{List, [], _∷_}
+use mathlib.Core.Logic.{_⊎_, inl, inr}
 use mathlib.Core.Option.{none, some}
 use mathlib.Core.Path.{_∙_, _≡_, ap, refl, sym}
 use Prim.Native.Nat.{_≤_, ℕ}
 use native.Mathlib.Omega.{arith}
 use lib.Dec.{T, eqb, leb}
-use Rattle.model.specs.Basics.Agree.{agrees-and, agrees-le}
+use Rattle.model.specs.Basics.Agree.{Agrees, agrees-and, agrees-as, agrees-eq, agrees-le, agrees-not, agrees-or}
 use Rattle.model.specs.Basics.Choice.{Same, it, other, same}
-use Rattle.model.specs.Request.Operations.{Op, numberOf, opOf, operations, toAcknowledge, toAuthorised, toClear, toClearance, toCopy}
+use Rattle.model.specs.Request.Allowed.{WantsDevice}
+use Rattle.model.specs.Request.Operations.{Op, numberOf, opOf, openLoggedOff, operations, toAcknowledge, toAuthorised, toClear, toClearance, toCopy}
 use Rattle.model.specs.Request.Operations.{toCreate, toCurrent, toDelete, toDeviceLevel, toEdit, toGrant, toLevel, toLogin, toLogout}
 use Rattle.model.specs.Request.Operations.{toMark, toMaximum, toMove, toRelease, toRevoke, toShow, withNumber}
 use Rattle.model.specs.Tables.Words.{operationCount}
@@ -84,3 +86,22 @@ number-range o = agrees-and (agrees-le 1 (numberOf o)) (agrees-le (numberOf o) o
     go toDeviceLevel = tt
     go toRelease = tt
     go toAcknowledge = tt
+
+-- Rule 7.6: the test that an operation is closed to who is logged off says its statement.
+pub wantsDevice-agrees : (o : Op) → Agrees (not (openLoggedOff o)) (WantsDevice o)
+wantsDevice-agrees o = agrees-as (λ f. (λ e. f (inl (ap numberOf e)), λ e. f (inr (ap numberOf e)))) (λ z. either z)
+    (agrees-not (agrees-or (agrees-eq (numberOf o) (numberOf toLogin)) (agrees-eq (numberOf o) (numberOf toAcknowledge))))
+  where
+    either : WantsDevice o → (numberOf o ≡ numberOf toLogin) ⊎ (numberOf o ≡ numberOf toAcknowledge) → ⊥
+    either z (inl e) = z .0 (number-injective o toLogin e)
+    either z (inr e) = z .1 (number-injective o toAcknowledge e)
+
+-- show, clear and logout want a device
+pub show-wants : WantsDevice toShow
+show-wants = wantsDevice-agrees toShow .to tt
+
+pub clear-wants : WantsDevice toClear
+clear-wants = wantsDevice-agrees toClear .to tt
+
+pub logout-wants : WantsDevice toLogout
+logout-wants = wantsDevice-agrees toLogout .to tt

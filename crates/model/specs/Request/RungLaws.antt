@@ -15,6 +15,7 @@ use Rattle.model.specs.Request.Form.{Fits}
 use Rattle.model.specs.Request.Ladder.{bars, fits, leadsNowhere, noAccess, notCleared, notLoggedOn, notSecure, notUnderstood}
 use Rattle.model.specs.Request.Ladder.{notWellFormed, ofOp, ownRung, permits, refused, someOperand, unknownUser, wrongKind}
 use Rattle.model.specs.Request.LadderLaws.{AllOperands, ofOp-agrees, ofOp-fails, positions-fail, someOperand-fails}
+use Rattle.model.specs.Request.OperationLaws.{wantsDevice-agrees}
 use Rattle.model.specs.Request.Operations.{Op, numberOf, opOf, openLoggedOff, rowOf}
 use Rattle.model.specs.Request.TestLaws.{open-agrees, permits-agrees}
 use Rattle.model.specs.Request.Words.{Request}
@@ -60,7 +61,7 @@ module _ (d : Tables) (q : Request) where
     pub notLoggedOn-fails : Fails (notLoggedOn d q) (On o d (q .user))
     unfolding notLoggedOn
     notLoggedOn-fails = ofOp-fails q o named (λ o. not (openLoggedOff o) && eqb (devices d (q .user)) 0)
-        (fails-and (agrees-T (not (openLoggedOff o))) (fails-agreed (agrees-eq (devices d (q .user)) 0)))
+        (fails-and (wantsDevice-agrees o) (fails-agreed (agrees-eq (devices d (q .user)) 0)))
 
     -- Rule 7.7: each reference leads somewhere.
     pub leadsNowhere-fails : Fails (leadsNowhere d q) ((k : ℕ) → Operand o k → operand (asked d q) k ≢ 0)

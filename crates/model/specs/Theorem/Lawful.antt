@@ -18,6 +18,7 @@ use Rattle.model.specs.Request.Words.{Request}
 use Rattle.model.specs.State.WellFormed.{WellFormed}
 use Rattle.model.specs.Tables.EditLaws.{case}
 use Rattle.model.specs.Tables.Words.{Tables, absentKind, containerKind, devices, kinds, maximum, releasedType, releaser, type}
+use Rattle.model.specs.Theorem.DefinitionLaws.{both-there}
 use Rattle.model.specs.Theorem.Definitions.{Both, Flows, NamedOpenly, Obeys, ReleaseSecure, Released, ShowsId, TranslationSecure}
 use Rattle.model.specs.Theorem.LawfulSame.{Changes, downgrade-one, downgrade-same, erased, ids-same, release-same, sames, set-current}
 use Rattle.model.specs.Theorem.LawfulSame.{set-officer, set-same, unborn}
@@ -46,8 +47,8 @@ module _ (d : Tables) (q : Request) where
   create-changes a = record {
     ids = ids-same q d new (λ v x m. fresh-ids e c k t l d (λ z. omega (arith, sort-kind (s .a))) v x (put-ids c e 0 (fresh e c k t l d) box v x m));
     setting = search sames;
-    downgrade = downgrade-same q d new (λ x b. unborn e d x (levelOf d x) l gone (b .0));
-    release = release-same q d new (λ x b. unborn e d x (d .entity x type) t gone (b .0)) (λ x b. refl);
+    downgrade = downgrade-same q d new (λ x b. unborn e d x (levelOf d x) l gone (both-there d new x b .0));
+    release = release-same q d new (λ x b. unborn e d x (d .entity x type) t gone (both-there d new x b .0)) (λ x b. refl);
   }
     where
       s : Asked
@@ -93,7 +94,7 @@ module _ (d : Tables) (q : Request) where
       new = delete e d
 
       gone : (x n : ℕ) → Both d new x → pick (eqb x e) 0 n ≡ n
-      gone x n b = erased e (leave e d) x n (b .1)
+      gone x n b = erased e (leave e d) x n (both-there d new x b .1)
 
   -- Rules 9.8 to 9.11 of move: a place in a container is on no device.
   move-changes : ChangedBy toMove

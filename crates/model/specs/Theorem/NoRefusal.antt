@@ -17,6 +17,7 @@ use Rattle.model.specs.Request.ConditionLaws.{showAbove-fails, showNoRoo
 use Rattle.model.specs.Request.Form.{Between, InRange}
 use Rattle.model.specs.Request.Ladder.{refused}
 use Rattle.model.specs.Request.LadderLaws.{AllOperands}
+use Rattle.model.specs.Request.OperationLaws.{clear-wants, logout-wants, show-wants}
 use Rattle.model.specs.Request.Operations.{Op, clearanceEffect, levelEffect, rowOf, toAcknowledge, toAuthorised, toClear, toClearance}
 use Rattle.model.specs.Request.Operations.{toCopy, toCreate, toCurrent, toDelete, toDeviceLevel, toEdit, toGrant, toLevel, toLogin}
 use Rattle.model.specs.Request.Operations.{toLogout, toMark, toMaximum, toMove, toRelease, toRevoke, toShow}
@@ -96,7 +97,7 @@ module _ (d : Tables) (w : WellFormed d) (s : Asked) where
   noRefusal-allowed toShow h =
       let l = showAbove-fails d s .to (h .no13) in
       record {
-        on = h .on tt;
+        on = h .on show-wants;
         thing = thing-agrees d (s .first) .to (h .kinds .0);
         sum = h .arguments .0;
         low = l .1;
@@ -104,12 +105,12 @@ module _ (d : Tables) (w : WellFormed d) (s : Asked) where
         label = showUnlabelled-fails d s .to (h .no15);
         room = showNoRoom-fails d s .to (h .no14);
       }
-  noRefusal-allowed toClear h = h .on tt
+  noRefusal-allowed toClear h = h .on clear-wants
   noRefusal-allowed toLogin h =
       let k = device-agrees d (s .first) .to (h .kinds .0) in
       let f = loginTaken-fails d s w k .to (h .no15) in
       record { screen = k; off = f .0; free = f .1 }
-  noRefusal-allowed toLogout h = h .on tt
+  noRefusal-allowed toLogout h = h .on logout-wants
   noRefusal-allowed toCurrent h =
       let p = rolesOff-fails d s .to (h .no11) in
       record {

@@ -1,8 +1,8 @@
 -- Case state S2: every operation accepted once, and refused in every way that its row and the ladder allow.
 use mathlib.Core.List.{[], _∷_}
-use Rattle.model.specs.Case.Cases.{gone, item}
+use Rattle.cases.specs.Case.Cases.{gone, item}
 use Rattle.model.specs.Tables.Sheet.{Sheet, sheetTables}
 use Rattle.model.specs.Tables.Words.{Tables, containerKind, deviceKind, draftType, objectKind, plainType, releasedType, tripleOf}
 
 -- Seven users and thirty-three entities. Entity 7 is absent, so it is the lowest free number; 35 to 64 are absent too. Entity 8 is
 -- the marked one. User 1 has all three named roles; 2 is a downgrader and a releaser who now has only two house roles (8 and 128);

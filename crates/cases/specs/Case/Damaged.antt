@@ -3,11 +3,11 @@ use mathlib.Core.Bool.{Bool, false, true}
 use mathlib.Core.List.{List, [], _∷_}
 use Prim.Native.Nat.{ℕ}
 use lib.Dec.{eqb}
-use Rattle.model.specs.Case.Cases.{Stands, entityIs, userIs}
+use Rattle.cases.specs.Case.Cases.{Stands, entityIs, userIs}
 use Rattle.model.specs.State.Check.{judge}
 use Rattle.model.specs.Tables.Edits.{onEntity, onUser, userWord, word}
 use Rattle.model.specs.Tables.Words.{Tables, authorised, clearance, count, current, device, held, heldOp, kind, level, mark, maximum}
 use Rattle.model.specs.Tables.Words.{missed, place, present, releaser, shown, spare, triple, tripleOf, type, value}
 
 -- the tables with these words put
 unfoldable pub put-words : List Stands → Tables → Tables

@@ -1,8 +1,8 @@
 -- Cases on state S2: create, delete, move, edit, copy (rules 6.1 to 6.5).
 use mathlib.Core.List.{List, [], _∷_}
-use Rattle.model.specs.Case.Cases.{Case, ask, entityIs, expect, userIs}
+use Rattle.cases.specs.Case.Cases.{Case, ask, entityIs, expect, userIs}
 use Rattle.model.specs.Tables.Words.{containerKind, count, deviceKind, draftType, held, heldOp, kind, level, mark, missed, objectKind}
 use Rattle.model.specs.Tables.Words.{place, plainType, releasedType, releaser, triple, tripleOf, type, value}
 
 -- every case: what was asked before (from S2 on), what is asked, the answer, and words that stand afterwards
 unfoldable pub createCases : List Case

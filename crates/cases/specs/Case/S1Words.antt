@@ -4,22 +4,22 @@ use mathlib.Core.Path.{_∙_, _≡_, ap, refl, subst, sym}
 use Prim.Native.Nat.{_*_, ℕ}
 use lib.Dec.{eqb→eq}
 use lib.ListN.{length, replicate, take}
-use Rattle.model.specs.Case.Cases.{asking, item}
-use Rattle.model.specs.Case.Opened.{opened}
-use Rattle.model.specs.Case.S1.{s1, s1Sheet}
-use Rattle.model.specs.Case.S1Holds.{s1-good}
+use Rattle.cases.specs.Case.Cases.{asking, item}
+use Rattle.cases.specs.Case.Opened.{opened}
+use Rattle.cases.specs.Case.S1.{s1, s1Sheet}
+use Rattle.cases.specs.Case.S1Holds.{s1-good}
 use Rattle.model.specs.Request.After.{after}
 use Rattle.model.specs.Request.Ladder.{answer}
 use Rattle.model.specs.Request.Step.{afterOf, answerOf, sized}
 use Rattle.model.specs.Request.Words.{requestOf, requestWords}
 use Rattle.model.specs.State.AgreeSecure.{check-agrees}
 use Rattle.model.specs.State.Check.{check}
 use Rattle.model.specs.State.Secure.{Good}
 use Rattle.model.specs.Tables.Layout.{entityWidth, tablesOf, userWidth, wordCount}
 use Rattle.model.specs.Tables.Sheet.{padded, paddedRecords, sheetWords}
 use Rattle.model.specs.Tables.SheetLaws.{sheet-tables, sheetWords-length}
 use Rattle.model.specs.Tables.Words.{Tables}
 use Rattle.model.specs.Theorem.Steps.{afterOf-tables, answerOf-sized, sized-agrees}
 
 -- n words of zero
 abbrev zeros : ℕ → List ℕ

@@ -1,8 +1,8 @@
 -- Cases on state S2: level, mark, grant, revoke, show, clear, login, logout (rules 6.6 to 6.13).
 use mathlib.Core.List.{List, [], _∷_}
-use Rattle.model.specs.Case.Cases.{Case, ask, entityIs, expect, raw, userIs}
+use Rattle.cases.specs.Case.Cases.{Case, ask, entityIs, expect, raw, userIs}
 use Rattle.model.specs.Tables.Words.{authorised, clearance, count, current, device, draftType, held, heldOp, level, mark, missed}
 use Rattle.model.specs.Tables.Words.{place, shown, triple, tripleOf, type, value}
 
 -- every case: what was asked before (from S2 on), what is asked, the answer, and words that stand afterwards
 unfoldable pub levelCases : List Case

@@ -2,9 +2,9 @@
 use mathlib.Core.List.{List, [], _++_, _∷_}
 use Prim.Native.Nat.{ℕ}
 use lib.ListN.{replicate}
-use Rattle.model.specs.Case.Cases.{item}
+use Rattle.cases.specs.Case.Cases.{item}
 use Rattle.model.specs.Tables.Sheet.{Sheet, sheetTables}
 use Rattle.model.specs.Tables.Words.{Tables, containerKind, deviceKind, objectKind, plainType, tripleOf}
 
 -- an object with nothing in it
 abbrev bare : List ℕ

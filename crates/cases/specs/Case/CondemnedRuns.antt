@@ -8,25 +8,25 @@ use Prim.Native.Nat.{_<_, _≤_, suc, zero, ℕ}
 use native.Mathlib.Omega.{arith}
 use lib.Dec.{T, T-not, eqb, eqb-refl}
 use lib.ListN.{getD, length, take}
 use Rattle.model.specs.Basics.TestLaws.{T-l, T-r}
-use Rattle.model.specs.Case.Opened.{opened}
-use Rattle.model.specs.Case.S1.{s1, s1Sheet}
-use Rattle.model.specs.Case.S1Words.{s1Words, s1Words-length, s1Words-tables}
+use Rattle.cases.specs.Case.Opened.{opened}
+use Rattle.cases.specs.Case.S1.{s1, s1Sheet}
+use Rattle.cases.specs.Case.S1Words.{s1Words, s1Words-length, s1Words-tables}
 use Rattle.model.specs.Request.After.{after}
 use Rattle.model.specs.Request.Words.{nameCount, requestOf}
 use Rattle.model.specs.Script.ReportLaws.{report-told, told}
 use Rattle.model.specs.Script.Reports.{Report, unread, untold}
 use Rattle.model.specs.Script.Runs.{Answered, cut, texts, whole}
 use Rattle.model.specs.Script.RunsLaws.{answered-unique, reportsOf, texts-runs}
 use Rattle.model.specs.Tables.Layout.{tablesOf, wordCount}
 use Rattle.model.specs.Tables.Words.{Tables, held, missed}
 use Rattle.model.specs.Text.Lines.{readLine}
 use Rattle.model.specs.Text.Numbers.{most}
 use Rattle.model.specs.Text.ReferenceLaws.{AllFit}
 use Rattle.model.specs.Text.Wording.{Wording, badLine, readSeven, sixteen}
 use Rattle.model.specs.Text.WordingLaws.{Written}
 use Rattle.model.specs.Text.WordsLaws.{sixteen-length}
 use Rattle.model.specs.Theorem.Steps.{afterOf-length, afterOf-tables, sized-agrees}
 
 -- ---- reports by tables
 

@@ -6,24 +6,24 @@ use Prim.Native.Nat.{_≤_, suc, zero, ℕ}
 use native.Mathlib.Omega.{arith}
 use lib.Dec.{T, leb}
 use lib.ListN.{getD}
 use Rattle.model.specs.Basics.Agree.{agrees-le}
 use Rattle.model.specs.Basics.TestLaws.{T-l, T-r}
-use Rattle.model.specs.Case.Opened.{opened}
-use Rattle.model.specs.Case.S1.{s1, s1Sheet}
-use Rattle.model.specs.Case.S1Words.{s1Entities, s1Users, s1Words, s1Words-after, s1Words-length, s1Words-tables}
+use Rattle.cases.specs.Case.Opened.{opened}
+use Rattle.cases.specs.Case.S1.{s1, s1Sheet}
+use Rattle.cases.specs.Case.S1Words.{s1Entities, s1Users, s1Words, s1Words-after, s1Words-length, s1Words-tables}
 use Rattle.model.specs.Request.After.{after}
 use Rattle.model.specs.Request.Step.{afterOf}
 use Rattle.model.specs.Request.Words.{requestOf}
 use Rattle.model.specs.Script.ReportLaws.{report-told, told}
 use Rattle.model.specs.Script.Reports.{Report, output, report, reportText, untold}
 use Rattle.model.specs.Script.Runs.{Outputs, stay, turn, whole}
 use Rattle.model.specs.Script.RunsLaws.{outputs-unique}
 use Rattle.model.specs.Script.State.{bytesOf, stateOf}
 use Rattle.model.specs.Script.StateLaws.{state-bytes}
 use Rattle.model.specs.Text.Lines.{line, readLine}
 use Rattle.model.specs.Text.Numbers.{digits, most}
 use Rattle.model.specs.Text.Wording.{Wording, lines, readSeven, sixteen}
 use Rattle.model.specs.Theorem.Steps.{afterOf-length}
 
 -- the second request, line by line: user=2, op=10, ref=5, ref2=, a=3, b=0, c=0
 abbrev s1Second : List ℕ

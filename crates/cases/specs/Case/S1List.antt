@@ -4,19 +4,19 @@ use mathlib.Core.Path.{_∙_, _≡_, ap, refl, subst}
 use Prim.Native.Nat.{_<_, _≤_, ℕ}
 use native.Mathlib.Omega.{arith}
 use lib.ListN.{drop, length, length-set, set}
-use Rattle.model.specs.Case.Opened.{openedList}
-use Rattle.model.specs.Case.S1.{s1, s1Sheet}
-use Rattle.model.specs.Case.S1Words.{s1Words, s1Words-checked, s1Words-length, s1Words-tables}
+use Rattle.cases.specs.Case.Opened.{openedList}
+use Rattle.cases.specs.Case.S1.{s1, s1Sheet}
+use Rattle.cases.specs.Case.S1Words.{s1Words, s1Words-checked, s1Words-length, s1Words-tables}
 use Rattle.model.specs.Effect.Words.{setMark}
 use Rattle.model.specs.List.AdmittedLaws.{barred-checked}
 use Rattle.model.specs.List.Listing.{Lists, barred, entries, loggedOff, noSuchUser, roomShort}
 use Rattle.model.specs.List.ListingLaws.{lists-found, lists-found-short, lists-refused}
 use Rattle.model.specs.List.Ways.{found}
 use Rattle.model.specs.State.AgreeSecure.{check-tables}
 use Rattle.model.specs.State.Check.{check, judge}
 use Rattle.model.specs.Tables.Layout.{entityAt, tablesOf, wordCount}
 use Rattle.model.specs.Tables.LayoutLaws.{entity-set}
 use Rattle.model.specs.Tables.Words.{Tables, mark}
 
 -- What the walk finds: nothing for user 1; 5 for user 2; with 4 unmarked 4.1, too.
 pub s1-found-1 : found s1 1 ≡ []

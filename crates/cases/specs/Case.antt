@@ -1,7 +1,6 @@
 -- Case states and their cases, each table proved by one computation.
 pub mod Cases
 pub mod Opened
-pub mod Figures
 pub mod S1
 pub mod S1Holds
 pub mod S1Words

@@ -1,9 +1,9 @@
 -- Rule 13: case state S1, and its step cases as two tables.
 use mathlib.Core.List.{List, [], _∷_}
-use Rattle.model.specs.Case.Cases.{Case, ask, entityIs, expect, item, userIs}
+use Rattle.cases.specs.Case.Cases.{Case, ask, entityIs, expect, item, userIs}
 use Rattle.model.specs.Tables.Sheet.{Sheet, sheetTables}
 use Rattle.model.specs.Tables.Words.{Tables, containerKind, count, device, deviceKind, draftType, held, heldOp, kind, level, missed}
 use Rattle.model.specs.Tables.Words.{objectKind, place, plainType, releasedType, releaser, shown, tripleOf, type, value}
 
 -- present, clearance, authorised, current, device
 unfoldable pub s1Sheet : Sheet

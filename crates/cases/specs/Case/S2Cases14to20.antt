@@ -1,9 +1,9 @@
 -- Cases on state S2: current roles, clearance, authorised roles, maximum, device level, release, acknowledge (rules 6.14 to 6.20), and the ladder (rule 7).
 use mathlib.Core.List.{List, [], _∷_}
-use Rattle.model.specs.Case.Cases.{Case, ask, entityIs, expect, raw, userIs}
+use Rattle.cases.specs.Case.Cases.{Case, ask, entityIs, expect, raw, userIs}
 use Rattle.model.specs.Tables.Words.{authorised, clearance, containerKind, count, current, device, draftType, held, heldOp, kind}
 use Rattle.model.specs.Tables.Words.{level, maximum, missed, place, plainType, present, releasedType, releaser, shown, spare, type}
 use Rattle.model.specs.Tables.Words.{value}
 
 -- every case: what was asked before (from S2 on), what is asked, the answer, and words that stand afterwards
 unfoldable pub currentCases : List Case

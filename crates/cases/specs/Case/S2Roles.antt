@@ -3,11 +3,11 @@ use mathlib.Core.Bool.{true}
 use mathlib.Core.List.{List, [], _∷_}
 use mathlib.Core.Path.{_≡_, refl}
 use Prim.Native.Nat.{ℕ}
-use Rattle.model.specs.Case.Cases.{Case, allPass, ask, entityIs, expect, userIs}
-use Rattle.model.specs.Case.Opened.{opened}
-use Rattle.model.specs.Case.S2.{s2, s2Sheet}
+use Rattle.cases.specs.Case.Cases.{Case, allPass, ask, entityIs, expect, userIs}
+use Rattle.cases.specs.Case.Opened.{opened}
+use Rattle.cases.specs.Case.S2.{s2, s2Sheet}
 use Rattle.model.specs.Tables.Edits.{onUser, userWord}
 use Rattle.model.specs.Tables.Words.{Tables, authorised, clearance, current, level, maximum, releaser, type}
 
 -- user 1 has these current roles
 unfoldable pub s2With : ℕ → Tables

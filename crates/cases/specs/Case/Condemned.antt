@@ -8,15 +8,15 @@ use mathlib.Core.Path.{_≡_, refl}
 use Prim.Native.Nat.{ℕ}
 use native.Mathlib.Omega.{arith}
 use lib.Dec.{T, T-not, eqb}
 use Rattle.model.specs.Basics.Agree.{agrees-eq}
-use Rattle.model.specs.Case.Cases.{ask}
-use Rattle.model.specs.Case.Opened.{opened}
-use Rattle.model.specs.Case.S1.{s1, s1Sheet}
+use Rattle.cases.specs.Case.Cases.{ask}
+use Rattle.cases.specs.Case.Opened.{opened}
+use Rattle.cases.specs.Case.S1.{s1, s1Sheet}
 use Rattle.model.specs.Request.Operations.{toEdit, toRelease}
 use Rattle.model.specs.Tables.Edits.{_and_, onEntity, onUser, userWord, word}
 use Rattle.model.specs.Tables.Words.{Tables, absentKind, authorised, clearance, current, device, draftType, held, level, maximum}
 use Rattle.model.specs.Tables.Words.{releasedType, releaser, spare, type}
 use Rattle.model.specs.Theorem.Definitions.{DowngradeSecure, Quiet, ReleaseSecure, SetSecure}
 
 -- two numbers that the test tells apart
 pub differ : (m n : ℕ) → T (not (eqb m n)) → m ≢ n

@@ -2,10 +2,10 @@
 use mathlib.Core.List.{List, [], _++_, _∷_}
 use Prim.Native.Nat.{ℕ}
 use lib.ListN.{replicate}
-use Rattle.model.specs.Case.Cases.{Case, ask, entityIs, expect, item, userIs}
+use Rattle.cases.specs.Case.Cases.{Case, ask, entityIs, expect, item, userIs}
 use Rattle.model.specs.Tables.Sheet.{Sheet, sheetTables}
 use Rattle.model.specs.Tables.Words.{Tables, containerKind, count, deviceKind, draftType, held, heldOp, kind, missed, objectKind}
 use Rattle.model.specs.Tables.Words.{place, plainType, triple, tripleOf, type, value}
 
 -- an object with nothing in it
 abbrev bare : List ℕ

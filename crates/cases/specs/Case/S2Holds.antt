@@ -2,19 +2,19 @@
 use mathlib.Core.Bool.{true}
 use mathlib.Core.List.{List, _++_}
 use mathlib.Core.Path.{_≡_, refl}
-use Rattle.model.specs.Case.Cases.{Case, allPass}
-use Rattle.model.specs.Case.Opened.{opened}
-use Rattle.model.specs.Case.S2.{s2, s2Sheet}
-use Rattle.model.specs.Case.S2Cases14to20.{acknowledgeCases, authorisedCases, clearanceCases, currentCases, deviceLevelCases}
-use Rattle.model.specs.Case.S2Cases14to20.{ladderCases, maximumCases, releaseCases}
-use Rattle.model.specs.Case.S2Cases1to5.{copyCases, createCases, deleteCases, editCases, moveCases}
-use Rattle.model.specs.Case.S2Cases6to13.{clearCases, grantCases, levelCases, loginCases, logoutCases, markCases, revokeCases}
-use Rattle.model.specs.Case.S2Cases6to13.{showCases}
+use Rattle.cases.specs.Case.Cases.{Case, allPass}
+use Rattle.cases.specs.Case.Opened.{opened}
+use Rattle.cases.specs.Case.S2.{s2, s2Sheet}
+use Rattle.cases.specs.Case.S2Cases14to20.{acknowledgeCases, authorisedCases, clearanceCases, currentCases, deviceLevelCases}
+use Rattle.cases.specs.Case.S2Cases14to20.{ladderCases, maximumCases, releaseCases}
+use Rattle.cases.specs.Case.S2Cases1to5.{copyCases, createCases, deleteCases, editCases, moveCases}
+use Rattle.cases.specs.Case.S2Cases6to13.{clearCases, grantCases, levelCases, loginCases, logoutCases, markCases, revokeCases}
+use Rattle.cases.specs.Case.S2Cases6to13.{showCases}
 use Rattle.model.specs.State.AgreeSecure.{judge-good}
 use Rattle.model.specs.State.Check.{judge}
 use Rattle.model.specs.State.Secure.{Good}
 use Rattle.model.specs.Tables.Sheet.{sheetTables}
 use Rattle.model.specs.Tables.SheetLaws.{sheet-bounded}
 
 pub s2-judged : judge s2 ≡ 0
 unfolding opened s2 s2Sheet

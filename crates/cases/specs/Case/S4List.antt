@@ -4,23 +4,23 @@ use mathlib.Core.List.{List, [], _++_, _∷_, map}
 use mathlib.Core.Path.{_∙_, _≡_, ap, fun-ext, refl}
 use Prim.Native.Nat.{_<_, _≤_, ℕ}
 use lib.ListN.{drop, length}
-use Rattle.model.specs.Case.Opened.{openedList}
-use Rattle.model.specs.Case.S4.{s4, s4Sheet}
+use Rattle.cases.specs.Case.Opened.{openedList}
+use Rattle.cases.specs.Case.S4.{s4, s4Sheet}
 use Rattle.model.specs.List.AdmittedLaws.{barred-checked}
 use Rattle.model.specs.List.Listing.{Lists, barred, entries, roomShort, screenFull, showing}
 use Rattle.model.specs.List.ListingLaws.{lists-found, lists-found-short}
 use Rattle.model.specs.List.Ways.{found}
 use Rattle.model.specs.Request.Ladder.{answer}
 use Rattle.model.specs.Request.Step.{answerOf}
 use Rattle.model.specs.Request.Words.{requestOf}
 use Rattle.model.specs.State.AgreeSecure.{check-tables, judge-good}
 use Rattle.model.specs.State.Check.{check, judge}
 use Rattle.model.specs.State.Secure.{Good}
 use Rattle.model.specs.Tables.Layout.{tablesOf}
 use Rattle.model.specs.Tables.Sheet.{sheetTables, sheetWords}
 use Rattle.model.specs.Tables.SheetLaws.{sheet-bounded, sheet-tables, sheetWords-length}
 use Rattle.model.specs.Tables.Words.{Tables}
 use Rattle.model.specs.Theorem.Steps.{answerOf-sized, sized-agrees}
 
 -- S4 is well-formed and secure.
 pub s4-judged : judge s4 ≡ 0

@@ -8,22 +8,22 @@ use mathlib.Core.Path.{_≡_, refl, subst}
 use Prim.Native.Nat.{_<_, ℕ}
 use native.Mathlib.Omega.{arith}
 use lib.Dec.{T, T-not, eqb, lit<, lit≤}
-use Rattle.model.specs.Case.Cases.{ask}
-use Rattle.model.specs.Case.Condemned.{differ, kept}
-use Rattle.model.specs.Case.Opened.{opened}
-use Rattle.model.specs.Case.S1.{s1, s1Sheet}
+use Rattle.cases.specs.Case.Cases.{ask}
+use Rattle.cases.specs.Case.Condemned.{differ, kept}
+use Rattle.cases.specs.Case.Opened.{opened}
+use Rattle.cases.specs.Case.S1.{s1, s1Sheet}
 use Rattle.model.specs.Level.{bit}
 use Rattle.model.specs.Request.Allowed.{Meant, Open, Operand, Permitted, arity}
 use Rattle.model.specs.Request.Asked.{asked, basisOf, operand}
 use Rattle.model.specs.Request.FitLaws.{fits-agrees}
 use Rattle.model.specs.Request.Ladder.{fits, permits}
 use Rattle.model.specs.Request.Operations.{Op, numberOf, opOf, toClear, toCopy, toEdit, toLogin, toShow}
 use Rattle.model.specs.Request.TestLaws.{permits-agrees}
 use Rattle.model.specs.Request.Words.{Request}
 use Rattle.model.specs.Tables.Edits.{_and_, onEntity, onUser, userWord, word}
 use Rattle.model.specs.Tables.Words.{EntityWord, Tables, count, counts, device, idBit, place, shown, sums, value}
 use Rattle.model.specs.Theorem.Definitions.{AccessSecure, CcrSecure, CopySecure, Flows, NamedOpenly, Quiet, ShowsId}
 use Rattle.model.specs.Theorem.Definitions.{TranslationSecure}
 
 -- A changed word of an entity is more than the notice.
 loud : {d d′ : Tables} {u : ℕ} (x : ℕ) (f : EntityWord) → Quiet d u d′ → T (not (eqb (d′ .entity x f) (d .entity x f))) → ⊥

@@ -1,9 +1,9 @@
 -- The state check finds every damage, with its number: each table by one computation.
 use mathlib.Core.Bool.{true}
 use mathlib.Core.Path.{_≡_, refl}
-use Rattle.model.specs.Case.Damaged.{allFound, linkDamages, put-words, rangeDamages, recordDamages, secureDamages}
-use Rattle.model.specs.Case.Opened.{opened}
-use Rattle.model.specs.Case.S1.{s1, s1Sheet}
+use Rattle.cases.specs.Case.Damaged.{allFound, linkDamages, put-words, rangeDamages, recordDamages, secureDamages}
+use Rattle.cases.specs.Case.Opened.{opened}
+use Rattle.cases.specs.Case.S1.{s1, s1Sheet}
 
 pub ranges-found : allFound s1 rangeDamages ≡ true
 unfolding opened put-words allFound s1 s1Sheet rangeDamages

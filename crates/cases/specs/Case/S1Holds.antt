@@ -1,17 +1,17 @@
 -- Case state S1 is well-formed and secure, and its cases hold: each table by one computation.
 use mathlib.Core.Bool.{true}
 use mathlib.Core.Path.{_≡_, refl}
-use Rattle.model.specs.Case.Cases.{allPass}
-use Rattle.model.specs.Case.Opened.{opened}
-use Rattle.model.specs.Case.S1.{s1, s1Sheet, starred, unstarred}
+use Rattle.cases.specs.Case.Cases.{allPass}
+use Rattle.cases.specs.Case.Opened.{opened}
+use Rattle.cases.specs.Case.S1.{s1, s1Sheet, starred, unstarred}
 use Rattle.model.specs.Request.After.{after}
 use Rattle.model.specs.State.AgreeSecure.{judge-good}
 use Rattle.model.specs.State.Check.{judge}
 use Rattle.model.specs.State.Secure.{Good}
 use Rattle.model.specs.Tables.Sheet.{sheetTables}
 use Rattle.model.specs.Tables.SheetLaws.{sheet-bounded}
 use Rattle.model.specs.Theorem.Definitions.{SystemSecure}
 use Rattle.model.specs.Theorem.System.{system-secure}
 
 pub s1-judged : judge s1 ≡ 0
 unfolding opened s1 s1Sheet

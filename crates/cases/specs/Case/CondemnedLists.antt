@@ -5,11 +5,11 @@ use mathlib.Core.Path.{_≡_, ap}
 use Prim.Native.Nat.{_<_, _≤_, ℕ}
 use native.Mathlib.Omega.{arith}
 use lib.ListN.{drop, getD, length}
-use Rattle.model.specs.Case.Condemned.{differ}
-use Rattle.model.specs.Case.S1List.{s1-list-2, s1-list-2-short, s1-list-off, s1-list-unmarked, s1Unmarked}
-use Rattle.model.specs.Case.S1Words.{s1Words}
+use Rattle.cases.specs.Case.Condemned.{differ}
+use Rattle.cases.specs.Case.S1List.{s1-list-2, s1-list-2-short, s1-list-off, s1-list-unmarked, s1Unmarked}
+use Rattle.cases.specs.Case.S1Words.{s1Words}
 use Rattle.model.specs.List.Listing.{Lists, roomShort}
 use Rattle.model.specs.List.ListingLaws.{lists-unique}
 
 -- Rule 10.2: the desk offered a list to user 3, who is off.
 pub offered-condemned : (room : List ℕ) (n : ℕ) (r : List ℕ) → Lists s1Words 3 room 0 n r → ⊥
