@@ -10,7 +10,7 @@ use Rattle.model.specs.Basics.Fails.{Fails, fails-holds, fails-no}
 use Rattle.model.specs.List.Listing.{barred, showing}
 use Rattle.model.specs.Request.Allowed.{Known, On}
 use Rattle.model.specs.Request.Ladder.{notLoggedOn, unknownUser}
-use Rattle.model.specs.Request.OperationLaws.{number-opOf}
+use Rattle.model.specs.Request.OperationLaws.{number-opOf, show-wants}
 use Rattle.model.specs.Request.Operations.{toShow}
 use Rattle.model.specs.Request.RungLaws.{notLoggedOn-fails, unknownUser-fails}
 use Rattle.model.specs.Request.Words.{Request, requestOf}
@@ -51,7 +51,7 @@ module _ (t : List ℕ) (u : ℕ) where
       -- the user is on no device
       pub barred-off : devices (tablesOf t) u ≡ 0 → 6 ≡ barred t u
       unfolding barred q
-      barred-off z = rw (k, fails-no (unknownUser (tablesOf t) q) known h, fails-holds (notLoggedOn (tablesOf t) q) on (λ f. f tt z)) refl
+      barred-off z = rw (k, fails-no (unknownUser (tablesOf t) q) known h, fails-holds (notLoggedOn (tablesOf t) q) on (λ f. f show-wants z)) refl
 
       pub barred-none : devices (tablesOf t) u ≢ 0 → 0 ≡ barred t u
       unfolding barred q
