@@ -1,0 +1,155 @@
+//! Where things stand in the tables and in a request, and what their numbers mean [docs/RULES.md].
+
+pub const USERS: u32 = 16;
+pub const USER_WORDS: usize = 16;
+pub const ENTITIES: u32 = 64;
+pub const ENTITY_WORDS: usize = 32;
+/// Where the entities start.
+pub const FIRST_ENTITY_WORD: usize = USERS as usize * USER_WORDS;
+pub const TABLE_WORDS: usize = FIRST_ENTITY_WORD + ENTITIES as usize * ENTITY_WORDS;
+pub const REQUEST_WORDS: usize = 16;
+pub const PLACES: u32 = 8;
+pub const TRIPLES: u32 = 8;
+pub const NAMES: u32 = 4;
+/// A reference: its length, then its names.
+pub const ENTRY_WORDS: usize = 1 + NAMES as usize;
+pub const OPERATIONS: u32 = 20;
+pub const MAX_LEVEL: u32 = 1023;
+pub const MAX_ROLES: u32 = 255;
+pub const MAX_COUNT: u32 = 65_535;
+/// The first "who" of a triple that is a role.
+pub const FIRST_ROLE: u32 = USERS + 1;
+pub const LAST_WHO: u32 = USERS + 8;
+
+/// The words of a user.
+pub mod user {
+    pub const PRESENT: usize = 0;
+    pub const CLEARANCE: usize = 1;
+    pub const AUTHORISED: usize = 2;
+    pub const CURRENT: usize = 3;
+    pub const DEVICE: usize = 4;
+    pub const HELD: usize = 5;
+    pub const HELD_OPERATION: usize = 6;
+    pub const COUNT: usize = 7;
+    pub const SPARE: usize = 8;
+}
+
+/// The words of an entity.
+pub mod entity {
+    pub const KIND: usize = 0;
+    pub const TYPE: usize = 1;
+    pub const LEVEL: usize = 2;
+    pub const MARK: usize = 3;
+    pub const VALUE: usize = 4;
+    pub const RELEASER: usize = 5;
+    pub const MAXIMUM: usize = 6;
+    pub const USED: usize = 7;
+    pub const CONTENTS: usize = 8;
+    pub const SHOWN: usize = 16;
+    pub const TRIPLES: usize = 24;
+}
+
+/// The words of a request; each reference is its length, then its names.
+pub mod asked {
+    pub const USER: usize = 0;
+    pub const OPERATION: usize = 1;
+    pub const FIRST: usize = 2;
+    pub const SECOND: usize = 7;
+    pub const A: usize = 12;
+    pub const B: usize = 13;
+    pub const C: usize = 14;
+    pub const SPARE: usize = 15;
+}
+
+pub mod kind {
+    pub const OBJECT: u32 = 1;
+    pub const CONTAINER: u32 = 2;
+    pub const DEVICE: u32 = 3;
+}
+
+pub mod type_of {
+    pub const PLAIN: u32 = 0;
+    pub const DRAFT: u32 = 1;
+    pub const RELEASED: u32 = 2;
+}
+
+pub mod role {
+    pub const OFFICER: u32 = 1;
+    pub const DOWNGRADER: u32 = 2;
+    pub const RELEASER: u32 = 4;
+}
+
+pub mod shown {
+    pub const VALUE: u32 = 1;
+    pub const LABEL: u32 = 2;
+    pub const ID: u32 = 4;
+    pub const ALL: u32 = VALUE + LABEL + ID;
+}
+
+pub mod operation {
+    pub const CREATE: u32 = 1;
+    pub const DELETE: u32 = 2;
+    pub const MOVE: u32 = 3;
+    pub const EDIT: u32 = 4;
+    pub const COPY: u32 = 5;
+    pub const SET_LEVEL: u32 = 6;
+    pub const SET_MARK: u32 = 7;
+    pub const GRANT: u32 = 8;
+    pub const REVOKE: u32 = 9;
+    pub const SHOW: u32 = 10;
+    pub const CLEAR: u32 = 11;
+    pub const LOGIN: u32 = 12;
+    pub const LOGOUT: u32 = 13;
+    pub const SET_CURRENT: u32 = 14;
+    pub const SET_CLEARANCE: u32 = 15;
+    pub const SET_AUTHORISED: u32 = 16;
+    pub const SET_MAXIMUM: u32 = 17;
+    pub const SET_DEVICE_LEVEL: u32 = 18;
+    pub const RELEASE: u32 = 19;
+    pub const ACKNOWLEDGE: u32 = 20;
+}
+
+/// The answers by their numbers.
+pub mod answer {
+    pub const ACCEPTED: u32 = 0;
+    pub const BAD_LENGTH: u32 = 1;
+    pub const NOT_WELL_FORMED: u32 = 2;
+    pub const NOT_SECURE: u32 = 3;
+    pub const UNKNOWN_USER: u32 = 4;
+    pub const BAD_REQUEST: u32 = 5;
+    pub const NOT_LOGGED_ON: u32 = 6;
+    pub const NO_SUCH_NAME: u32 = 7;
+    pub const NO_ACCESS: u32 = 8;
+    pub const MARKED_PATH: u32 = 9;
+    pub const WRONG_KIND: u32 = 10;
+    pub const NO_SUCH_USER: u32 = 11;
+    pub const ROLE_MISSING: u32 = 12;
+    pub const LEVEL_OR_ROLES: u32 = 13;
+    pub const NO_ROOM: u32 = 14;
+    pub const ARRANGEMENT: u32 = 15;
+    pub const NOT_ACKNOWLEDGED: u32 = 16;
+    /// The last that a step gives.
+    pub const LAST_OF_STEP: u32 = NOT_ACKNOWLEDGED;
+    pub const ROOM_TOO_SHORT: u32 = 17;
+    pub const NO_REQUEST: u32 = 18;
+}
+
+/// The first word of a user, who is numbered from 1.
+pub fn user_base(number: u32) -> usize {
+    (number as usize - 1) * USER_WORDS
+}
+
+/// The first word of an entity, which is numbered from 1.
+pub fn entity_base(number: u32) -> usize {
+    FIRST_ENTITY_WORD + (number as usize - 1) * ENTITY_WORDS
+}
+
+/// An access triple as it stands in its word.
+pub fn triple(who: u32, operation: u32, position: u32) -> u32 {
+    who * 65_536 + operation * 256 + position
+}
+
+/// Is a level at most another: its rank, and its compartments all among the other's?
+pub fn at_most(a: u32, b: u32) -> bool {
+    a >> 8 <= b >> 8 && a & !b & 255 == 0
+}
