@@ -1,0 +1,38 @@
+//! What a run says while it goes on, and what came of it.
+use std::fmt::Arguments;
+
+/// Where a run writes its lines: standard output, or nowhere while wrong desks are tried, of which one line each is enough.
+#[derive(Clone, Copy)]
+pub struct Out {
+    quiet: bool,
+}
+
+impl Out {
+    pub const LOUD: Out = Out { quiet: false };
+    pub const QUIET: Out = Out { quiet: true };
+
+    /// Writes one line, as in `out.line(format_args!("{} steps", steps))`.
+    pub fn line(&self, text: Arguments) {
+        if !self.quiet {
+            println!("{}", text);
+        }
+    }
+}
+
+/// What came of a run.
+#[derive(Clone, Debug, Default, PartialEq, Eq)]
+pub struct Outcome {
+    /// Times that the two sides did not leave the same.
+    pub differences: u64,
+    /// Things that the run should have reached and did not, or reached and should not have.
+    pub amiss: u64,
+    /// Where the first difference was, in a few words.
+    pub first: Option<String>,
+}
+
+impl Outcome {
+    /// Is there nothing to complain of?
+    pub fn is_good(&self) -> bool {
+        self.differences == 0 && self.amiss == 0
+    }
+}
