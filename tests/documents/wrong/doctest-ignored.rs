@@ -1,0 +1,5 @@
+// wrong: unknown info string 'ignore'
+/// ```ignore
+/// assert_eq!(1, 2);
+/// ```
+pub fn nothing() {}
