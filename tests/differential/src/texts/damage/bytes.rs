@@ -1,0 +1,63 @@
+//! Damages to single bytes, and to all that follow.
+
+use generate::Dice;
+
+use crate::texts::edit::any_byte;
+
+/// Random texts are up to some twice as long as the longest that can be read.
+const MOST_RANDOM: u32 = 350;
+
+pub fn drop(_: &mut Dice, text: &mut Vec<u8>, at: usize) {
+    text.remove(at);
+}
+
+pub fn double(_: &mut Dice, text: &mut Vec<u8>, at: usize) {
+    text.insert(at, text[at]);
+}
+
+pub fn change(dice: &mut Dice, text: &mut Vec<u8>, at: usize) {
+    text[at] = any_byte(dice);
+}
+
+pub fn change_bit(dice: &mut Dice, text: &mut Vec<u8>, at: usize) {
+    text[at] ^= 1 << dice.below(u8::BITS);
+}
+
+pub fn insert(dice: &mut Dice, text: &mut Vec<u8>, at: usize) {
+    text.insert(at, any_byte(dice));
+}
+
+pub fn insert_nul(_: &mut Dice, text: &mut Vec<u8>, at: usize) {
+    text.insert(at, 0);
+}
+
+pub fn cut(_: &mut Dice, text: &mut Vec<u8>, at: usize) {
+    text.truncate(at);
+}
+
+/// Something behind the last line: a byte, an LF, the rest from here, all again.
+pub fn behind(dice: &mut Dice, text: &mut Vec<u8>, at: usize) {
+    match dice.below(4) {
+        0 => text.push(any_byte(dice)),
+        1 => text.push(b'\n'),
+        2 => text.extend_from_within(at..),
+        _ => text.extend_from_within(..),
+    }
+}
+
+/// From here on, bytes that occur in texts, in no order.
+pub fn noise(dice: &mut Dice, text: &mut Vec<u8>, at: usize) {
+    for byte in &mut text[at..] {
+        *byte = if dice.chance(95) {
+            dice.one_of(b"user=op=ref=ref2=a=b=c=\n\n\n\n\n\n\n0123456789.")
+        } else {
+            any_byte(dice)
+        };
+    }
+}
+
+/// Bytes that have nothing to do with the text, any number of them.
+pub fn random(dice: &mut Dice, text: &mut Vec<u8>, _: usize) {
+    let length = dice.below(MOST_RANDOM);
+    *text = (0..length).map(|_| dice.word() as u8).collect();
+}

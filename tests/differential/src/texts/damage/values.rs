@@ -1,0 +1,86 @@
+//! Damages to a value: the number that a byte belongs to, or all of it.
+
+use generate::Dice;
+
+use crate::texts::edit::{line_at, number_at, replace};
+
+const ZEROS: &[u8] = b"000000000000";
+
+/// The largest numbers that there are, and then some that are too large, also those that a part of the bits makes small.
+const LARGE: [&str; 21] = [
+    "4294967295",
+    "4294967294",
+    "4294967289",
+    "4294967296",
+    "4294967297",
+    "4294967300",
+    "4294967305",
+    "4294968295",
+    "4300000000",
+    "5000000000",
+    "8589934592",
+    "9999999999",
+    "10000000000",
+    "42949672950",
+    "42949672960",
+    "18446744073709551615",
+    "18446744073709551616",
+    "18446744073709551617",
+    "79228162514264337593543950336",
+    "340282366920938463463374607431768211456",
+    "1000000000000000000000000000000000000000001",
+];
+
+const NO_NUMBERS: [&str; 11] = ["", "x", "0x1", "1e3", "1_000", "1,000", "1.5", "-0", "1 ", " 1", "00"];
+
+/// Two of these are references all the same.
+const MANY_NAMES: [&str; 8] = [
+    "1.2.3.4.5",
+    "1.2.3.4.",
+    "1.2.3.4.5.6.7.8",
+    "4294967295.4294967295.4294967295.4294967295.0",
+    "1.2.3.4",
+    "0.0.0.0.0",
+    "0.0.0.0",
+    "1.2.3.4.x",
+];
+
+/// The last of these is a reference all the same.
+const EMPTY_NAMES: [&str; 12] =
+    ["1..2", ".1", "1.", ".", "..", "...", "1.2..", "1...2", ".1.2.3", "1.2.3.", "1..2.3", ""];
+
+pub fn leading_zeros(dice: &mut Dice, text: &mut Vec<u8>, at: usize) {
+    let start = number_at(text, at).start;
+    let zeros = if dice.chance(70) { 1 } else { dice.between(1, ZEROS.len() as u32) };
+    replace(text, start..start, &ZEROS[..zeros as usize]);
+}
+
+pub fn large(dice: &mut Dice, text: &mut Vec<u8>, at: usize) {
+    change_number(text, at, dice.one_of(&LARGE));
+}
+
+pub fn no_number(dice: &mut Dice, text: &mut Vec<u8>, at: usize) {
+    change_number(text, at, dice.one_of(&NO_NUMBERS));
+}
+
+pub fn sign(dice: &mut Dice, text: &mut Vec<u8>, at: usize) {
+    text.insert(number_at(text, at).start, dice.one_of(b"+-"));
+}
+
+pub fn many_names(dice: &mut Dice, text: &mut Vec<u8>, at: usize) {
+    change_value(text, at, dice.one_of(&MANY_NAMES));
+}
+
+pub fn empty_name(dice: &mut Dice, text: &mut Vec<u8>, at: usize) {
+    change_value(text, at, dice.one_of(&EMPTY_NAMES));
+}
+
+fn change_number(text: &mut Vec<u8>, at: usize, to: &str) {
+    let number = number_at(text, at);
+    replace(text, number, to.as_bytes());
+}
+
+fn change_value(text: &mut Vec<u8>, at: usize, to: &str) {
+    let line = line_at(text, at);
+    replace(text, line.value()..line.end, to.as_bytes());
+}

@@ -1,0 +1,151 @@
+//! The request text [rules 11.1 to 11.5]: the proved writer and reader and those of a desk written by hand get the same words and bytes, and
+//! must do what a slow and plain pair says.
+
+mod call;
+pub mod cases;
+mod damage;
+mod edit;
+mod slow;
+mod tally;
+
+use generate::layout::REQUEST_WORDS;
+use generate::{dice_for, Dice};
+use ordinary::Desk;
+
+use crate::outcome::{Out, Outcome};
+use call::{Difference, Reading, Side, Writing};
+use tally::Tally;
+
+/// Rooms of every length up to this are written to; it is some bytes more than the longest text has.
+const MOST_ROOM: usize = 170;
+/// From one room for words that have no text to the next.
+const ROOM_STRIDE: usize = 10;
+/// Words in the longest slice that is lent for a request.
+const MOST_WORDS: usize = 20;
+/// From one damaged text that is also read into a slice of any length to the next.
+const LENGTH_STRIDE: usize = 16;
+/// Differences after which a run is given up.
+const MOST_REPORTS: u64 = 5;
+
+/// Compares so many rounds, and says what was reached and what differed.
+pub fn run(seed: u64, rounds: u64, desk: &(dyn Desk + Sync), out: Out) -> Outcome {
+    let mut outcome = Outcome::default();
+    let mut tally = Tally::new();
+    let sides = [Side::Ordinary(desk), Side::Proved];
+    out.line(format_args!("texts: seed {}, {} rounds", seed, rounds));
+    for number in 1..=rounds {
+        let mut round = Round { seed, number, dice: dice_for(seed, number), sides, tally: &mut tally };
+        if let Err(difference) = round.compare() {
+            out.line(format_args!("difference in round {}: {}: {}", number, difference.place, difference.details));
+            out.line(format_args!("  again: differential texts {} {}, the last round", seed, number));
+            outcome.first.get_or_insert_with(|| format!("round {}: {}", number, difference.place));
+            outcome.differences += 1;
+        }
+        if outcome.differences == MOST_REPORTS {
+            break;
+        }
+    }
+    outcome.amiss = tally.print(out);
+    out.line(format_args!(
+        "{} rounds, {} lines and answers not reached, {} differences",
+        rounds, outcome.amiss, outcome.differences
+    ));
+    outcome
+}
+
+/// A request, its text, and all that is done with both.
+struct Round<'a> {
+    seed: u64,
+    number: u64,
+    dice: Dice,
+    sides: [Side<'a>; 2],
+    tally: &'a mut Tally,
+}
+
+impl Drop for Round<'_> {
+    /// A desk that panics leaves no report of a difference: then this tells where it was.
+    fn drop(&mut self) {
+        if std::thread::panicking() {
+            eprintln!("in round {} of seed {}", self.number, self.seed);
+        }
+    }
+}
+
+impl Round<'_> {
+    /// Ends at the first difference.
+    fn compare(&mut self) -> Result<(), Difference> {
+        let words = match self.number {
+            1 => cases::shortest(),
+            2 => cases::longest(),
+            _ => cases::good(&mut self.dice),
+        };
+        let text = slow::write(&words).expect("these words have a text");
+        assert_eq!(slow::read(&text), Ok(words), "words come back from their text");
+        self.compare_writers(&words)?;
+        self.compare_readers(&text)
+    }
+
+    /// Words with a text in rooms of every length, words without one in some, and slices that are too short or too long.
+    fn compare_writers(&mut self, words: &cases::Words) -> Result<(), Difference> {
+        for room in 0..=MOST_ROOM {
+            self.write(words, REQUEST_WORDS, room)?;
+        }
+        for room in (0..=MOST_ROOM).step_by(ROOM_STRIDE) {
+            let bad = cases::bad(&mut self.dice);
+            self.write(&bad, REQUEST_WORDS, room)?;
+        }
+        let mut more = [0; MOST_WORDS];
+        more[..REQUEST_WORDS].copy_from_slice(words);
+        for count in 0..=MOST_WORDS {
+            self.write(&more, count, MOST_ROOM)?;
+            self.write(&more, count, count)?;
+        }
+        Ok(())
+    }
+
+    /// Slices of all lengths for the good text, which a wrong one is refused for before the text is looked at; then each damage.
+    fn compare_readers(&mut self, text: &[u8]) -> Result<(), Difference> {
+        for count in 0..=MOST_WORDS {
+            self.read(text, &[], count)?;
+        }
+        damage::all().enumerate().try_for_each(|(kind, (_, act))| self.compare_damaged(text, kind, *act))
+    }
+
+    /// One damage at each byte. What stands behind a text that is cut off is what was cut off, so that whoever reads on reads well.
+    fn compare_damaged(&mut self, good: &[u8], kind: usize, act: damage::Act) -> Result<(), Difference> {
+        for at in 0..good.len() {
+            let mut text = good.to_vec();
+            act(&mut self.dice, &mut text, at);
+            let line = self.read(&text, &good[at..], REQUEST_WORDS)?;
+            self.tally.damaged(kind, line);
+            if line == 0 {
+                self.write_again(&text)?;
+            }
+            if at % LENGTH_STRIDE == 0 {
+                let count = self.dice.below(MOST_WORDS as u32 + 1) as usize;
+                self.read(&text, &good[at..], count)?;
+            }
+        }
+        Ok(())
+    }
+
+    /// A text that can be read is the one that is written for its words [rule 11.5].
+    fn write_again(&mut self, text: &[u8]) -> Result<(), Difference> {
+        let words = slow::read(text).expect("a text that was read");
+        assert_eq!(slow::write(&words).as_deref(), Some(text), "a text comes back from its words");
+        self.write(&words, REQUEST_WORDS, text.len())
+    }
+
+    fn write(&mut self, words: &[u32], count: usize, room: usize) -> Result<(), Difference> {
+        let reply = Writing { words, count, room }.compare(&self.sides)?;
+        self.tally.wrote(reply.answer);
+        Ok(())
+    }
+
+    /// The first bad line, 0 where there is none.
+    fn read(&mut self, text: &[u8], behind: &[u8], count: usize) -> Result<usize, Difference> {
+        let reply = Reading { text, behind, count }.compare(&self.sides)?;
+        self.tally.read(reply.answer);
+        Ok(reply.number as usize)
+    }
+}
