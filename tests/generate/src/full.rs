@@ -1,6 +1,11 @@
 //! Full tables: all 64 entities present, containers in containers to a depth of five and more, sixteen users on sixteen devices, eight shown
 //! on each, eight triples everywhere.
-use crate::Dice;
+use crate::layout::{
+    at_most, entity, entity_base, kind, operation, role, shown, triple, user, user_base, ENTITIES, FIRST_ROLE,
+    LAST_WHO, MAX_LEVEL, MAX_ROLES, PLACES, TABLE_WORDS, TRIPLES, USERS,
+};
+use crate::view::entity_record;
+use crate::{levels, Dice};
 
 /// No tables give a longer list. Say D devices show something and N = 64 - D entities are left. An entity is in one container at most, so at
 /// most one reference of each length leads to it through containers alone; and there is one with nothing above it, one with a single thing
@@ -9,12 +14,183 @@ use crate::Dice;
 /// no more devices than there are users show anything.
 pub const MOST_ENTRIES: u32 = 16 * (8 + 47 + 46) + 48 + 47 + 46 + 45;
 
-/// Levels, marks, places and triples as the dice fall: the lists are long.
-pub fn full(_dice: &mut Dice) -> Vec<u32> {
-    todo!()
+/// The first few each stand in the one before.
+const CHAIN: usize = 5;
+/// The last few are so low that anybody may see them.
+const LOWEST: usize = 10;
+/// In the fullest tables: so many hold something.
+const HOLDERS: usize = 8;
+/// In the fullest tables: a chain of three; the last of it holds the next eight, five of which hold all that come behind.
+const TRUNK: usize = 3;
+const FIRST_LEAF: usize = TRUNK + PLACES as usize;
+/// How often a holder is looked for.
+const TRIES: u32 = 20;
+
+/// Full tables under construction. Numbers are given out by chance, so that neither kinds nor holders stand in any order in the tables.
+struct Full<'a> {
+    dice: &'a mut Dice,
+    tables: Vec<u32>,
+    devices: Vec<u32>,
+    /// Objects and containers, holders before what they hold.
+    inner: Vec<u32>,
 }
 
-/// The list of every user has `MOST_ENTRIES` entries.
-pub fn fullest(_dice: &mut Dice) -> Vec<u32> {
-    todo!()
+impl<'a> Full<'a> {
+    fn new(dice: &'a mut Dice) -> Full<'a> {
+        let mut devices: Vec<u32> = (1..=ENTITIES).collect();
+        dice.shuffle(&mut devices);
+        let inner = devices.split_off(USERS as usize);
+        Full { dice, tables: vec![0; TABLE_WORDS], devices, inner }
+    }
+
+    fn entity(&mut self, number: u32) -> &mut [u32] {
+        &mut self.tables[entity_base(number)..]
+    }
+
+    fn put_into(&mut self, holder: u32, number: u32) {
+        let record = self.entity(holder);
+        record[entity::CONTENTS + record[entity::USED] as usize] = number;
+        record[entity::USED] += 1;
+    }
+
+    fn put_on_screen(&mut self, device: u32, number: u32) {
+        let record = self.entity(device);
+        record[entity::SHOWN + record[entity::USED] as usize] = shown::VALUE | shown::LABEL;
+        self.put_into(device, number);
+    }
+
+    /// Logs a user on to the device that is meant for that user; gives the device's number.
+    fn log_on(&mut self, number: u32, clearance: u32, roles: u32, level: u32) -> u32 {
+        let device = self.devices[number as usize - 1];
+        let record = &mut self.tables[user_base(number)..];
+        record[user::PRESENT] = 1;
+        record[user::CLEARANCE] = clearance;
+        record[user::AUTHORISED] = roles;
+        record[user::CURRENT] = roles;
+        record[user::DEVICE] = device;
+        let record = self.entity(device);
+        record[entity::KIND] = kind::DEVICE;
+        record[entity::LEVEL] = level;
+        record[entity::MAXIMUM] = MAX_LEVEL;
+        device
+    }
+
+    fn high_level(&mut self) -> u32 {
+        if self.dice.chance(50) {
+            MAX_LEVEL
+        } else {
+            512 | (self.dice.word() & MAX_LEVEL)
+        }
+    }
+
+    /// A holder for the next entity.
+    fn choose_holder(&mut self, made: usize) -> Option<u32> {
+        if made < CHAIN {
+            return made.checked_sub(1).map(|before| self.inner[before]);
+        }
+        (0..TRIES).map(|_| self.inner[self.dice.below(made as u32) as usize]).find(|&number| {
+            let record = entity_record(&self.tables, number);
+            record[entity::KIND] == kind::CONTAINER && record[entity::USED] < PLACES
+        })
+    }
+
+    /// Makes the next object or container, in one before it if there is room.
+    fn make_inner(&mut self, made: usize) {
+        let number = self.inner[made];
+        let is_container = made < CHAIN || self.dice.chance(50);
+        let marked = is_container && self.dice.chance(25);
+        let mut level = MAX_LEVEL;
+        if let Some(holder) = self.choose_holder(made) {
+            level = entity_record(&self.tables, holder)[entity::LEVEL];
+            self.put_into(holder, number);
+        }
+        if self.dice.chance(70) {
+            level = levels::lower(self.dice, level);
+        }
+        let is_lowest = made + LOWEST >= self.inner.len();
+        let record = self.entity(number);
+        record[entity::KIND] = if is_container { kind::CONTAINER } else { kind::OBJECT };
+        record[entity::MARK] = u32::from(marked);
+        record[entity::LEVEL] = if is_lowest { 0 } else { level };
+    }
+
+    /// Logs a user on and fills the screen.
+    fn make_user(&mut self, number: u32) {
+        let (clearance, screen) = (self.high_level(), self.high_level());
+        let roles = self.dice.word() & MAX_ROLES;
+        let device = self.log_on(number, clearance, roles, screen);
+        let mut order = self.inner.clone();
+        self.dice.shuffle(&mut order);
+        order.retain(|&number| {
+            let level = entity_record(&self.tables, number)[entity::LEVEL];
+            at_most(level, clearance) && at_most(level, screen)
+        });
+        for &number in order.iter().take(PLACES as usize) {
+            self.put_on_screen(device, number);
+        }
+    }
+
+    /// Eight triples, each for somebody else, and most of them to show.
+    fn make_triples(&mut self, number: u32) {
+        let mut who: Vec<u32> = (1..=LAST_WHO).collect();
+        self.dice.shuffle(&mut who);
+        for (i, &who) in who.iter().take(TRIPLES as usize).enumerate() {
+            let operation = if self.dice.chance(70) { operation::SHOW } else { operation::EDIT };
+            self.entity(number)[entity::TRIPLES + i] = triple(who, operation, 1);
+        }
+    }
+
+    /// In the fullest tables, where the entity made as so many-th goes.
+    fn holder_in_fullest(&self, made: usize) -> Option<u32> {
+        match made {
+            0 => None,
+            _ if made < TRUNK => Some(self.inner[made - 1]),
+            _ if made < FIRST_LEAF => Some(self.inner[TRUNK - 1]),
+            _ => Some(self.inner[TRUNK + (made - FIRST_LEAF) / PLACES as usize]),
+        }
+    }
+}
+
+/// Levels, marks, places and triples as the dice fall: the lists are long.
+pub fn full(dice: &mut Dice) -> Vec<u32> {
+    let mut full = Full::new(dice);
+    for made in 0..full.inner.len() {
+        full.make_inner(made);
+    }
+    for number in 1..=USERS {
+        full.make_user(number);
+    }
+    for number in 1..=ENTITIES {
+        full.make_triples(number);
+    }
+    full.tables
+}
+
+/// The list of every user has `MOST_ENTRIES` entries: eight hold something, and they are on every screen, so every bound is met that the number
+/// is counted with. All containers are marked, and nobody's clearance is too low for that. The triple that counts comes last.
+pub fn fullest(dice: &mut Dice) -> Vec<u32> {
+    let mut full = Full::new(dice);
+    for made in 0..full.inner.len() {
+        let number = full.inner[made];
+        let holds = made < HOLDERS;
+        let record = full.entity(number);
+        record[entity::KIND] = if holds { kind::CONTAINER } else { kind::OBJECT };
+        record[entity::MARK] = u32::from(holds);
+        record[entity::LEVEL] = MAX_LEVEL;
+        if let Some(holder) = full.holder_in_fullest(made) {
+            full.put_into(holder, number);
+        }
+    }
+    for number in 1..=USERS {
+        let device = full.log_on(number, MAX_LEVEL, role::OFFICER, MAX_LEVEL);
+        for i in 0..HOLDERS {
+            full.put_on_screen(device, full.inner[i]);
+        }
+    }
+    for number in 1..=ENTITIES {
+        let mut triples: Vec<u32> = (1..TRIPLES).map(|who| triple(who, operation::EDIT, 1)).collect();
+        triples.push(triple(FIRST_ROLE, operation::SHOW, 1));
+        full.entity(number)[entity::TRIPLES..][..triples.len()].copy_from_slice(&triples);
+    }
+    full.tables
 }

@@ -1,0 +1,109 @@
+//! The access triples of good tables: for whom, and for what.
+use super::Plan;
+use crate::layout::{
+    entity, entity_base, kind, operation, triple, user, ENTITIES, FIRST_ROLE, LAST_WHO, OPERATIONS, TRIPLES,
+};
+use crate::view::{any_of, entity_record, is_off, is_on, user_record, users_where};
+
+/// Operations and positions that an entity can stand in; those that are hard to come by stand twice.
+const OF_OBJECTS: &[(u32, u32)] = &[
+    (operation::DELETE, 1),
+    (operation::MOVE, 1),
+    (operation::EDIT, 1),
+    (operation::COPY, 1),
+    (operation::COPY, 2),
+    (operation::SET_LEVEL, 1),
+    (operation::GRANT, 1),
+    (operation::REVOKE, 1),
+    (operation::SHOW, 1),
+];
+const OF_CONTAINERS: &[(u32, u32)] = &[
+    (operation::CREATE, 1),
+    (operation::DELETE, 1),
+    (operation::MOVE, 1),
+    (operation::MOVE, 2),
+    (operation::MOVE, 2),
+    (operation::EDIT, 1),
+    (operation::COPY, 1),
+    (operation::COPY, 2),
+    (operation::SET_LEVEL, 1),
+    (operation::SET_MARK, 1),
+    (operation::GRANT, 1),
+    (operation::REVOKE, 1),
+    (operation::SHOW, 1),
+    (operation::RELEASE, 1),
+];
+const OF_DEVICES: &[(u32, u32)] = &[
+    (operation::GRANT, 1),
+    (operation::REVOKE, 1),
+    (operation::LOGIN, 1),
+    (operation::LOGIN, 1),
+    (operation::SET_MAXIMUM, 1),
+    (operation::SET_DEVICE_LEVEL, 1),
+];
+
+impl Plan<'_> {
+    /// Chooses up to four for whom most triples are: users who are on, or roles that these have.
+    pub(super) fn choose_favourites(&mut self) {
+        let on = users_where(&self.tables, is_on);
+        let wanted = if on.is_empty() { 0 } else { self.dice.between(1, 4) };
+        for _ in 0..wanted {
+            let number = self.dice.one_of(&on);
+            let roles = user_record(&self.tables, number)[user::CURRENT];
+            let held: Vec<u32> = (FIRST_ROLE..=LAST_WHO).filter(|who| roles >> (who - FIRST_ROLE) & 1 != 0).collect();
+            let role = any_of(self.dice, &held).filter(|_| self.dice.chance(40));
+            self.favourites.push(role.unwrap_or(number));
+        }
+    }
+
+    /// Gives every present entity its triples.
+    pub(super) fn make_triples(&mut self) {
+        for number in 1..=ENTITIES {
+            if entity_record(&self.tables, number)[entity::KIND] != 0 {
+                self.make_triples_of(number);
+            }
+        }
+    }
+
+    /// Gives an entity triples, as many as the plan says or more, no two alike.
+    fn make_triples_of(&mut self, number: u32) {
+        let wanted = self.dice.between(self.least_triples, TRIPLES) as usize;
+        let kind = entity_record(&self.tables, number)[entity::KIND];
+        let mut chosen: Vec<u32> = Vec::new();
+        while chosen.len() < wanted {
+            let triple = self.choose_triple(kind);
+            if !chosen.contains(&triple) {
+                chosen.push(triple);
+            }
+        }
+        let first = entity_base(number) + entity::TRIPLES;
+        self.tables[first..first + wanted].copy_from_slice(&chosen);
+    }
+
+    /// A triple, mostly of an operation that suits the kind.
+    fn choose_triple(&mut self, of: u32) -> u32 {
+        let useful = match of {
+            kind::OBJECT => OF_OBJECTS,
+            kind::CONTAINER => OF_CONTAINERS,
+            _ => OF_DEVICES,
+        };
+        let (operation, position) = if self.dice.chance(75) {
+            self.dice.one_of(useful)
+        } else {
+            (self.dice.between(1, OPERATIONS), self.dice.between(1, 2))
+        };
+        triple(self.choose_who(operation), operation, position)
+    }
+
+    /// Whom a triple is for. Whoever may log on must be off to make use of it, and has no roles then.
+    fn choose_who(&mut self, of: u32) -> u32 {
+        if of == operation::LOGIN && self.dice.chance(75) {
+            let off = users_where(&self.tables, is_off);
+            return any_of(self.dice, &off).unwrap_or(1);
+        }
+        if !self.favourites.is_empty() && self.dice.chance(70) {
+            return self.dice.one_of(&self.favourites);
+        }
+        self.dice.between(1, LAST_WHO)
+    }
+}

@@ -1,0 +1,114 @@
+//! Requests with good tables in view, so that about half are accepted and every refusal is met.
+mod arguments;
+mod operands;
+mod spoil;
+
+use crate::layout::{asked, operation, user, OPERATIONS, REQUEST_WORDS};
+use crate::view::{allows, present_user, user_record};
+use crate::Dice;
+use operands::Aim;
+
+/// Numbers that are no operation's.
+const NO_OPERATIONS: [u32; 6] = [0, 21, 22, 256, 65_536, u32::MAX];
+
+/// How often a request is drawn again that had no chance from the start.
+const MORE_TRIES: u32 = 5;
+
+/// A request under construction, with all that it is made from.
+struct Drawing<'a> {
+    dice: &'a mut Dice,
+    tables: &'a [u32],
+    operation: u32,
+    words: [u32; REQUEST_WORDS],
+}
+
+/// How many operands an operation takes.
+fn operands_of(of: u32) -> u32 {
+    use operation::*;
+    match of {
+        MOVE | COPY => 2,
+        CLEAR | LOGOUT | SET_CURRENT | SET_CLEARANCE | SET_AUTHORISED | ACKNOWLEDGE => 0,
+        _ => 1,
+    }
+}
+
+/// Is the user of this record where one has to be for an operation: off to log on, anywhere to acknowledge, else on?
+fn in_place_to_ask(record: &[u32], of: u32) -> bool {
+    let off = record[user::DEVICE] == 0;
+    record[user::PRESENT] != 0 && (of == operation::ACKNOWLEDGE || off == (of == operation::LOGIN))
+}
+
+impl Drawing<'_> {
+    /// Draws the whole request; true where it stood a chance before it may have been spoilt.
+    fn draw(&mut self) -> bool {
+        let aim = Aim::choose(self.dice);
+        let operands = operands_of(self.operation);
+        let (requester, first) = if operands > 0 { self.choose_first(aim) } else { (self.choose_requester(), 1) };
+        let mut hopeful = in_place_to_ask(user_record(self.tables, requester), self.operation);
+        self.words[asked::USER] = requester;
+        self.words[asked::OPERATION] = self.operation;
+        if operands > 0 {
+            let from_above = aim == Aim::Hidden || self.dice.chance(40);
+            self.refer_to(first, from_above, asked::FIRST);
+            hopeful = hopeful && allows(self.tables, first, requester, self.operation, 1);
+        }
+        if operands > 1 {
+            let second = self.choose_second(requester, first);
+            let from_above = self.dice.chance(40);
+            self.refer_to(second, from_above, asked::SECOND);
+            hopeful = hopeful && allows(self.tables, second, requester, self.operation, 2);
+        }
+        self.fill_arguments(first);
+        self.spoil(operands);
+        hopeful
+    }
+
+    /// A requester for an operation without operands.
+    fn choose_requester(&mut self) -> u32 {
+        match self.operation {
+            operation::SET_CURRENT | operation::SET_CLEARANCE | operation::SET_AUTHORISED if self.dice.chance(65) => {
+                operands::officer(self.dice, self.tables)
+            }
+            operation::ACKNOWLEDGE => present_user(self.dice, self.tables),
+            _ => operands::somebody_on(self.dice, self.tables),
+        }
+    }
+}
+
+/// Draws a request of an operation, and says whether it stood a chance.
+fn draw(dice: &mut Dice, tables: &[u32], operation: u32) -> ([u32; REQUEST_WORDS], bool) {
+    let mut drawing = Drawing { dice, tables, operation, words: [0; REQUEST_WORDS] };
+    let hopeful = drawing.draw();
+    (drawing.words, hopeful)
+}
+
+/// All operations alike, but fewer logouts than logins: a logout nearly always succeeds, a login seldom, and soon nobody would be left on.
+fn choose_operation(dice: &mut Dice) -> u32 {
+    match dice.between(1, OPERATIONS) {
+        operation::LOGOUT if dice.chance(65) => operation::LOGIN,
+        chosen => chosen,
+    }
+}
+
+/// A request of an operation 1 to 20, with good tables in view.
+pub fn request_for(dice: &mut Dice, tables: &[u32], operation: u32) -> [u32; REQUEST_WORDS] {
+    draw(dice, tables, operation).0
+}
+
+/// A request with good tables in view, so that about half are accepted. Many operations have no fitting triple in given tables; requests
+/// without a chance are let through now and then only.
+pub fn request(dice: &mut Dice, tables: &[u32]) -> [u32; REQUEST_WORDS] {
+    let mut tries = 0;
+    let mut words = loop {
+        let operation = choose_operation(dice);
+        let (words, hopeful) = draw(dice, tables, operation);
+        tries += 1;
+        if hopeful || tries > MORE_TRIES || dice.chance(5) {
+            break words;
+        }
+    };
+    if dice.chance(1) {
+        words[asked::OPERATION] = dice.one_of(&NO_OPERATIONS);
+    }
+    words
+}

@@ -1,0 +1,97 @@
+//! Reading tables that are good, as the generator needs it.
+use crate::layout::{
+    entity, entity_base, kind, user, user_base, ENTITIES, ENTITY_WORDS, FIRST_ROLE, TRIPLES, USERS, USER_WORDS,
+};
+use crate::Dice;
+
+/// The words of a user.
+pub fn user_record(tables: &[u32], number: u32) -> &[u32] {
+    &tables[user_base(number)..][..USER_WORDS]
+}
+
+/// The words of an entity.
+pub fn entity_record(tables: &[u32], number: u32) -> &[u32] {
+    &tables[entity_base(number)..][..ENTITY_WORDS]
+}
+
+/// The used places of an entity.
+pub fn contents(record: &[u32]) -> &[u32] {
+    &record[entity::CONTENTS..][..record[entity::USED] as usize]
+}
+
+/// The triples of an entity, without the zeros behind them.
+pub fn triples(record: &[u32]) -> &[u32] {
+    let all = &record[entity::TRIPLES..][..TRIPLES as usize];
+    let used = all.iter().position(|&triple| triple == 0).unwrap_or(all.len());
+    &all[..used]
+}
+
+/// The place, from 1, at which a record holds an entity.
+pub fn place_in(record: &[u32], number: u32) -> Option<u32> {
+    contents(record).iter().position(|&held| held == number).map(|place| place as u32 + 1)
+}
+
+/// The container that an entity is in.
+pub fn container_of(tables: &[u32], number: u32) -> Option<u32> {
+    (1..=ENTITIES).find(|&holder| {
+        let record = entity_record(tables, holder);
+        record[entity::KIND] == kind::CONTAINER && place_in(record, number).is_some()
+    })
+}
+
+/// Is an entity another one, or inside it at any depth?
+pub fn is_or_inside(tables: &[u32], inner: u32, outer: u32) -> bool {
+    let mut at = Some(inner);
+    while at.is_some() && at != Some(outer) {
+        at = container_of(tables, at.unwrap_or(inner));
+    }
+    at.is_some()
+}
+
+/// The users that something is true of, by their records.
+pub fn users_where(tables: &[u32], holds: impl Fn(&[u32]) -> bool) -> Vec<u32> {
+    (1..=USERS).filter(|&number| holds(user_record(tables, number))).collect()
+}
+
+/// Is the user of this record logged on?
+pub fn is_on(record: &[u32]) -> bool {
+    record[user::DEVICE] != 0
+}
+
+/// Is the user of this record present, and logged off?
+pub fn is_off(record: &[u32]) -> bool {
+    record[user::PRESENT] != 0 && record[user::DEVICE] == 0
+}
+
+/// Does a triple's "who" stand for a user with these current roles?
+pub fn stands_for(who: u32, number: u32, roles: u32) -> bool {
+    who == number || (who >= FIRST_ROLE && roles >> (who - FIRST_ROLE) & 1 != 0)
+}
+
+/// Has an entity a triple of this operation and position for a user?
+pub fn allows(tables: &[u32], number: u32, user: u32, operation: u32, position: u32) -> bool {
+    let roles = user_record(tables, user)[user::CURRENT];
+    let right = operation * 256 + position;
+    let fits = |&triple: &u32| triple & 65_535 == right && stands_for(triple >> 16, user, roles);
+    triples(entity_record(tables, number)).iter().any(fits)
+}
+
+/// Any present entity; 1 where there is none.
+pub fn present_entity(dice: &mut Dice, tables: &[u32]) -> u32 {
+    let present: Vec<u32> = (1..=ENTITIES).filter(|&number| entity_record(tables, number)[entity::KIND] != 0).collect();
+    any_of(dice, &present).unwrap_or(1)
+}
+
+/// Any present user; 1 where there is none.
+pub fn present_user(dice: &mut Dice, tables: &[u32]) -> u32 {
+    any_of(dice, &users_where(tables, |record| record[user::PRESENT] != 0)).unwrap_or(1)
+}
+
+/// One of some numbers, if there are any.
+pub fn any_of(dice: &mut Dice, numbers: &[u32]) -> Option<u32> {
+    if numbers.is_empty() {
+        None
+    } else {
+        Some(dice.one_of(numbers))
+    }
+}
