@@ -1,6 +1,21 @@
 //! The calls on words and bytes as they are: any slices, any lengths, and the pair that the archive answers.
+//!
+//! Each call is proved to answer as `docs/RULES.md` says, whatever it is lent.
+//!
+//! ```
+//! use mms::words::{self, Answer};
+//!
+//! fn main() {
+//!     let mut tables = [0; 2304];
+//!     let mut request = [0; 16];
+//!     assert_eq!(words::check(&tables), Answer { no: 0, number: 0 });
+//!     assert_eq!(words::read(b"user=2\nop=13\nref=\nref2=\na=0\nb=0\nc=0\n", &mut request), Answer { no: 0, number: 0 });
+//!     // there is no user 2 in empty tables
+//!     assert_eq!(words::step(&mut tables, &request), Answer { no: 4, number: 0 });
+//! }
+//! ```
 
-/// What a call answers: the number of the rules, 0 to 18, and what goes with it.
+/// What a call answers: the number of the rules, 0 to 18, and what goes with it [rule 8.6].
 #[derive(Clone, Copy, Debug, PartialEq, Eq, Hash)]
 pub struct Answer {
     /// 0 for accepted, else the refusal's number.
@@ -17,35 +32,91 @@ extern "C" {
     fn mms_write(request: *const u32, request_len: usize, room: *mut u8, room_len: usize) -> u64;
 }
 
+/// The answer is the upper half of what a call returns, and its number the lower.
 fn unpacked(both: u64) -> Answer {
     Answer { no: (both >> 32) as u32, number: both as u32 }
 }
 
-/// The state check: 0 to 3.
+/// The state check [rule 8.5]: 0 to 3.
+///
+/// ```
+/// use mms::words;
+///
+/// fn main() {
+///     assert_eq!(words::check(&[0; 2304]).no, 0);
+///     assert_eq!(words::check(&[0; 2305]).no, 1);
+///     assert_eq!(words::check(&[9; 2304]).no, 2);
+/// }
+/// ```
 pub fn check(tables: &[u32]) -> Answer {
     // SAFETY: a slice is lent as its pointer and its length, and is only read.
     unpacked(unsafe { mms_check(tables.as_ptr(), tables.len()) })
 }
 
-/// One request: 0 to 16.
+/// One request [rules 6 to 8]: 0 to 16. The tables change by its effect with 0, by the requester's notice with 5 to 16, and else not at all.
+///
+/// ```
+/// use mms::words;
+///
+/// fn main() {
+///     let mut tables = [0; 2304];
+///     tables[16] = 1; // there is a user 2
+///     // user 2 asks for operation 99
+///     assert_eq!(words::step(&mut tables, &[2, 99, 0, 0, 0, 0, 0, 0, 0, 0, 0, 0, 0, 0, 0, 0]).no, 5);
+///     // and 5 is held, for no operation, once
+///     assert_eq!(tables[16 + 5..16 + 8], [5, 0, 1]);
+/// }
+/// ```
 pub fn step(tables: &mut [u32], request: &[u32]) -> Answer {
     // SAFETY: each slice is lent as its pointer and its length; the borrows keep them apart.
     unpacked(unsafe { mms_step(tables.as_mut_ptr(), tables.len(), request.as_ptr(), request.len()) })
 }
 
-/// The disclosure list of a user, as entries of five words at the front of the room.
+/// The disclosure list of a user [rule 10], as entries of five words at the front of the room: 0 with their count, 17 with the count that
+/// there would have to be room for, or 1 to 4 or 6. The room changes only with 0, and only in the words of the entries.
+///
+/// ```
+/// use mms::words;
+///
+/// fn main() {
+///     // there is no user 2 in empty tables
+///     assert_eq!(words::list(&[0; 2304], 2, &mut [0; 5]).no, 4);
+/// }
+/// ```
 pub fn list(tables: &[u32], user: u32, room: &mut [u32]) -> Answer {
     // SAFETY: as for `step`.
     unpacked(unsafe { mms_list(tables.as_ptr(), tables.len(), user, room.as_mut_ptr(), room.len()) })
 }
 
-/// The sixteen words of a request's text.
+/// The sixteen words of a request's text [rule 11.4]: 0, or 18 with the line where the text fails, or 1. The words change only with 0.
+///
+/// ```
+/// use mms::words::{self, Answer};
+///
+/// fn main() {
+///     let mut request = [7; 16];
+///     assert_eq!(words::read(b"user=2\n", &mut request), Answer { no: 18, number: 2 });
+///     assert_eq!(request, [7; 16]);
+/// }
+/// ```
 pub fn read(text: &[u8], request: &mut [u32]) -> Answer {
     // SAFETY: as for `step`.
     unpacked(unsafe { mms_read(text.as_ptr(), text.len(), request.as_mut_ptr(), request.len()) })
 }
 
-/// The text of a request, at the front of the room.
+/// The text of a request [rule 11.3], at the front of the room: 0 with its bytes, 17 with the bytes that it needs, 5 for words that no text
+/// has, or 1. The room changes only with 0, and only in the bytes of the text.
+///
+/// ```
+/// use mms::words::{self, Answer};
+///
+/// fn main() {
+///     let mut room = [0; 166];
+///     assert_eq!(words::write(&[0; 16], &mut room), Answer { no: 0, number: 38 });
+///     assert_eq!(room[..7], *b"user=0\n");
+///     assert_eq!(words::write(&[0; 16], &mut room[..9]), Answer { no: 17, number: 38 });
+/// }
+/// ```
 pub fn write(request: &[u32], room: &mut [u8]) -> Answer {
     // SAFETY: as for `step`.
     unpacked(unsafe { mms_write(request.as_ptr(), request.len(), room.as_mut_ptr(), room.len()) })
