@@ -112,9 +112,9 @@ pub fn read(text: &[u8], request: &mut [u32]) -> Answer {
 ///
 /// fn main() {
 ///     let mut room = [0; 166];
-///     assert_eq!(words::write(&[0; 16], &mut room), Answer { no: 0, number: 38 });
+///     assert_eq!(words::write(&[0; 16], &mut room), Answer { no: 0, number: 35 });
 ///     assert_eq!(room[..7], *b"user=0\n");
-///     assert_eq!(words::write(&[0; 16], &mut room[..9]), Answer { no: 17, number: 38 });
+///     assert_eq!(words::write(&[0; 16], &mut room[..9]), Answer { no: 17, number: 35 });
 /// }
 /// ```
 pub fn write(request: &[u32], room: &mut [u8]) -> Answer {
