@@ -1,0 +1,14 @@
+//! The check of whole tables: rungs 2 and 3.
+
+pub mod secure;
+mod well_formed;
+
+use crate::refusal::Refusal;
+use crate::words::Tables;
+use crate::Rules;
+
+/// Passes well-formed and secure tables. Security is judged only where the tables are well-formed.
+pub fn judge<R: Rules>(tables: &Tables) -> Result<(), Refusal> {
+    Refusal::NotWellFormed.unless(well_formed::holds(tables))?;
+    Refusal::NotSecure.unless(secure::holds::<R>(tables))
+}

@@ -1,0 +1,194 @@
+//! Whether any 2,304 words are well-formed tables.
+
+use crate::set::EntitySet;
+use crate::tables::*;
+use crate::words::*;
+
+/// The first and the last refusal that can be held.
+const HELD: std::ops::RangeInclusive<u32> = 5..=16;
+
+/// Well-formed: each record by itself, and all of them together.
+pub fn holds(tables: &Tables) -> bool {
+    devices_in_use(tables).map_or(false, |in_use| entities_fit(tables, in_use))
+}
+
+/// The devices that users are on, or none if a user's record is at fault or two users are on one device.
+fn devices_in_use(tables: &Tables) -> Option<EntitySet> {
+    let mut in_use = EntitySet::default();
+    for user in User::all() {
+        let words = user_words(tables, user);
+        let device = Entity::new(words[user::DEVICE]);
+        if !user_fits(words) || device.map_or(false, |device| !in_use.insert(device)) {
+            return None;
+        }
+    }
+    Some(in_use)
+}
+
+/// A user's record by itself.
+fn user_fits(words: &UserWords) -> bool {
+    if words[user::PRESENT] == 0 {
+        return all_zero(words);
+    }
+    words[user::PRESENT] == 1
+        && words[user::CLEARANCE] <= HIGHEST_LEVEL
+        && words[user::AUTHORISED] <= ALL_ROLES
+        && words[user::CURRENT] <= ALL_ROLES
+        && words[user::DEVICE] <= ENTITIES
+        && (words[user::DEVICE] != 0 || words[user::CURRENT] == 0)
+        && notice_fits(words)
+        && all_zero(&words[user::SPARE..])
+}
+
+/// Either nothing is held and nothing counted, or a refusal of the ladder is held with its operation.
+fn notice_fits(words: &UserWords) -> bool {
+    let (held, operation, count) = (words[user::HELD], words[user::HELD_OPERATION], words[user::COUNT]);
+    if held == 0 {
+        return operation == 0 && count == 0;
+    }
+    HELD.contains(&held) && operation <= OPERATIONS && (1..=MOST_COUNTED).contains(&count)
+}
+
+/// All entities' records, each by itself and then what they say of each other and of the devices in use.
+fn entities_fit(tables: &Tables, in_use: EntitySet) -> bool {
+    let mut census = Census::default();
+    for entity in Entity::all() {
+        let words = entity_words(tables, entity);
+        let fits = if words[entity::KIND] == kind::ABSENT {
+            all_zero(words)
+        } else {
+            fields_fit(words) && triples_fit(&words[entity::TRIPLES]) && census.admit(entity, words)
+        };
+        if !fits {
+            return false;
+        }
+    }
+    census.agrees(in_use)
+}
+
+/// The first eight words of a present entity.
+fn fields_fit(words: &EntityWords) -> bool {
+    let kind = words[entity::KIND];
+    let (container, device) = (kind == kind::CONTAINER, kind == kind::DEVICE);
+    let released = words[entity::TYPE] == sort::RELEASED;
+    kind <= kind::DEVICE
+        && words[entity::TYPE] <= if container { sort::RELEASED } else { sort::PLAIN }
+        && words[entity::LEVEL] <= HIGHEST_LEVEL
+        && words[entity::MARK] <= u32::from(container)
+        && (!device || words[entity::VALUE] == 0)
+        && (words[entity::RELEASER] != 0) == released
+        && words[entity::RELEASER] <= USERS
+        && words[entity::MAXIMUM] <= if device { HIGHEST_LEVEL } else { 0 }
+        && words[entity::USED] <= if kind == kind::OBJECT { 0 } else { PLACES as u32 }
+}
+
+/// Triples first and no two alike, zeros behind.
+fn triples_fit(words: &[u32]) -> bool {
+    let held = words.iter().take_while(|word| **word != 0).count();
+    let (triples, rest) = words.split_at(held);
+    all_zero(rest)
+        && triples.iter().enumerate().all(|(place, triple)| is_triple(*triple) && !triples[..place].contains(triple))
+}
+
+/// Who 1 to 24, operation 1 to 20, position 1 or 2.
+fn is_triple(word: u32) -> bool {
+    let (who, operation, position) = (word >> 16, word >> 8 & 0xff, word & 0xff);
+    (1..=WHOS).contains(&who) && (1..=OPERATIONS).contains(&operation) && (1..=POSITIONS).contains(&position)
+}
+
+/// No bit set in any word. Without an early exit, since most records are absent and this way they go by quickly.
+fn all_zero(words: &[u32]) -> bool {
+    words.iter().fold(0, |bits, word| bits | word) == 0
+}
+
+/// What the entities say of each other, gathered in one pass.
+struct Census {
+    entities: EntitySet,
+    devices: EntitySet,
+    /// Devices that show something.
+    showing: EntitySet,
+    /// All that stands in any place.
+    placed: EntitySet,
+    /// By entity, the container that it is in.
+    containers: [Option<Entity>; ENTITIES as usize],
+}
+
+impl Default for Census {
+    fn default() -> Census {
+        let none = EntitySet::default();
+        Census { entities: none, devices: none, showing: none, placed: none, containers: [None; ENTITIES as usize] }
+    }
+}
+
+impl Census {
+    /// Takes in a present entity whose fields fit, and says whether its places do.
+    fn admit(&mut self, entity: Entity, words: &EntityWords) -> bool {
+        let used = words[entity::USED] as usize;
+        let (contents, behind) = words[entity::CONTENTS].split_at(used);
+        let (sums, sums_behind) = words[entity::SHOWN].split_at(used);
+        if !all_zero(behind) || !all_zero(sums_behind) {
+            return false;
+        }
+        if words[entity::KIND] != kind::DEVICE {
+            self.entities.insert(entity);
+            return all_zero(sums) && contents.iter().all(|number| self.put(*number, entity));
+        }
+        self.devices.insert(entity);
+        if used > 0 {
+            self.showing.insert(entity);
+        }
+        self.shows(contents) && sums.iter().all(|sum| (1..=shown::ALL).contains(sum))
+    }
+
+    /// Notes what stands in a container, unless it is no entity's number or stands in a container already.
+    fn put(&mut self, number: u32, container: Entity) -> bool {
+        match Entity::new(number) {
+            Some(entity) => {
+                self.placed.insert(entity);
+                self.containers[entity.index()].replace(container).is_none()
+            }
+            None => false,
+        }
+    }
+
+    /// Notes what a device shows, unless that has no entity's number or stands there twice.
+    fn shows(&mut self, contents: &[u32]) -> bool {
+        let mut here = EntitySet::default();
+        let fits = contents.iter().all(|number| Entity::new(*number).map_or(false, |entity| here.insert(entity)));
+        self.placed = self.placed.and(here);
+        fits
+    }
+
+    /// What is placed is present and no device, users are on devices, only those show, and containers don't go round.
+    fn agrees(&self, in_use: EntitySet) -> bool {
+        self.placed.is_within(self.entities)
+            && in_use.is_within(self.devices)
+            && self.showing.is_within(in_use)
+            && self.none_inside_itself()
+    }
+
+    /// No container holds itself at any depth. An entity once climbed from is not climbed through again.
+    fn none_inside_itself(&self) -> bool {
+        let mut outermost = EntitySet::default();
+        for entity in Entity::all() {
+            match self.climb(entity, outermost) {
+                Some(path) => outermost = outermost.and(path),
+                None => return false,
+            }
+        }
+        true
+    }
+
+    /// The way from an entity outwards as far as it is new, or none if it comes back to itself.
+    fn climb(&self, entity: Entity, known: EntitySet) -> Option<EntitySet> {
+        let mut path = EntitySet::default();
+        let mut next = Some(entity);
+        while let Some(at) = next.filter(|at| !known.holds(*at)) {
+            if !path.insert(at) {
+                return None;
+            }
+            next = self.containers[at.index()];
+        }
+        Some(path)
+    }
+}

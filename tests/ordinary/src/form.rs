@@ -1,0 +1,107 @@
+//! What each operation takes, and whether a request has that form: rung 5.
+
+use crate::refusal::Refusal;
+use crate::words::*;
+
+/// What an operand must be.
+#[derive(Clone, Copy, PartialEq, Eq)]
+pub enum Operand {
+    Any,
+    /// An object or a container.
+    Entity,
+    Container,
+    Draft,
+    Device,
+}
+
+/// The least and the most that an argument can be.
+#[derive(Clone, Copy)]
+struct Span(u32, u32);
+
+/// What an operation takes.
+pub struct Form {
+    pub operands: [Option<Operand>; 2],
+    arguments: [Span; 3],
+}
+
+const UNUSED: Span = Span(0, 0);
+const FREE: Span = Span(0, u32::MAX);
+const SORT: Span = Span(1, 3);
+const LEVEL: Span = Span(0, HIGHEST_LEVEL);
+const FLAG: Span = Span(0, 1);
+const WHO: Span = Span(1, WHOS);
+const OPERATION: Span = Span(1, OPERATIONS);
+const POSITION: Span = Span(1, POSITIONS);
+const SUM: Span = Span(1, shown::ALL);
+const USER: Span = Span(1, USERS);
+const ROLE_SET: Span = Span(0, ALL_ROLES);
+
+/// The forms of operations 1 to 20 in their order.
+static FORMS: [Form; OPERATIONS as usize] = [
+    one(Operand::Container, [SORT, LEVEL, UNUSED]),
+    one(Operand::Entity, [UNUSED; 3]),
+    two(Operand::Entity, Operand::Container),
+    one(Operand::Entity, [FREE, UNUSED, UNUSED]),
+    two(Operand::Entity, Operand::Entity),
+    one(Operand::Entity, [LEVEL, UNUSED, UNUSED]),
+    one(Operand::Container, [FLAG, UNUSED, UNUSED]),
+    one(Operand::Any, [WHO, OPERATION, POSITION]),
+    one(Operand::Any, [WHO, OPERATION, POSITION]),
+    one(Operand::Entity, [SUM, UNUSED, UNUSED]),
+    none([UNUSED; 3]),
+    one(Operand::Device, [UNUSED; 3]),
+    none([UNUSED; 3]),
+    none([USER, ROLE_SET, UNUSED]),
+    none([USER, LEVEL, UNUSED]),
+    none([USER, ROLE_SET, UNUSED]),
+    one(Operand::Device, [LEVEL, UNUSED, UNUSED]),
+    one(Operand::Device, [LEVEL, UNUSED, UNUSED]),
+    one(Operand::Draft, [UNUSED; 3]),
+    none([FREE, FREE, UNUSED]),
+];
+
+const fn none(arguments: [Span; 3]) -> Form {
+    Form { operands: [None, None], arguments }
+}
+
+const fn one(operand: Operand, arguments: [Span; 3]) -> Form {
+    Form { operands: [Some(operand), None], arguments }
+}
+
+const fn two(first: Operand, second: Operand) -> Form {
+    Form { operands: [Some(first), Some(second)], arguments: [UNUSED; 3] }
+}
+
+/// The form of the request's operation, if the request has that form.
+pub fn of(request: &Request) -> Result<&'static Form, Refusal> {
+    // 0 wraps to a number far beyond the last operation.
+    let row = request[request::OPERATION].wrapping_sub(1) as usize;
+    let form = FORMS.get(row).ok_or(Refusal::Form)?;
+    Refusal::Form.unless(form.fits(request))?;
+    Ok(form)
+}
+
+impl Form {
+    fn fits(&self, request: &Request) -> bool {
+        let arguments = &request[request::A..=request::C];
+        self.operands
+            .iter()
+            .zip(request::REFERENCES)
+            .all(|(operand, at)| reference_fits(request, at, operand.is_some()))
+            && self.arguments.iter().zip(arguments).all(|(span, word)| span.0 <= *word && *word <= span.1)
+            && request[request::SPARE] == 0
+    }
+}
+
+/// A reference that is taken has one to four names, any other none; no name word behind its length is used.
+fn reference_fits(request: &Request, at: usize, taken: bool) -> bool {
+    let least = u32::from(taken);
+    let most = if taken { NAMES as u32 } else { 0 };
+    (least..=most).contains(&request[at]) && no_names_behind(request, at)
+}
+
+/// Whether a reference, which must have at most four names, is followed by zeros.
+pub fn no_names_behind(request: &Request, at: usize) -> bool {
+    let names = &request[at + 1..=at + NAMES];
+    names[request[at] as usize..].iter().all(|name| *name == 0)
+}

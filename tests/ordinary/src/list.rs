@@ -1,0 +1,142 @@
+//! The disclosure list: every reference that a user could show.
+
+use crate::access::Whos;
+use crate::effects::may_look;
+use crate::reference;
+use crate::refusal::{Refusal, Reply};
+use crate::set::EntitySet;
+use crate::tables::*;
+use crate::words::*;
+use crate::Rules;
+
+/// What a user could show, and through what the user may reach it.
+pub struct Disclosure<'a> {
+    tables: &'a Tables,
+    /// The entities that the user could show, apart from the way to them.
+    showable: EntitySet,
+    /// The entities whose places a reference may go into.
+    open: EntitySet,
+    /// By names left and entity, the entries among the references that start there.
+    entries: [[u32; ENTITIES as usize]; NAMES + 1],
+}
+
+type Entries<'a> = std::slice::ChunksExactMut<'a, u32>;
+
+impl<'a> Disclosure<'a> {
+    /// Looks at each entity once by itself, and then counts what can be reached from it.
+    pub fn new<R: Rules>(tables: &'a Tables, user: User, device: Entity) -> Disclosure<'a> {
+        let none = EntitySet::default();
+        let entries = [[0; ENTITIES as usize]; NAMES + 1];
+        let mut disclosure = Disclosure { tables, showable: none, open: none, entries };
+        let viewer = Viewer::new::<R>(tables, user, device);
+        for entity in Entity::all() {
+            let words = entity_words(tables, entity);
+            if viewer.could_show::<R>(words, entity) {
+                disclosure.showable.insert(entity);
+            }
+            if viewer.may_pass::<R>(words) {
+                disclosure.open.insert(entity);
+            }
+        }
+        (1..=NAMES).for_each(|left| disclosure.count(left));
+        disclosure
+    }
+
+    /// Counts, by entity, the entries with at most that many names, from those with one name fewer.
+    fn count(&mut self, left: usize) {
+        for entity in Entity::all() {
+            let below: u32 = self.places(entity).map(|held| self.entries[left - 1][held.index()]).sum();
+            self.entries[left][entity.index()] = u32::from(self.showable.holds(entity)) + below;
+        }
+    }
+
+    /// What a reference may reach in the places of an entity.
+    fn places(&self, entity: Entity) -> impl Iterator<Item = Entity> + '_ {
+        let words =
+            Some(entity).filter(|entity| self.open.holds(*entity)).map(|entity| entity_words(self.tables, entity));
+        words.into_iter().flat_map(contents)
+    }
+
+    /// Writes the entries into the room, if they all fit there.
+    pub fn write<R: Rules>(&self, room: &mut [u32]) -> Reply {
+        let count = self.entries[NAMES].iter().sum::<u32>() + u32::from(R::COUNT);
+        let suffices = room.len() / ENTRY_WORDS >= count as usize;
+        if suffices || R::EARLY {
+            let mut entries = room.chunks_exact_mut(ENTRY_WORDS);
+            let mut names = [0; NAMES];
+            for entity in Entity::all() {
+                names[0] = entity.number();
+                self.visit::<R>(entity, 1, &mut names, &mut entries);
+            }
+        }
+        if suffices {
+            Reply::to(Ok(count))
+        } else {
+            Refusal::TooShort.with(count)
+        }
+    }
+
+    /// Writes the entry of the reference that has come to an entity, and then those that go on from there.
+    fn visit<R: Rules>(&self, entity: Entity, length: usize, names: &mut [u32; NAMES], room: &mut Entries) {
+        let left = NAMES + 1 - length;
+        if self.entries[left][entity.index()] == 0 {
+            return;
+        }
+        if self.showable.holds(entity) {
+            if let Some(entry) = room.next() {
+                write_entry::<R>(entry, &names[..], length);
+            }
+        }
+        if length == NAMES {
+            return;
+        }
+        for (held, place) in self.places(entity).zip(1..) {
+            names[length] = place;
+            self.visit::<R>(held, length + 1, names, room);
+        }
+    }
+}
+
+/// Writes an entry: the length, the names, and zeros behind them.
+fn write_entry<R: Rules>(entry: &mut [u32], names: &[u32], length: usize) {
+    entry[0] = length as u32;
+    entry[1..].copy_from_slice(names);
+    if !R::ZEROS {
+        entry[1 + length..].fill(0);
+    }
+}
+
+/// The user for whom the list is, and the device it would be shown on.
+struct Viewer<'a> {
+    whos: Whos,
+    clearance: crate::level::Level,
+    screen: &'a EntityWords,
+}
+
+impl<'a> Viewer<'a> {
+    fn new<R: Rules>(tables: &'a Tables, user: User, device: Entity) -> Viewer<'a> {
+        Viewer {
+            whos: Whos::of::<R>(tables, user),
+            clearance: clearance_of(tables, user),
+            screen: entity_words(tables, device),
+        }
+    }
+
+    /// Whether show would answer 0 or 14 for the entity, if the way to it is open.
+    fn could_show<R: Rules>(&self, words: &EntityWords, entity: Entity) -> bool {
+        let kind = words[entity::KIND];
+        let levels = [words[entity::LEVEL], self.screen[entity::LEVEL]].map(crate::level::Level);
+        (kind == kind::OBJECT || kind == kind::CONTAINER)
+            && self.whos.allowed(words, op::SHOW, 1)
+            && may_look::<R>(levels[0], self.clearance, levels[1])
+            && !(R::SCREEN && is_full(self.screen) && !holds(self.screen, entity))
+            && !((R::NAMED || R::MARK) && reference::bars::<R>(words, self.clearance))
+    }
+
+    /// Whether a reference may go through the entity.
+    fn may_pass<R: Rules>(&self, words: &EntityWords) -> bool {
+        let forgotten = R::DEVICES && words[entity::KIND] == kind::DEVICE;
+        let barred = !(R::NAMED || R::MARK) && reference::bars::<R>(words, self.clearance);
+        !forgotten && !barred
+    }
+}

@@ -1,0 +1,93 @@
+//! Desks that each make one error, and the right desk, which makes none.
+
+use crate::Reply;
+
+/// A desk as an object, so that a wrong one can be chosen by name.
+pub trait Desk {
+    fn check(&self, tables: &[u32]) -> Reply;
+    fn step(&self, tables: &mut [u32], request: &[u32]) -> Reply;
+    fn list(&self, tables: &[u32], user: u32, room: &mut [u32]) -> Reply;
+    fn read(&self, text: &[u8], request: &mut [u32]) -> Reply;
+    fn write(&self, request: &[u32], room: &mut [u8]) -> Reply;
+    fn run(&self, state: &[u8], script: &[u8]) -> Vec<u8>;
+}
+
+impl<R: Rules> Desk for R {
+    fn check(&self, tables: &[u32]) -> Reply {
+        crate::check::<R>(tables)
+    }
+
+    fn step(&self, tables: &mut [u32], request: &[u32]) -> Reply {
+        crate::step::<R>(tables, request)
+    }
+
+    fn list(&self, tables: &[u32], user: u32, room: &mut [u32]) -> Reply {
+        crate::list::<R>(tables, user, room)
+    }
+
+    fn read(&self, text: &[u8], request: &mut [u32]) -> Reply {
+        crate::read::<R>(text, request)
+    }
+
+    fn write(&self, request: &[u32], room: &mut [u8]) -> Reply {
+        crate::write::<R>(request, room)
+    }
+
+    fn run(&self, state: &[u8], script: &[u8]) -> Vec<u8> {
+        crate::run::<R>(state, script)
+    }
+}
+
+/// A wrong desk: its name, what it does wrong, whether that is an error of the request text, and the desk.
+pub struct Wrong {
+    pub name: &'static str,
+    pub error: &'static str,
+    pub text: bool,
+    pub desk: &'static (dyn Desk + Sync),
+}
+
+/// The desk without an error.
+pub struct Right;
+
+impl Rules for Right {}
+
+/// Makes, of one row for each error, the constant of `Rules`, the desk that sets it and the line of `WRONG`.
+macro_rules! errors {
+    ($($constant:ident, $desk:ident, $name:literal, text: $text:literal, $error:literal;)*) => {
+        /// Which errors a desk makes; by default none. They are constants, so that the right desk pays nothing.
+        pub trait Rules {
+            $(#[doc = $error] const $constant: bool = false;)*
+        }
+
+        $(
+            struct $desk;
+
+            impl Rules for $desk {
+                const $constant: bool = true;
+            }
+        )*
+
+        /// One wrong desk for each error.
+        pub static WRONG: &[Wrong] = &[$(Wrong { name: $name, error: $error, text: $text, desk: &$desk }),*];
+    };
+}
+
+errors! {
+    LEVELS, Levels, "levels", text: false, "levels are compared as plain numbers";
+    MARK, Mark, "mark", text: false, "the mark is tested on the named entity instead of its path";
+    ROLES, Roles, "roles", text: false, "authorised roles count where current ones are meant";
+    NOTICE, Notice, "notice", text: false, "a held notice is overwritten";
+    ROOM, Room, "room", text: false, "the room of a move is counted before the entity has left";
+    DEVICES, Devices, "devices", text: false, "the list forgets references that go through a device";
+    NAMED, Named, "named", text: false, "the list tests the mark on the named entity instead of its path";
+    EARLY, Early, "early", text: false, "the list writes entries before it knows that the room suffices";
+    COUNT, Count, "count", text: false, "the list counts one entry more than there are";
+    SCREEN, Screen, "screen", text: false, "the list leaves off what a full screen has no place for";
+    ZEROS, Zeros, "zeros", text: false, "the list leaves a longer reference's names behind a shorter one's length";
+    LEADING, Leading, "leading", text: true, "the reader accepts a leading zero";
+    WRAPPED, Wrapped, "wrapped", text: true, "the reader takes a number beyond 32 bits for what is left of it";
+    LINE, Line, "line", text: true, "the reader counts its lines from 0";
+    BEHIND, Behind, "behind", text: true, "the reader accepts bytes behind the seventh line";
+    TAIL, Tail, "tail", text: true, "the writer does not look at name words behind a reference's length";
+    BYTE, Byte, "byte", text: true, "the writer accepts a room that is one byte too short";
+}

@@ -1,0 +1,32 @@
+//! A set of entities, one bit for each.
+
+use crate::tables::Entity;
+
+#[derive(Clone, Copy, Default, PartialEq, Eq)]
+pub struct EntitySet(u64);
+
+impl EntitySet {
+    /// Takes an entity in, and says whether it was not in yet.
+    pub fn insert(&mut self, entity: Entity) -> bool {
+        let new = !self.holds(entity);
+        self.0 |= bit(entity);
+        new
+    }
+
+    pub fn holds(self, entity: Entity) -> bool {
+        self.0 & bit(entity) != 0
+    }
+
+    /// The members of either set.
+    pub fn and(self, other: EntitySet) -> EntitySet {
+        EntitySet(self.0 | other.0)
+    }
+
+    pub fn is_within(self, other: EntitySet) -> bool {
+        self.0 & !other.0 == 0
+    }
+}
+
+fn bit(entity: Entity) -> u64 {
+    1 << entity.index()
+}
