@@ -1,0 +1,230 @@
+//! Every case of case state S1, built from its words.
+
+use ordinary::{advance, check, list, read, run, step, write, Reply, Right, ENTRY_WORDS, REQUEST_WORDS, TABLE_WORDS};
+
+const FIRST_ENTITY_WORD: usize = 256;
+const USER_WORDS: usize = 16;
+const ENTITY_WORDS: usize = 32;
+
+const VALUE: usize = 4;
+const TRIPLES: usize = 24;
+
+const CREATE: u32 = 1;
+const COPY: u32 = 5;
+const LEVEL: u32 = 6;
+const SHOW: u32 = 10;
+const LOGIN: u32 = 12;
+const CURRENT_ROLES: u32 = 14;
+const RELEASE: u32 = 19;
+const ACKNOWLEDGE: u32 = 20;
+
+/// What show asks for where a case does not say.
+const VALUE_AND_LABEL: u32 = 3;
+
+type Tables = Vec<u32>;
+
+/// Sets the first words of a user.
+fn set_user(tables: &mut Tables, number: usize, words: &[u32]) {
+    tables[(number - 1) * USER_WORDS..][..words.len()].copy_from_slice(words);
+}
+
+/// Sets the first words of an entity, its contents and its triples.
+fn set_entity(tables: &mut Tables, number: usize, words: &[u32], contents: &[u32], triples: &[(u32, u32, u32)]) {
+    let record = &mut tables[FIRST_ENTITY_WORD + (number - 1) * ENTITY_WORDS..][..ENTITY_WORDS];
+    record[..words.len()].copy_from_slice(words);
+    record[7] = contents.len() as u32;
+    record[8..][..contents.len()].copy_from_slice(contents);
+    for (word, (who, operation, position)) in record[TRIPLES..].iter_mut().zip(triples) {
+        *word = who * 65_536 + operation * 256 + position;
+    }
+}
+
+/// The words of case state S1.
+fn s1() -> Tables {
+    let mut tables = vec![0; TABLE_WORDS];
+    set_user(&mut tables, 1, &[1, 1023, 7, 1, 1]);
+    set_user(&mut tables, 2, &[1, 256, 0, 0, 2]);
+    set_user(&mut tables, 3, &[1, 513, 6]);
+    set_entity(&mut tables, 1, &[3, 0, 1023, 0, 0, 0, 1023], &[], &[]);
+    set_entity(&mut tables, 2, &[3, 0, 512, 0, 0, 0, 512], &[], &[]);
+    set_entity(&mut tables, 3, &[3, 0, 0, 0, 0, 0, 1023], &[], &[(3, 12, 1)]);
+    set_entity(&mut tables, 4, &[2, 0, 513, 1], &[5, 6], &[]);
+    set_entity(&mut tables, 5, &[1, 0, 256, 0, 40], &[], &[(2, 10, 1), (2, 5, 1)]);
+    set_entity(&mut tables, 6, &[2, 1, 513, 0, 41], &[], &[(1, 19, 1)]);
+    set_entity(&mut tables, 7, &[2, 0, 256], &[], &[(2, 5, 2), (2, 1, 1), (1, 6, 1)]);
+    tables
+}
+
+fn entity_word(tables: &Tables, number: usize, word: usize) -> u32 {
+    tables[FIRST_ENTITY_WORD + (number - 1) * ENTITY_WORDS + word]
+}
+
+/// What a user has held, with its operation, and how many refusals are counted.
+fn notice(tables: &Tables, user: usize) -> [u32; 3] {
+    let record = &tables[(user - 1) * USER_WORDS..];
+    [record[5], record[6], record[7]]
+}
+
+/// A request of two references and arguments.
+fn request(user: u32, operation: u32, first: &[u32], second: &[u32], arguments: [u32; 3]) -> Vec<u32> {
+    let mut words = vec![0; REQUEST_WORDS];
+    words[0] = user;
+    words[1] = operation;
+    for (at, names) in [(2, first), (7, second)] {
+        words[at] = names.len() as u32;
+        words[at + 1..][..names.len()].copy_from_slice(names);
+    }
+    words[12..15].copy_from_slice(&arguments);
+    words
+}
+
+fn show(user: u32, names: &[u32], sum: u32) -> Vec<u32> {
+    request(user, SHOW, names, &[], [sum, 0, 0])
+}
+
+fn acknowledge(user: u32, held: u32, count: u32) -> Vec<u32> {
+    request(user, ACKNOWLEDGE, &[], &[], [held, count, 0])
+}
+
+/// The answer to a request; `advance` must agree, and the tables must be in order afterwards.
+fn answer(tables: &mut Tables, request: &[u32]) -> u32 {
+    let mut advanced = tables.clone();
+    let reply = step::<Right>(tables, request);
+    assert_eq!(reply.number, 0);
+    assert_eq!(advance::<Right>(&mut advanced, request), reply.answer);
+    assert_eq!(&advanced, tables);
+    assert_eq!(check::<Right>(tables), accepted(0));
+    reply.answer
+}
+
+fn accepted(number: u32) -> Reply {
+    Reply { answer: 0, number }
+}
+
+#[test]
+fn the_state_is_well_formed_and_secure() {
+    assert_eq!(check::<Right>(&s1()), accepted(0));
+}
+
+#[test]
+fn user_2_shows() {
+    let cases: [(&[u32], u32, u32); 4] = [(&[5], 3, 0), (&[4, 1], 3, 9), (&[5], 1, 15), (&[5, 1], 3, 7)];
+    for (names, sum, expected) in cases {
+        assert_eq!(answer(&mut s1(), &show(2, names, sum)), expected, "show {:?}", names);
+    }
+    let mut shown = s1();
+    answer(&mut shown, &show(2, &[5], VALUE_AND_LABEL));
+    let screen = [7, 8, 16].map(|word| entity_word(&shown, 2, word));
+    assert_eq!(screen, [1, 5, VALUE_AND_LABEL]);
+}
+
+#[test]
+fn a_length_of_five_is_no_form() {
+    let mut tables = s1();
+    let mut long = show(2, &[5], VALUE_AND_LABEL);
+    long[2] = 5;
+    assert_eq!(answer(&mut tables, &long), 5);
+    assert_eq!(notice(&tables, 2), [5, SHOW, 1]);
+}
+
+#[test]
+fn user_2_copies_5_to_7() {
+    let mut tables = s1();
+    assert_eq!(answer(&mut tables, &request(2, COPY, &[5], &[7], [0; 3])), 0);
+    assert_eq!(entity_word(&tables, 7, VALUE), 40);
+}
+
+#[test]
+fn user_2_creates_in_7() {
+    let mut tables = s1();
+    assert_eq!(answer(&mut tables, &request(2, CREATE, &[7], &[], [1, 257, 0])), 13);
+    let mut tables = s1();
+    assert_eq!(answer(&mut tables, &request(2, CREATE, &[7], &[], [1, 0, 0])), 0);
+    let mut expected = s1();
+    set_entity(&mut expected, 7, &[2, 0, 256], &[8], &[(2, 5, 2), (2, 1, 1), (1, 6, 1)]);
+    set_entity(&mut expected, 8, &[1], &[], &[(2, 5, 2), (2, 1, 1), (1, 6, 1)]);
+    assert_eq!(tables, expected);
+}
+
+#[test]
+fn user_1_releases_6_as_a_releaser_only() {
+    let release = request(1, RELEASE, &[6], &[], [0; 3]);
+    assert_eq!(answer(&mut s1(), &release), 12);
+    let mut tables = s1();
+    assert_eq!(answer(&mut tables, &request(1, CURRENT_ROLES, &[], &[], [1, 5, 0])), 0);
+    assert_eq!(answer(&mut tables, &release), 0);
+    let released = [1, 5].map(|word| entity_word(&tables, 6, word));
+    assert_eq!(released, [2, 1]);
+}
+
+#[test]
+fn user_1_sets_the_level_of_7() {
+    for (level, expected) in [(0, 12), (1, 0)] {
+        assert_eq!(answer(&mut s1(), &request(1, LEVEL, &[7], &[], [level, 0, 0])), expected, "to {}", level);
+    }
+}
+
+#[test]
+fn user_3_is_logged_off_and_user_9_is_absent() {
+    assert_eq!(answer(&mut s1(), &show(3, &[5], VALUE_AND_LABEL)), 6);
+    assert_eq!(answer(&mut s1(), &request(3, LOGIN, &[3], &[], [0; 3])), 0);
+    let mut tables = s1();
+    assert_eq!(answer(&mut tables, &show(9, &[5], VALUE_AND_LABEL)), 4);
+    assert_eq!(tables, s1());
+}
+
+#[test]
+fn the_first_refusal_is_held_until_it_is_acknowledged() {
+    let mut tables = s1();
+    assert_eq!(answer(&mut tables, &show(2, &[4, 1], VALUE_AND_LABEL)), 9);
+    assert_eq!(answer(&mut tables, &show(2, &[5], 1)), 15);
+    assert_eq!(notice(&tables, 2), [9, SHOW, 2]);
+    assert_eq!(answer(&mut tables, &acknowledge(2, 9, 1)), 16);
+    assert_eq!(answer(&mut tables, &acknowledge(2, 9, 3)), 0);
+    assert_eq!(tables, s1());
+}
+
+/// The entries of the list, which must fit exactly and be refused in one word less.
+fn listed(tables: &Tables, user: u32, count: usize) -> Vec<u32> {
+    const UNTOUCHED: u32 = 77;
+    let mut room = vec![UNTOUCHED; count * ENTRY_WORDS];
+    assert_eq!(list::<Right>(tables, user, &mut room), accepted(count as u32));
+    if let Some(words) = room.len().checked_sub(1) {
+        let mut short = vec![UNTOUCHED; words];
+        assert_eq!(list::<Right>(tables, user, &mut short), Reply { answer: 17, number: count as u32 });
+        assert!(short.iter().all(|word| *word == UNTOUCHED));
+    }
+    room
+}
+
+#[test]
+fn the_lists() {
+    const MARK_OF_4: usize = FIRST_ENTITY_WORD + 3 * ENTITY_WORDS + 3;
+    assert_eq!(listed(&s1(), 2, 1), [1, 5, 0, 0, 0]);
+    assert_eq!(listed(&s1(), 1, 0), []);
+    let mut unmarked = s1();
+    unmarked[MARK_OF_4] = 0;
+    assert_eq!(listed(&unmarked, 2, 2), [2, 4, 1, 0, 0, 1, 5, 0, 0, 0]);
+}
+
+/// The text of a request, which must be read as it was.
+fn text(request: &[u32]) -> Vec<u8> {
+    let mut room = [0; 200];
+    let reply = write::<Right>(request, &mut room);
+    assert_eq!(reply.answer, 0);
+    let text = &room[..reply.number as usize];
+    let mut words = [77; REQUEST_WORDS];
+    assert_eq!(read::<Right>(text, &mut words), accepted(0));
+    assert_eq!(words, request);
+    text.to_vec()
+}
+
+#[test]
+fn the_script() {
+    let state: Vec<u8> = s1().iter().flat_map(|word| word.to_le_bytes()).collect();
+    let first = text(&show(2, &[4, 1], VALUE_AND_LABEL));
+    assert_eq!(first, b"user=2\nop=10\nref=4.1\nref2=\na=3\nb=0\nc=0\n");
+    let script = [first, text(&show(2, &[5], VALUE_AND_LABEL))].concat();
+    let output = run::<Right>(&state, &script);
+    assert_eq!(output, b"answer=9\nheld=9\nmissed=1\nanswer=0\nheld=9\nmissed=1\n");
+}
