@@ -1,1 +1,104 @@
-fn main() {}
+//! Times the proved desk and the ordinary one on the same loads, and runs one of them alone for its instructions to be counted.
+#![warn(missing_docs)]
+mod advance;
+mod agree;
+mod contest;
+mod count;
+mod figures;
+mod load;
+mod machine;
+mod print;
+mod requests;
+mod side;
+mod tables;
+mod texts;
+mod timing;
+
+use std::{env, process};
+
+const USAGE: &str = "usage:
+  bench time SEED REPETITIONS               both sides timed on the same loads, as a table
+  bench contests [SEED]                     the calls, their loads and the number of calls in each
+  bench count CALL LOAD SIDE CALLS [SEED]   so many calls of one side (proved or ordinary) and nothing else";
+/// The seed where none is given.
+const SEED: u64 = 1;
+/// The status of a run that found something wrong, and of one that was not asked for anything that there is.
+const WRONG: i32 = 1;
+const NOT_UNDERSTOOD: i32 = 2;
+
+/// A number of the command line.
+fn number<N: std::str::FromStr>(word: &str) -> Result<N, Stop> {
+    word.parse().map_err(|_| Stop::Usage)
+}
+
+/// Why a run ends early.
+enum Stop {
+    Usage,
+    Wrong(String),
+}
+
+impl From<String> for Stop {
+    fn from(message: String) -> Stop {
+        Stop::Wrong(message)
+    }
+}
+
+/// Times all contests and prints what came of them.
+fn time(seed: u64, repetitions: u32) -> Result<(), Stop> {
+    print::heading(seed, repetitions);
+    let mut sum = 0u64;
+    for contest in contest::all() {
+        let report = timing::time(contest, seed, repetitions)?;
+        sum = sum.wrapping_add(report.sum);
+        print::report(&report);
+    }
+    print::footing(timing::around(contest::MIX, seed, repetitions)?, sum);
+    Ok(())
+}
+
+/// One line for each contest: call, load and the calls of a pass.
+fn contests(seed: u64) -> Result<(), Stop> {
+    for contest in contest::all() {
+        println!("{} {}", contest.name(), contest.load(seed)?.calls(contest.call));
+    }
+    Ok(())
+}
+
+fn count(words: [&str; 4], seed: u64) -> Result<(), Stop> {
+    let [call, load, side, calls] = words;
+    let contest = contest::find(call, load).ok_or(Stop::Usage)?;
+    let side = side::SIDES.iter().find(|known| known.name == side).ok_or(Stop::Usage)?;
+    println!("sum of the outcomes: {}", count::count(&contest, side, number(calls)?, seed)?);
+    Ok(())
+}
+
+/// Does what the command line asks for.
+fn run(words: &[&str]) -> Result<(), Stop> {
+    match *words {
+        ["time", seed, repetitions] => match number(repetitions)? {
+            0 => Err(Stop::Usage),
+            repetitions => time(number(seed)?, repetitions),
+        },
+        ["contests"] => contests(SEED),
+        ["contests", seed] => contests(number(seed)?),
+        ["count", call, load, side, calls] => count([call, load, side, calls], SEED),
+        ["count", call, load, side, calls, seed] => count([call, load, side, calls], number(seed)?),
+        _ => Err(Stop::Usage),
+    }
+}
+
+fn main() {
+    let words: Vec<String> = env::args().skip(1).collect();
+    let words: Vec<&str> = words.iter().map(String::as_str).collect();
+    match run(&words) {
+        Ok(()) => {}
+        Err(Stop::Usage) => {
+            eprintln!("{USAGE}");
+            process::exit(NOT_UNDERSTOOD);
+        }
+        Err(Stop::Wrong(message)) => {
+            eprintln!("{message}");
+            process::exit(WRONG);
+        }
+    }
+}

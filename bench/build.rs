@@ -1,0 +1,26 @@
+//! Links the archive of the step without the check, which `bench/run` leaves beside that of the desk, and notes which compiler makes the
+//! ordinary side.
+use std::{env, path::PathBuf, process::Command};
+
+/// What the compiler says of itself, or that it says nothing.
+fn compiler() -> String {
+    let named = env::var_os("RUSTC").unwrap_or_else(|| "rustc".into());
+    let said = Command::new(named).arg("--version").output();
+    said.ok().and_then(|said| String::from_utf8(said.stdout).ok()).unwrap_or_else(|| "rustc, version unknown".into())
+}
+
+fn main() {
+    println!("cargo:rerun-if-changed=build.rs");
+    println!("cargo:rerun-if-env-changed=MMS_LIB_DIR");
+    let folder = match env::var_os("MMS_LIB_DIR") {
+        Some(folder) => PathBuf::from(folder),
+        None => PathBuf::from(env::var_os("CARGO_MANIFEST_DIR").expect("cargo names the crate's folder"))
+            .join("../target/bindings/lib"),
+    };
+    let archive = folder.join("libadvance.a");
+    assert!(archive.exists(), "{} is missing: bench/run builds it", archive.display());
+    println!("cargo:rerun-if-changed={}", archive.display());
+    println!("cargo:rustc-link-search=native={}", folder.display());
+    println!("cargo:rustc-link-lib=static=advance");
+    println!("cargo:rustc-env=BENCH_COMPILER={}", compiler().trim());
+}

@@ -1,0 +1,167 @@
+//! The contests: one call on one load, for both sides.
+use crate::load::{Call, Load};
+use crate::side::PROVED;
+use crate::{requests, tables, texts};
+use generate::layout::OPERATIONS;
+use generate::{dice_for, full, Dice};
+
+/// Accepted and refused requests of each operation for each tables where all operations are in the load.
+const OF_EACH: usize = 3;
+/// The same where the load is of one operation.
+const OF_ONE: usize = 4;
+/// The operations by their numbers from 1.
+const OPERATION_NAMES: [&str; OPERATIONS as usize] = [
+    "create",
+    "delete",
+    "move",
+    "edit",
+    "copy",
+    "level",
+    "mark",
+    "grant",
+    "revoke",
+    "show",
+    "clear",
+    "login",
+    "logout",
+    "current-roles",
+    "clearance",
+    "authorised-roles",
+    "maximum",
+    "device-level",
+    "release",
+    "acknowledge",
+];
+
+/// What a load is made of.
+#[derive(Clone, Copy, Debug, PartialEq, Eq)]
+pub enum Kind {
+    S1,
+    Middle,
+    Full,
+    Fullest,
+    Mixed,
+    Operation(u32),
+    Short,
+    Longest,
+}
+
+impl Kind {
+    /// As it is named in the output and on the command line.
+    pub fn name(self) -> &'static str {
+        match self {
+            Kind::S1 => "s1",
+            Kind::Middle => "middle",
+            Kind::Full => "full",
+            Kind::Fullest => "fullest",
+            Kind::Mixed => "mixed",
+            Kind::Operation(number) => OPERATION_NAMES[number as usize - 1],
+            Kind::Short => "short",
+            Kind::Longest => "longest",
+        }
+    }
+
+    /// Dice of its own, so that a load is the same whichever others are made.
+    fn dice(self, seed: u64) -> Dice {
+        let behind_operations = match self {
+            Kind::Operation(number) => return dice_for(seed, u64::from(number)),
+            Kind::S1 => 1,
+            Kind::Middle => 2,
+            Kind::Full => 3,
+            Kind::Fullest => 4,
+            Kind::Mixed => 5,
+            Kind::Short => 6,
+            Kind::Longest => 7,
+        };
+        dice_for(seed, u64::from(OPERATIONS) + behind_operations)
+    }
+}
+
+/// One call on one load.
+#[derive(Clone, Copy, Debug, PartialEq, Eq)]
+pub struct Contest {
+    pub call: Call,
+    pub kind: Kind,
+}
+
+/// The step without the check on requests of all operations.
+pub const MIX: Contest = Contest { call: Call::Advance, kind: Kind::Mixed };
+
+/// All contests, in the order in which they are printed.
+pub fn all() -> Vec<Contest> {
+    let tables = [Kind::S1, Kind::Middle, Kind::Full, Kind::Fullest];
+    let texts = [Kind::Short, Kind::Longest, Kind::Mixed];
+    let operations: Vec<Kind> = (1..=OPERATIONS).map(Kind::Operation).collect();
+    let of = |call: Call, kinds: &[Kind]| kinds.iter().map(|&kind| Contest { call, kind }).collect::<Vec<_>>();
+    [
+        of(Call::Check, &tables),
+        of(Call::Step, &[Kind::Mixed]),
+        vec![MIX],
+        of(Call::Advance, &operations),
+        of(Call::List, &tables),
+        of(Call::Read, &texts),
+        of(Call::Write, &texts),
+    ]
+    .concat()
+}
+
+/// The contest with these names.
+pub fn find(call: &str, load: &str) -> Option<Contest> {
+    all().into_iter().find(|contest| contest.call.name() == call && contest.kind.name() == load)
+}
+
+impl Contest {
+    /// Its name, for whoever reads a message.
+    pub fn name(&self) -> String {
+        format!("{} {}", self.call.name(), self.kind.name())
+    }
+
+    /// Its load, which follows from the seed: its tables have all passed the check. Else what is wrong.
+    pub fn load(&self, seed: u64) -> Result<Load, String> {
+        let mut dice = self.kind.dice(seed);
+        let load = match self.call {
+            Call::Check => Some(self.check_load(&mut dice)),
+            Call::List => Some(self.list_load(&mut dice)),
+            Call::Step | Call::Advance => self.request_load(&mut dice),
+            Call::Read | Call::Write => self.text_load(&mut dice),
+        };
+        let load = load.ok_or_else(|| format!("{}: no fitting requests found; try another seed", self.name()))?;
+        match load.tables.iter().all(|tables| (PROVED.check)(tables) == 0) {
+            true => Ok(load),
+            false => Err(format!("{}: tables that are meant to be good are not", self.name())),
+        }
+    }
+
+    fn check_load(&self, dice: &mut Dice) -> Load {
+        self.maker().map_or_else(tables::check_s1, |make| tables::check(dice, make))
+    }
+
+    fn list_load(&self, dice: &mut Dice) -> Load {
+        self.maker().map_or_else(tables::list_s1, |make| tables::list(dice, make))
+    }
+
+    /// What makes its tables; none where they are S1.
+    fn maker(&self) -> Option<tables::Maker> {
+        match self.kind {
+            Kind::S1 => None,
+            Kind::Full => Some(full::full),
+            Kind::Fullest => Some(full::fullest),
+            _ => Some(generate::tables),
+        }
+    }
+
+    fn request_load(&self, dice: &mut Dice) -> Option<Load> {
+        match self.kind {
+            Kind::Operation(number) => requests::prepare(dice, number..=number, OF_ONE),
+            _ => requests::prepare(dice, 1..=OPERATIONS, OF_EACH),
+        }
+    }
+
+    fn text_load(&self, dice: &mut Dice) -> Option<Load> {
+        match self.kind {
+            Kind::Short => Some(texts::prepare_short(dice)),
+            Kind::Longest => Some(texts::prepare_longest(dice)),
+            _ => self.request_load(dice).map(|load| texts::prepare(load.requests)),
+        }
+    }
+}

@@ -1,0 +1,107 @@
+//! What calls are made on: tables, and for each call the number of its tables and what else it takes.
+use crate::side::{Outcome, Side};
+use generate::full::MOST_ENTRIES;
+use generate::layout::{ENTRY_WORDS, REQUEST_WORDS};
+
+/// The bytes of the longest text.
+pub const LONGEST_TEXT: usize = 166;
+
+/// The words of a request.
+pub type Request = [u32; REQUEST_WORDS];
+
+/// The calls that are measured; `Advance` is the step without the check.
+#[derive(Clone, Copy, Debug, PartialEq, Eq)]
+pub enum Call {
+    Check,
+    Step,
+    Advance,
+    List,
+    Read,
+    Write,
+}
+
+impl Call {
+    /// As it is named in the output and on the command line.
+    pub fn name(self) -> &'static str {
+        match self {
+            Call::Check => "check",
+            Call::Step => "step",
+            Call::Advance => "advance",
+            Call::List => "list",
+            Call::Read => "read",
+            Call::Write => "write",
+        }
+    }
+}
+
+/// Lent to calls to write to: large enough for any list, any text and any request.
+#[derive(Clone, PartialEq, Eq)]
+pub struct Rooms {
+    pub entries: Vec<u32>,
+    pub text: Vec<u8>,
+    pub request: Request,
+}
+
+impl Rooms {
+    /// Rooms with nothing in them.
+    pub fn new() -> Rooms {
+        let entries = vec![0; MOST_ENTRIES as usize * ENTRY_WORDS];
+        Rooms { entries, text: vec![0; LONGEST_TEXT], request: [0; REQUEST_WORDS] }
+    }
+}
+
+/// A pass makes the calls one after the other, each on its tables as those before have left them. What a call does not take is not there.
+#[derive(Clone, Default)]
+pub struct Load {
+    /// As a pass finds them.
+    pub tables: Vec<Vec<u32>>,
+    /// Of each call, which tables.
+    pub places: Vec<usize>,
+    pub requests: Vec<Request>,
+    pub users: Vec<u32>,
+    pub texts: Vec<Vec<u8>>,
+}
+
+impl Load {
+    /// How many calls of this kind a pass makes.
+    pub fn calls(&self, call: Call) -> usize {
+        match call {
+            Call::Check => self.places.len(),
+            Call::Step | Call::Advance | Call::Write => self.requests.len(),
+            Call::List => self.users.len(),
+            Call::Read => self.texts.len(),
+        }
+    }
+
+    /// Call number `at` of a pass, on these tables and rooms.
+    #[inline(always)]
+    pub fn call(&self, at: usize, call: Call, side: &Side, tables: &mut [Vec<u32>], rooms: &mut Rooms) -> Outcome {
+        match call {
+            Call::Check => (side.check)(&tables[self.places[at]]),
+            Call::Step => (side.step)(&mut tables[self.places[at]], &self.requests[at]),
+            Call::Advance => (side.advance)(&mut tables[self.places[at]], &self.requests[at]),
+            Call::List => (side.list)(&tables[self.places[at]], self.users[at], &mut rooms.entries),
+            Call::Read => (side.read)(&self.texts[at], &mut rooms.request),
+            Call::Write => (side.write)(&self.requests[at], &mut rooms.text),
+        }
+    }
+
+    /// The first `calls` calls of a pass, and the sum of their outcomes. The kind of call is asked about once and not in the loop, so that
+    /// little but the calls is measured.
+    pub fn pass(&self, calls: usize, call: Call, side: &Side, tables: &mut [Vec<u32>], rooms: &mut Rooms) -> Outcome {
+        match call {
+            Call::Check => sum(calls, |at| self.call(at, Call::Check, side, tables, rooms)),
+            Call::Step => sum(calls, |at| self.call(at, Call::Step, side, tables, rooms)),
+            Call::Advance => sum(calls, |at| self.call(at, Call::Advance, side, tables, rooms)),
+            Call::List => sum(calls, |at| self.call(at, Call::List, side, tables, rooms)),
+            Call::Read => sum(calls, |at| self.call(at, Call::Read, side, tables, rooms)),
+            Call::Write => sum(calls, |at| self.call(at, Call::Write, side, tables, rooms)),
+        }
+    }
+}
+
+/// The sum of what calls 0 to `calls` - 1 give.
+#[inline(always)]
+fn sum(calls: usize, mut call: impl FnMut(usize) -> Outcome) -> Outcome {
+    (0..calls).fold(0, |sum, at| sum.wrapping_add(call(at)))
+}

@@ -1,0 +1,64 @@
+//! The output, in Markdown.
+use crate::figures::{nanoseconds, whole, Spread};
+use crate::load::Call;
+use crate::machine;
+use crate::timing::{Report, LEAST};
+
+/// What stands above the lines of the contests.
+pub fn heading(seed: u64, repetitions: u32) {
+    println!("Machine: {}.", machine::describe());
+    println!(
+        "Seed {seed}. Nanoseconds for a call: medians of {repetitions} repetitions of each side, in turn, each of {} ms or more.",
+        LEAST.as_millis()
+    );
+    println!();
+    println!("| call | load | proved, ns | ordinary, ns | ratio | proved, quartiles | ordinary, quartiles | ratio, quartiles | a pass |");
+    println!("|-|-|-|-|-|-|-|-|-|");
+}
+
+/// From the lower quartile to the upper one.
+fn between(spread: Spread, write: fn(f64) -> String) -> String {
+    format!("{} to {}", write(spread.lower), write(spread.upper))
+}
+
+fn ratio(ratio: f64) -> String {
+    format!("{ratio:.2}")
+}
+
+/// How many calls there are, and what tells most about them.
+fn a_pass(report: &Report) -> String {
+    let mean = report.agreed.numbers as f64 / report.calls as f64;
+    let about = match report.contest.call {
+        Call::List => format!(", {mean:.1} entries each"),
+        Call::Write => format!(", {mean:.1} bytes each"),
+        Call::Step | Call::Advance => format!(", {} accepted", whole(report.agreed.accepted as u64)),
+        Call::Check | Call::Read => String::new(),
+    };
+    format!("{} calls{about}", whole(report.calls as u64))
+}
+
+/// The line of a contest. The ratio is that of the medians; its quartiles are those of the ratios of repetitions side by side.
+pub fn report(report: &Report) {
+    let cells = [
+        report.contest.call.name().to_string(),
+        report.contest.kind.name().to_string(),
+        nanoseconds(report.proved.median),
+        nanoseconds(report.ordinary.median),
+        ratio(report.proved.median / report.ordinary.median),
+        between(report.proved, nanoseconds),
+        between(report.ordinary, nanoseconds),
+        between(report.ratio, ratio),
+        a_pass(report),
+    ];
+    println!("| {} |", cells.join(" | "));
+}
+
+/// What stands below them.
+pub fn footing(around: Spread, sum: u64) {
+    println!();
+    println!(
+        "In every figure: the loop and the call through a pointer, {} ns for requests.",
+        nanoseconds(around.median)
+    );
+    println!("Sum of all outcomes, which were compared before: {sum}.");
+}

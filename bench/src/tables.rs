@@ -1,0 +1,54 @@
+//! Tables for the check and for the list, with who asks for a list.
+use crate::load::Load;
+use crate::requests::TABLES;
+use generate::layout::{user, user_base, USERS};
+use generate::Dice;
+
+/// Checks of each tables, one after the other: a desk's own tables are asked again and again, and so stay in the caches.
+const CHECKS_OF_EACH: usize = 4;
+/// Lists of each tables; each is of one of the users who are on.
+const LISTS_OF_EACH: usize = 4;
+/// Of S1, which is alone in its load.
+const CALLS_OF_ONE: usize = 200;
+/// Whose list of S1 is asked for: the one that is not empty.
+const ASKER_OF_S1: u32 = 2;
+
+/// Makes tables.
+pub type Maker = fn(&mut Dice) -> Vec<u32>;
+
+/// Checks of S1 alone.
+pub fn check_s1() -> Load {
+    Load { tables: vec![generate::s1()], places: vec![0; CALLS_OF_ONE], ..Load::default() }
+}
+
+/// Checks of tables made by dice.
+pub fn check(dice: &mut Dice, make: Maker) -> Load {
+    let tables = (0..TABLES).map(|_| make(dice)).collect();
+    let places = (0..TABLES).flat_map(|place| [place; CHECKS_OF_EACH]).collect();
+    Load { tables, places, ..Load::default() }
+}
+
+/// Lists of S1 alone.
+pub fn list_s1() -> Load {
+    Load { users: vec![ASKER_OF_S1; CALLS_OF_ONE], ..check_s1() }
+}
+
+/// Who is logged on.
+fn users_on(tables: &[u32]) -> Vec<u32> {
+    (1..=USERS).filter(|&number| tables[user_base(number) + user::DEVICE] != 0).collect()
+}
+
+/// Lists of tables made by dice, for users who are on; tables with nobody on are left aside.
+pub fn list(dice: &mut Dice, make: Maker) -> Load {
+    let mut load = Load::default();
+    while load.tables.len() < TABLES {
+        let tables = make(dice);
+        let on = users_on(&tables);
+        if !on.is_empty() {
+            load.places.extend([load.tables.len(); LISTS_OF_EACH]);
+            load.users.extend((0..LISTS_OF_EACH).map(|_| dice.one_of(&on)));
+            load.tables.push(tables);
+        }
+    }
+    load
+}

@@ -1,0 +1,71 @@
+//! Requests to write and their texts to read.
+use crate::load::{Load, Request, LONGEST_TEXT};
+use generate::layout::answer::ACCEPTED;
+use generate::layout::{asked, operation, shown, NAMES, REQUEST_WORDS};
+use generate::Dice;
+use ordinary::Right;
+
+/// Texts of one kind in a load.
+const TEXTS: usize = 6000;
+/// The smallest number of ten digits, as many as a number of 32 bits can have.
+const TEN_DIGITS: u32 = 1_000_000_000;
+
+/// A request to show something in a place of something, all numbers but the operation of one digit.
+fn short(dice: &mut Dice) -> Request {
+    let mut request = [0; REQUEST_WORDS];
+    request[asked::USER] = dice.between(1, 9);
+    request[asked::OPERATION] = operation::SHOW;
+    request[asked::FIRST] = 2;
+    request[asked::FIRST + 1] = dice.between(1, 9);
+    request[asked::FIRST + 2] = dice.between(1, 8);
+    request[asked::A] = dice.between(1, shown::ALL);
+    request
+}
+
+/// Two references of four names, and ten digits everywhere.
+fn longest(dice: &mut Dice) -> Request {
+    let mut request = [0; REQUEST_WORDS];
+    for word in &mut request[..asked::SPARE] {
+        *word = dice.between(TEN_DIGITS, u32::MAX);
+    }
+    request[asked::FIRST] = NAMES;
+    request[asked::SECOND] = NAMES;
+    request
+}
+
+/// The text of a request, if it has one.
+fn text(request: &Request) -> Option<Vec<u8>> {
+    let mut room = vec![0; LONGEST_TEXT];
+    let reply = ordinary::write::<Right>(request, &mut room);
+    room.truncate(reply.number as usize);
+    Some(room).filter(|_| reply.answer == ACCEPTED)
+}
+
+/// These requests with their texts; those without a text are left out.
+pub fn prepare(requests: Vec<Request>) -> Load {
+    let (requests, texts) = requests.into_iter().filter_map(|request| Some((request, text(&request)?))).unzip();
+    Load { requests, texts, ..Load::default() }
+}
+
+/// Texts of 39 bytes, as many as S1's request to show 4.1 has.
+pub fn prepare_short(dice: &mut Dice) -> Load {
+    prepare((0..TEXTS).map(|_| short(dice)).collect())
+}
+
+/// Texts as long as there are any.
+pub fn prepare_longest(dice: &mut Dice) -> Load {
+    prepare((0..TEXTS).map(|_| longest(dice)).collect())
+}
+
+#[cfg(test)]
+mod tests {
+    use super::*;
+
+    #[test]
+    fn texts_are_as_long_as_they_are_said_to_be() {
+        let mut dice = Dice::new(1);
+        assert!(prepare_short(&mut dice).texts.iter().all(|text| text.len() == 39));
+        assert!(prepare_longest(&mut dice).texts.iter().all(|text| text.len() == LONGEST_TEXT));
+        assert_eq!(prepare_longest(&mut dice).texts.len(), TEXTS);
+    }
+}
