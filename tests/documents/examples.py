@@ -18,8 +18,8 @@ NOT_RUN = {
     "tests/documents/run": "it is this test",
     "bench/run": "its figures differ from run to run",
 }
-# A program in target/ is x86-64.
-STARTS_PROGRAM = re.compile(r"^(\s*)((?:\.\./)*target/\S+)", re.M)
+# A program in target/ is x86-64; it is started at the beginning of a line or behind a pipe.
+STARTS_PROGRAM = re.compile(r"(^|\| )((?:\.\./)*target/\S+)", re.M)
 
 
 def difference(expected, found):

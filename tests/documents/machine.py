@@ -120,4 +120,4 @@ class Machine:
 
     def as_typed(self):
         """`gcc` and `cargo` are the compilers for x86-64, whatever they are called on this machine."""
-        return f'gcc() {{ {self.cc} "$@"; }}\ncargo() {{ {self.cargo} "$@"; }}\n'
+        return f'gcc() {{ command {self.cc} "$@"; }}\ncargo() {{ command {self.cargo} "$@"; }}\n'

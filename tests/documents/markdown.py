@@ -1,6 +1,7 @@
 """Finds the fenced blocks of a document, and what no document may have beside them."""
 
 import re
+from pathlib import Path
 
 # What may follow the three backticks, and which of them have their result in the next block.
 KINDS = ("script", "reports", "requests", "sh", "c", "rust", "output", "text")
@@ -13,6 +14,8 @@ OPENING = re.compile(r"^(\s*)(`{3,}|~{3,})(.*)$")
 QUOTED = re.compile(r"^\s*>\s*(`{3,}|~{3,})")
 ITEM = re.compile(r"^(\s*)([-*+]|\d+[.)])(\s+)\S")
 CODE_INDENT = 4
+# The folder target/try is every saved program's, so to name it is to name none of them.
+SHARED = len(Path("target/try").parts)
 # What a command or a report looks like; neither may stand in a block that is not run.
 LOOKS_RUN = re.compile(r"^\s*(\$ |answer=\d|user=\d|(\./|\.\./)*target/bin/|\.ci/run|examples/run|bindings/build)")
 
@@ -156,10 +159,11 @@ def stray(block, last):
 
 
 def lack_of(block, later):
-    """What an example lacks, or nothing. A program that is saved needs no result, but a later command must name its file."""
+    """What an example lacks, or nothing. A program that is saved needs no result, but a later command must name its file or its folder."""
     if block.kind not in ("script", "c", "rust"):
         return None
     if block.kind != "script" and block.file:
-        named = any(other.kind == "sh" and block.file in other.text for other in later)
+        names = [block.file, *(str(folder) for folder in Path(block.file).parents if len(folder.parts) > SHARED)]
+        named = any(other.kind == "sh" and any(name in other.text for name in names) for other in later)
         return None if named else f"no later command names {block.file}"
     return None if block.result else f"'{block.kind}' without '{RESULT_OF[block.kind]}' behind it"

@@ -12,7 +12,8 @@ How an example is written in a document. Code is fenced, never indented, and the
                      script, run on case state S1 (examples/state.words) or on the state file STATE.
   script [STATE]     the bytes of a script. The next block is `reports`, the bytes that the desk writes.
   c [FILE]           a whole program, compiled without warnings against bindings/mms.h and linked with the archive. The next block is
-  rust [FILE]        `output`, what the program writes. Or the program is saved as FILE, and a later `sh` names FILE; `output` may be left out.
+  rust [FILE]        `output`, what the program writes. Or the program is saved as FILE, and a later `sh` names FILE or its folder below
+                     target/try; then `output` may be left out.
   sh                 commands, typed in the repository's root. If the next block is `output`, that is what they write (on standard
                      output). A command that fails is wrong. target/try is the reader's own folder; it is emptied before each document.
                      A line that begins with a path into target/ starts an x86-64 program; elsewhere than on x86-64 the emulator does.
