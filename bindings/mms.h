@@ -148,29 +148,29 @@ enum mms_request_word {
 
 /* Each with its operands, as first and second reference, and its arguments. */
 enum mms_operation {
-    MMS_OP_CREATE = 1,            /* container; a sort, b level */
-    MMS_OP_DELETE = 2,            /* entity */
-    MMS_OP_MOVE = 3,              /* entity, container */
-    MMS_OP_EDIT = 4,              /* entity; a value */
-    MMS_OP_COPY = 5,              /* entity, entity */
-    MMS_OP_LEVEL = 6,             /* entity; a level */
-    MMS_OP_MARK = 7,              /* container; a 0 or 1 */
-    MMS_OP_GRANT = 8,             /* any; a who, b operation, c position */
-    MMS_OP_REVOKE = 9,            /* any; a who, b operation, c position */
-    MMS_OP_SHOW = 10,             /* entity; a shown sum */
-    MMS_OP_CLEAR = 11,            /* none */
-    MMS_OP_LOGIN = 12,            /* device */
-    MMS_OP_LOGOUT = 13,           /* none */
-    MMS_OP_CURRENT_ROLES = 14,    /* a user, b roles */
-    MMS_OP_CLEARANCE = 15,        /* a user, b level */
-    MMS_OP_AUTHORISED_ROLES = 16, /* a user, b roles */
-    MMS_OP_MAXIMUM = 17,          /* device; a level */
-    MMS_OP_DEVICE_LEVEL = 18,     /* device; a level */
-    MMS_OP_RELEASE = 19,          /* draft */
-    MMS_OP_ACKNOWLEDGE = 20       /* a held refusal, b count */
+    MMS_CREATE = 1,            /* container; a sort, b level */
+    MMS_DELETE = 2,            /* entity */
+    MMS_MOVE = 3,              /* entity, container */
+    MMS_EDIT = 4,              /* entity; a value */
+    MMS_COPY = 5,              /* entity, entity */
+    MMS_SET_LEVEL = 6,         /* entity; a level */
+    MMS_SET_MARK = 7,          /* container; a 0 or 1 */
+    MMS_GRANT = 8,             /* any; a who, b operation, c position */
+    MMS_REVOKE = 9,            /* any; a who, b operation, c position */
+    MMS_SHOW = 10,             /* entity; a shown sum */
+    MMS_CLEAR = 11,            /* none */
+    MMS_LOGIN = 12,            /* device */
+    MMS_LOGOUT = 13,           /* none */
+    MMS_CURRENT_ROLES = 14,    /* a user, b roles */
+    MMS_CLEARANCE = 15,        /* a user, b level */
+    MMS_AUTHORISED_ROLES = 16, /* a user, b roles */
+    MMS_MAXIMUM = 17,          /* device; a level */
+    MMS_DEVICE_LEVEL = 18,     /* device; a level */
+    MMS_RELEASE = 19,          /* draft */
+    MMS_ACKNOWLEDGE = 20       /* a held refusal, b count */
 };
 
-/* What MMS_OP_CREATE makes. */
+/* What MMS_CREATE makes. */
 enum mms_sort { MMS_SORT_OBJECT = 1, MMS_SORT_CONTAINER = 2, MMS_SORT_DRAFT = 3 };
 
 /* ---- the tables (2) ---- */

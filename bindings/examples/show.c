@@ -47,7 +47,7 @@ static void show(uint32_t *tables, const uint32_t *reference)
     uint32_t answer;
 
     request[MMS_REQUEST_USER] = USER;
-    request[MMS_REQUEST_OPERATION] = MMS_OP_SHOW;
+    request[MMS_REQUEST_OPERATION] = MMS_SHOW;
     for (size_t i = 0; i < MMS_ENTRY_WORDS; i++)
         request[MMS_REQUEST_FIRST + i] = reference[i];
     request[MMS_REQUEST_A] = MMS_SHOWN_VALUE + MMS_SHOWN_LABEL;
