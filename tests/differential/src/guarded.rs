@@ -45,8 +45,11 @@ impl<T: Filler> Guarded<T> {
 
     /// From now on, a slice that holds these words, and fresh guards.
     pub fn hold(&mut self, words: &[T]) {
-        self.empty(words.len());
-        self.lent().copy_from_slice(words);
+        self.length = words.len();
+        self.block.clear();
+        self.block.extend((0..GUARD).map(T::filler));
+        self.block.extend_from_slice(words);
+        self.block.extend((GUARD + self.length..self.length + 2 * GUARD).map(T::filler));
     }
 
     /// From now on, a room of a length that nobody has written to, and fresh guards.

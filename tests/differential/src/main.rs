@@ -1,6 +1,153 @@
-//! The proved desk against the ordinary one: the same tables, requests and texts go to both, and everything that either leaves is compared.
+//! The proved desk against one written by hand: the same tables, requests and texts go to both, and everything that either leaves is compared.
 mod guarded;
 mod outcome;
+mod script;
+mod side;
+mod tables;
 mod texts;
+mod wrong;
 
-fn main() {}
+use ordinary::{Right, Wrong, WRONG};
+use outcome::{Out, Outcome};
+use side::ByHand;
+use std::process::exit;
+use tables::Comparison;
+use wrong::Effort;
+
+const USAGE: &str = "\
+usage: differential tables SEED STEPS [wrong=NAME] [table=NUMBER]
+       differential texts SEED ROUNDS [wrong=NAME]
+       differential s1
+       differential rooms SEED
+       differential wrong SEED STEPS ROUNDS
+       differential script SEED REQUESTS
+       differential script s1
+
+tables: check, step and list of tables good and bad; table=NUMBER replays one of them alone
+texts:  request texts read and written, good ones and damaged ones
+s1:     the answers that document 01 lists for case state S1
+rooms:  lists of S1, of S1 with something amiss and of full tables, in rooms of every length
+wrong:  every wrong desk through tables or texts, where it must be noticed
+script: tables as state.words has them, then a script of requests to them
+
+A seed is a number below 2^64, and everything follows from it. The status is 1 if anything differed or was not reached, and 2 if it is not
+clear what is wanted. With wrong=NAME the desk written by hand is one of these:";
+
+/// Differences after which a run of tables is given up.
+const MOST_DIFFERENCES: u64 = 5;
+
+/// What is not understood.
+struct Unclear;
+
+impl From<std::num::ParseIntError> for Unclear {
+    fn from(_: std::num::ParseIntError) -> Unclear {
+        Unclear
+    }
+}
+
+/// A number in decimal, and nothing else.
+fn number(word: &str) -> Result<u64, Unclear> {
+    if word.bytes().all(|byte| byte.is_ascii_digit()) {
+        Ok(word.parse()?)
+    } else {
+        Err(Unclear)
+    }
+}
+
+/// Options behind the numbers of a run.
+struct Options {
+    wrong: Option<&'static Wrong>,
+    table: Option<u64>,
+}
+
+/// A wrong desk by its name, for the texts or for the tables.
+fn wrong_desk(name: &str, text: bool) -> Result<&'static Wrong, Unclear> {
+    WRONG.iter().find(|wrong| wrong.name == name && wrong.text == text).ok_or(Unclear)
+}
+
+/// Reads options; each may come once or not at all.
+fn options(words: &[&str], text: bool) -> Result<Options, Unclear> {
+    let mut options = Options { wrong: None, table: None };
+    for word in words {
+        match word.split_once('=') {
+            Some(("wrong", name)) if options.wrong.is_none() => options.wrong = Some(wrong_desk(name, text)?),
+            Some(("table", which)) if options.table.is_none() && !text => options.table = Some(number(which)?),
+            _ => return Err(Unclear),
+        }
+    }
+    Ok(options)
+}
+
+impl Options {
+    /// The desk written by hand.
+    fn desk(&self) -> ByHand<'static> {
+        self.wrong.map_or(&Right, |wrong| wrong.desk)
+    }
+}
+
+fn run_tables(seed: &str, steps: &str, rest: &[&str]) -> Result<Outcome, Unclear> {
+    let options = options(rest, false)?;
+    let what = Comparison {
+        seed: number(seed)?,
+        steps: number(steps)?,
+        only: options.table,
+        stepping: options.desk(),
+        listing: options.desk(),
+        options: options.wrong.map_or(String::new(), |wrong| format!(" wrong={}", wrong.name)),
+        most_differences: MOST_DIFFERENCES,
+    };
+    Ok(tables::run(&what, Out::LOUD))
+}
+
+fn run_texts(seed: &str, rounds: &str, rest: &[&str]) -> Result<Outcome, Unclear> {
+    let options = options(rest, true)?;
+    Ok(texts::run(number(seed)?, number(rounds)?, options.desk(), Out::LOUD))
+}
+
+fn run_wrong(seed: &str, steps: &str, rounds: &str) -> Result<Outcome, Unclear> {
+    let effort = Effort { seed: number(seed)?, steps: number(steps)?, rounds: number(rounds)? };
+    Ok(wrong::run(&effort, Out::LOUD))
+}
+
+/// A script has nothing to complain of but that it could not be written.
+fn run_script(words: &[&str]) -> Result<Outcome, Unclear> {
+    let written = match words {
+        ["s1"] => script::of_s1(),
+        [seed, requests] => script::generated(number(seed)?, number(requests)?),
+        _ => return Err(Unclear),
+    };
+    let amiss = u64::from(written.is_err());
+    Ok(Outcome { amiss, ..Outcome::default() })
+}
+
+/// Does what the words of the command line say.
+fn run(words: &[&str]) -> Result<Outcome, Unclear> {
+    match words {
+        ["tables", seed, steps, rest @ ..] => run_tables(seed, steps, rest),
+        ["texts", seed, rounds, rest @ ..] => run_texts(seed, rounds, rest),
+        ["s1"] => Ok(tables::s1::run(Out::LOUD)),
+        ["rooms", seed] => Ok(tables::rooms::run(number(seed)?, Out::LOUD)),
+        ["wrong", seed, steps, rounds] => run_wrong(seed, steps, rounds),
+        ["script", rest @ ..] => run_script(rest),
+        _ => Err(Unclear),
+    }
+}
+
+fn usage() {
+    eprintln!("{}", USAGE);
+    for wrong in WRONG {
+        eprintln!("  {:<8} {}", wrong.name, wrong.error);
+    }
+}
+
+fn main() {
+    let words: Vec<String> = std::env::args().skip(1).collect();
+    let words: Vec<&str> = words.iter().map(String::as_str).collect();
+    match run(&words) {
+        Ok(outcome) => exit(i32::from(!outcome.is_good())),
+        Err(Unclear) => {
+            usage();
+            exit(2);
+        }
+    }
+}

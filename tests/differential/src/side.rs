@@ -1,0 +1,48 @@
+//! The two sides that are compared: a desk written by hand, and the proved one.
+use mms::words;
+use ordinary::{Desk, Reply};
+
+/// A desk written by hand, right or wrong.
+pub type ByHand<'a> = &'a (dyn Desk + Sync);
+
+/// Who is asked.
+#[derive(Clone, Copy)]
+pub enum Side<'a> {
+    Ordinary(ByHand<'a>),
+    Proved,
+}
+
+impl Side<'_> {
+    pub fn name(self) -> &'static str {
+        match self {
+            Side::Ordinary(_) => "ordinary",
+            Side::Proved => "proved",
+        }
+    }
+
+    pub fn check(self, tables: &[u32]) -> Reply {
+        match self {
+            Side::Ordinary(desk) => desk.check(tables),
+            Side::Proved => reply(words::check(tables)),
+        }
+    }
+
+    pub fn step(self, tables: &mut [u32], request: &[u32]) -> Reply {
+        match self {
+            Side::Ordinary(desk) => desk.step(tables, request),
+            Side::Proved => reply(words::step(tables, request)),
+        }
+    }
+
+    pub fn list(self, tables: &[u32], user: u32, room: &mut [u32]) -> Reply {
+        match self {
+            Side::Ordinary(desk) => desk.list(tables, user, room),
+            Side::Proved => reply(words::list(tables, user, room)),
+        }
+    }
+}
+
+/// What the proved desk answered, as the other one puts it.
+fn reply(proved: words::Answer) -> Reply {
+    Reply { answer: proved.no, number: proved.number }
+}

@@ -1,0 +1,53 @@
+//! Every wrong desk must be found out, and by a difference: what a wrong desk fails to reach is no proof against it.
+use crate::outcome::{Out, Outcome};
+use crate::side::ByHand;
+use crate::tables::{self, Comparison};
+use crate::texts;
+use ordinary::{Right, Wrong, WRONG};
+
+/// How much is tried with each.
+pub struct Effort {
+    pub seed: u64,
+    pub steps: u64,
+    pub rounds: u64,
+}
+
+impl Effort {
+    /// The first difference of two desks, one for the steps and one for the lists, with the proved one.
+    fn of_tables(&self, stepping: ByHand, listing: ByHand) -> Option<String> {
+        let Effort { seed, steps, .. } = *self;
+        let what =
+            Comparison { seed, steps, only: None, stepping, listing, options: String::new(), most_differences: 1 };
+        tables::run(&what, Out::QUIET).first
+    }
+
+    /// Where a wrong desk is noticed first: each of its calls is tried alone, since a wrong list would hide a wrong step.
+    fn noticed(&self, wrong: &Wrong) -> Vec<String> {
+        let found = if wrong.text {
+            vec![texts::run(self.seed, self.rounds, wrong.desk, Out::QUIET).first]
+        } else {
+            vec![self.of_tables(wrong.desk, &Right), self.of_tables(&Right, wrong.desk)]
+        };
+        found.into_iter().flatten().collect()
+    }
+}
+
+/// Tries each wrong desk, and says of each where it is noticed.
+pub fn run(effort: &Effort, out: Out) -> Outcome {
+    let mut outcome = Outcome::default();
+    out.line(format_args!(
+        "wrong: seed {}, {} steps or {} rounds with each of {} wrong desks",
+        effort.seed,
+        effort.steps,
+        effort.rounds,
+        WRONG.len()
+    ));
+    for wrong in WRONG {
+        let noticed = effort.noticed(wrong);
+        let found = if noticed.is_empty() { "NOT NOTICED".to_string() } else { noticed.join("; ") };
+        out.line(format_args!("{:<8} {:<70} {}", wrong.name, wrong.error, found));
+        outcome.amiss += u64::from(noticed.is_empty());
+    }
+    out.line(format_args!("{} wrong desks, {} not noticed", WRONG.len(), outcome.amiss));
+    outcome
+}
