@@ -1,5 +1,5 @@
-//! Two requests and a list on case state S1: user 2 asks to be shown 4.1, which lies in a marked container and is refused, then 5, which is
-//! accepted.
+//! Two requests and a list on case state S1: user 2 asks to be shown 4.1, which lies in a marked container and is
+//! refused, then 5, which is accepted.
 //!
 //!     show [FILE]    with the tables in FILE, by default examples/state.words
 use mms::{Operation, Reference, Refusal, Request, Shown, Tables, User};

@@ -38,8 +38,8 @@ numbered! {
 numbered! {
     /// A level: a rank, 0 to 3, and a set of compartments, eight bits [rule 1.1].
     ///
-    /// `<=` is "at most" of rule 1.2, which is no order of plain numbers: two levels may be incomparable. So a level has `PartialOrd` and
-    /// no `Ord`.
+    /// `<=` is "at most" of rule 1.2, which is no order of plain numbers: two levels may be incomparable. So a level
+    /// has `PartialOrd` and no `Ord`.
     ///
     /// ```
     /// use mms::Level;
@@ -97,7 +97,8 @@ impl Level {
         (self.0 % RANK) as u8
     }
 
-    /// Whether this level is at most the other: its rank is no greater, and the other has all its compartments [rule 1.2].
+    /// Whether this level is at most the other: its rank is no greater, and the other has all its compartments [rule
+    /// 1.2].
     pub const fn is_at_most(self, other: Level) -> bool {
         self.rank() <= other.rank() && self.compartments() & !other.compartments() == 0
     }

@@ -1,8 +1,8 @@
 //! The message desk for Rust: safe calls to the proved archive.
 //!
-//! The desk keeps messages at different levels of secrecy. Its memory is [`Tables`]. A user sends a [`Request`] to [`Tables::step`], which
-//! does it, or refuses it with a [`Refusal`] and keeps a [`Notice`] for the user; [`Tables::list`] says what a user could be shown. Rules
-//! are cited by their numbers in `docs/RULES.md`.
+//! The desk keeps messages at different levels of secrecy. Its memory is [`Tables`]. A user sends a [`Request`] to
+//! [`Tables::step`], which does it, or refuses it with a [`Refusal`] and keeps a [`Notice`] for the user;
+//! [`Tables::list`] says what a user could be shown. Rules are cited by their numbers in `docs/RULES.md`.
 //!
 //! ```
 //! use mms::{Entity, Level, Refusal, Request, Roles, Tables, User};
@@ -26,11 +26,12 @@
 //! }
 //! ```
 //!
-//! What is proved is the archive behind [`words`]: its five calls answer as the rules say, for any words and bytes. The types here are
-//! ordinary Rust that hands words to those calls and takes them back. [`words`] is there for who has slices of their own.
+//! What is proved is the archive behind [`words`]: its five calls answer as the rules say, for any words and bytes. The
+//! types here are ordinary Rust that hands words to those calls and takes them back. [`words`] is there for who has
+//! slices of their own.
 //!
-//! No call keeps what it was lent, allocates inside the archive or has a state of its own, so different tables can be used in different
-//! threads.
+//! No call keeps what it was lent, allocates inside the archive or has a state of its own, so different tables can be
+//! used in different threads.
 //!
 //! The archive must be there before this crate is built: `bindings/build` builds both. It is x86-64 code for Linux.
 #![warn(missing_docs)]

@@ -92,7 +92,9 @@ macro_rules! numbered {
 
 /// A type of a few named things, each with its number.
 macro_rules! named {
-    ($(#[$about:meta])* $name:ident, $wanted:literal { $($(#[$each:meta])* $one:ident = $number:literal $word:literal,)+ }) => {
+    ($(#[$about:meta])* $name:ident, $wanted:literal {
+        $($(#[$each:meta])* $one:ident = $number:literal $word:literal,)+
+    }) => {
         $(#[$about])*
         #[derive(Clone, Copy, Debug, PartialEq, Eq, Hash, PartialOrd, Ord)]
         pub enum $name {

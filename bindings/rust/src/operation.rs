@@ -59,7 +59,16 @@ named! {
 }
 
 named! {
-    /// What an entity is [rule 2.3].
+    /// What an entity is [rule 2.3]. A record of kind 0 is absent, and has no `Kind`.
+    ///
+    /// ```
+    /// use mms::Kind;
+    ///
+    /// fn main() {
+    ///     assert_eq!(Kind::from_number(3), Some(Kind::Device));
+    ///     assert_eq!(Kind::from_number(0), None);
+    /// }
+    /// ```
     Kind, "a kind, 1 to 3" {
         /// It has a value and holds nothing.
         Object = 1 "object",

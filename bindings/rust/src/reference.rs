@@ -4,11 +4,11 @@ use crate::{Entity, Request};
 use std::cmp::Ordering;
 use std::{error::Error, fmt, str::FromStr};
 
-/// A list of up to four names. The first is the number of an entity, each one after it a place, 1 to 8, of the entity reached so far
-/// [rule 5.2]. Any words may stand as names: where they lead is for the desk to say.
+/// A list of up to four names. The first is the number of an entity, each one after it a place, 1 to 8, of the entity
+/// reached so far [rule 5.2]. Any words may stand as names: where they lead is for the desk to say.
 ///
-/// As text the names are joined by dots. References are ordered as in the disclosure list: by the first name that differs, and each before
-/// those that continue it [rule 10.5].
+/// As text the names are joined by dots. References are ordered as in the disclosure list: by the first name that
+/// differs, and each before those that continue it [rule 10.5].
 ///
 /// ```
 /// use mms::{Entity, Reference};
@@ -113,7 +113,8 @@ impl Error for NotAReference {}
 impl FromStr for Reference {
     type Err = NotAReference;
 
-    // The proved reader reads it, as the one operand of a request. A line end in the text makes more than seven lines, and is refused.
+    // The proved reader reads it, as the one operand of a request. A line end in the text makes more than seven lines,
+    // and is refused.
     fn from_str(text: &str) -> Result<Reference, NotAReference> {
         let request = format!("user=0\nop=0\nref={}\nref2=\na=0\nb=0\nc=0\n", text);
         let request = Request::from_text(request.as_bytes()).map_err(|_| NotAReference)?;

@@ -65,8 +65,8 @@ pub enum Refusal {
 }
 
 impl Refusal {
-    /// The refusal of this number. `with` is what goes with it: the need with 17, the line with 18; with the others it counts for nothing.
-    /// `None` for a number that is no refusal, and for 18 with a line that is not 1 to 8.
+    /// The refusal of this number. `with` is what goes with it: the need with 17, the line with 18; with the others it
+    /// counts for nothing. `None` for a number that is no refusal, and for 18 with a line that is not 1 to 8.
     pub const fn from_number(number: u32, with: u32) -> Option<Refusal> {
         Some(match number {
             1 => Refusal::BadLength,
@@ -155,7 +155,8 @@ impl fmt::Display for Refusal {
 
 impl Error for Refusal {}
 
-/// Where a text fails to be a request: the first line that is bad or missing, or 8 where seven good lines are followed by more [rule 11.4].
+/// Where a text fails to be a request: the first line that is bad or missing, or 8 where seven good lines are followed
+/// by more [rule 11.4].
 ///
 /// ```
 /// use mms::Request;

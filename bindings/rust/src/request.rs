@@ -6,8 +6,8 @@ use crate::{words, BadLine, Operation, Reference, Refusal, User};
 
 /// What a user asks of the desk: sixteen words [rule 5.1].
 ///
-/// The functions named after the operations make requests of the right form. Any words at all can be a request too: the desk refuses what
-/// makes no sense.
+/// The functions named after the operations make requests of the right form. Any words at all can be a request too: the
+/// desk refuses what makes no sense. So is a reference of no names refused, where the operation takes one [rule 5.4].
 ///
 /// ```
 /// use mms::{Operation, Reference, Request, Shown, User};
@@ -60,8 +60,8 @@ impl Request {
         }
     }
 
-    /// The text of the request [rule 11.3]; refused with 5 where no text has these words: a length above four, a name word behind its
-    /// reference or word 15 not 0.
+    /// The text of the request [rule 11.3]; refused with 5 where no text has these words: a length above four, a name
+    /// word behind its reference or word 15 not 0.
     ///
     /// ```
     /// use mms::{Refusal, Request, User};
@@ -106,6 +106,7 @@ impl Request {
         [self.words[at], self.words[at + 1], self.words[at + 2]]
     }
 
+    /// The reference whose length stands at this word.
     fn reference(&self, at: usize) -> Option<Reference> {
         let mut words = [0; ENTRY_WORDS];
         words.copy_from_slice(&self.words[at..at + ENTRY_WORDS]);

@@ -9,7 +9,8 @@ use std::fmt;
 
 /// The desk's whole memory: 2,304 words for 16 users and 64 entities [rule 2.1].
 ///
-/// Any words can be tables. The calls look at them first: on tables that are not well-formed and secure every call is refused.
+/// Any words can be tables. The calls look at them first: on tables that are not well-formed and secure every call is
+/// refused.
 ///
 /// ```
 /// use mms::{Entity, Level, Operation, Position, Refusal, Request, Roles, Shown, Tables, Triple, User};
@@ -69,7 +70,8 @@ impl Tables {
         Ok(tables)
     }
 
-    /// The tables of a state file: each word is four bytes, the lowest first [rule 12.1]; refused with 1 where they are not 9,216.
+    /// The tables of a state file: each word is four bytes, the lowest first [rule 12.1]; refused with 1 where they are
+    /// not 9,216.
     ///
     /// ```
     /// use mms::{Refusal, Tables};
@@ -112,14 +114,14 @@ impl Tables {
         words::check(&self.words[..]).result().map(drop)
     }
 
-    /// One request [rules 6 to 8]. Accepted, it has its effect; refused with 5 to 16, it leaves the requester a notice; refused with 2 to
-    /// 4, it leaves everything as it was.
+    /// One request [rules 6 to 8]. Accepted, it has its effect; refused with 5 to 16, it leaves the requester a notice;
+    /// refused with 2 to 4, it leaves everything as it was.
     pub fn step(&mut self, request: &Request) -> Result<(), Refusal> {
         words::step(&mut self.words[..], request.as_words()).result().map(drop)
     }
 
-    /// The disclosure list [rule 10]: every reference by which a show of value and label to this user would be accepted, or refused for a
-    /// full screen only. Refused with 2, 3, 4 or, where the user is logged off, 6.
+    /// The disclosure list [rule 10]: every reference by which a show of value and label to this user would be
+    /// accepted, or refused for a full screen only. Refused with 2, 3, 4 or, where the user is logged off, 6.
     ///
     /// ```
     /// use mms::{Entity, Level, Operation, Position, Roles, Tables, Triple, User};
@@ -144,11 +146,11 @@ impl Tables {
         };
         let mut room = vec![0; entries * ENTRY_WORDS];
         self.list_into(user, &mut room)?;
-        Ok(room.chunks_exact(ENTRY_WORDS).filter_map(|entry| Reference::from_words(entry.try_into().ok()?)).collect())
+        Ok(room.chunks_exact(ENTRY_WORDS).map(entry).collect())
     }
 
-    /// The same list as entries of five words at the front of a room; gives how many there are, or is refused with 17 and the entries that
-    /// there would have to be room for.
+    /// The same list as entries of five words at the front of a room; gives how many there are, or is refused with 17
+    /// and the entries that there would have to be room for.
     ///
     /// ```
     /// use mms::{Refusal, Tables, User};
@@ -162,21 +164,31 @@ impl Tables {
         words::list(&self.words[..], user.number(), room).result()
     }
 
+    /// The words of a user's record.
     fn user_words(&self, user: User) -> &[u32] {
         &self.words[user_at(user)..][..USER_WORDS]
     }
 
+    /// The same, to be changed.
     fn user_words_mut(&mut self, user: User) -> &mut [u32] {
         &mut self.words[user_at(user)..][..USER_WORDS]
     }
 
+    /// The words of an entity's record.
     fn entity_words(&self, entity: Entity) -> &[u32] {
         &self.words[entity_at(entity)..][..ENTITY_WORDS]
     }
 
+    /// The same, to be changed.
     fn entity_words_mut(&mut self, entity: Entity) -> &mut [u32] {
         &mut self.words[entity_at(entity)..][..ENTITY_WORDS]
     }
+}
+
+/// The reference of an entry that the list wrote.
+fn entry(words: &[u32]) -> Reference {
+    let words = words.try_into().expect("the room is cut into entries");
+    Reference::from_words(words).expect("an entry is a length up to four, its names and zeros")
 }
 
 /// Where a user's record begins; users are numbered from 1.

@@ -3,7 +3,8 @@ use crate::numbered::numbered;
 use crate::{Operation, Position, Roles, User};
 
 numbered! {
-    /// Whom a triple speaks of: 1 to 16 is that user, 17 to 24 everybody with a certain role among the current ones [rule 2.5].
+    /// Whom a triple speaks of: 1 to 16 is that user, 17 to 24 everybody with a certain role among the current ones
+    /// [rule 2.5].
     ///
     /// ```
     /// use mms::{Roles, User, Who};

@@ -9,7 +9,8 @@
 //!     let mut tables = [0; 2304];
 //!     let mut request = [0; 16];
 //!     assert_eq!(words::check(&tables), Answer { no: 0, number: 0 });
-//!     assert_eq!(words::read(b"user=2\nop=13\nref=\nref2=\na=0\nb=0\nc=0\n", &mut request), Answer { no: 0, number: 0 });
+//!     let read = words::read(b"user=2\nop=13\nref=\nref2=\na=0\nb=0\nc=0\n", &mut request);
+//!     assert_eq!(read, Answer { no: 0, number: 0 });
 //!     // there is no user 2 in empty tables
 //!     assert_eq!(words::step(&mut tables, &request), Answer { no: 4, number: 0 });
 //! }
@@ -20,7 +21,8 @@
 pub struct Answer {
     /// 0 for accepted, else the refusal's number.
     pub no: u32,
-    /// With 0 of the list or of the writer the entries or bytes written, with 17 those needed, with 18 the line; else 0.
+    /// With 0 of the list or of the writer the entries or bytes written, with 17 those needed, with 18 the line; else
+    /// 0.
     pub number: u32,
 }
 
@@ -53,7 +55,8 @@ pub fn check(tables: &[u32]) -> Answer {
     unpacked(unsafe { mms_check(tables.as_ptr(), tables.len()) })
 }
 
-/// One request [rules 6 to 8]: 0 to 16. The tables change by its effect with 0, by the requester's notice with 5 to 16, and else not at all.
+/// One request [rules 6 to 8]: 0 to 16. The tables change by its effect with 0, by the requester's notice with 5 to 16,
+/// and else not at all.
 ///
 /// ```
 /// use mms::words;
@@ -72,8 +75,9 @@ pub fn step(tables: &mut [u32], request: &[u32]) -> Answer {
     unpacked(unsafe { mms_step(tables.as_mut_ptr(), tables.len(), request.as_ptr(), request.len()) })
 }
 
-/// The disclosure list of a user [rule 10], as entries of five words at the front of the room: 0 with their count, 17 with the count that
-/// there would have to be room for, or 1 to 4 or 6. The room changes only with 0, and only in the words of the entries.
+/// The disclosure list of a user [rule 10], as entries of five words at the front of the room: 0 with their count, 17
+/// with the count that there would have to be room for, or 1 to 4 or 6. The room changes only with 0, and only in the
+/// words of the entries.
 ///
 /// ```
 /// use mms::words;
@@ -88,7 +92,8 @@ pub fn list(tables: &[u32], user: u32, room: &mut [u32]) -> Answer {
     unpacked(unsafe { mms_list(tables.as_ptr(), tables.len(), user, room.as_mut_ptr(), room.len()) })
 }
 
-/// The sixteen words of a request's text [rule 11.4]: 0, or 18 with the line where the text fails, or 1. The words change only with 0.
+/// The sixteen words of a request's text [rule 11.4]: 0, or 18 with the line where the text fails, or 1. The words
+/// change only with 0.
 ///
 /// ```
 /// use mms::words::{self, Answer};
@@ -104,8 +109,8 @@ pub fn read(text: &[u8], request: &mut [u32]) -> Answer {
     unpacked(unsafe { mms_read(text.as_ptr(), text.len(), request.as_mut_ptr(), request.len()) })
 }
 
-/// The text of a request [rule 11.3], at the front of the room: 0 with its bytes, 17 with the bytes that it needs, 5 for words that no text
-/// has, or 1. The room changes only with 0, and only in the bytes of the text.
+/// The text of a request [rule 11.3], at the front of the room: 0 with its bytes, 17 with the bytes that it needs, 5
+/// for words that no text has, or 1. The room changes only with 0, and only in the bytes of the text.
 ///
 /// ```
 /// use mms::words::{self, Answer};

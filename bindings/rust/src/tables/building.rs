@@ -1,11 +1,26 @@
-//! Tables from nothing. These writers put words where they belong and judge nothing: [`Tables::check`] says what has come of it. Once there
-//! are tables, requests change them.
+//! Tables from nothing. These writers put words where they belong and judge nothing: [`Tables::check`] says what has
+//! come of it. Once there are tables, requests change them.
 use super::Tables;
 use crate::layout::{entity, user, ROW};
 use crate::{Entity, Kind, Level, Refusal, Roles, Triple, Type, User};
 
 impl Tables {
-    /// A user with this clearance and these authorised roles, logged off, nothing held. A record that was there is replaced.
+    /// A user with this clearance and these authorised roles, logged off, nothing held. A record that was there is
+    /// replaced.
+    ///
+    /// ```
+    /// use mms::{Level, Roles, Tables, User};
+    ///
+    /// fn main() -> Result<(), Box<dyn std::error::Error>> {
+    ///     let user = User::try_from(3)?;
+    ///     let mut tables = Tables::empty();
+    ///     tables.put_user(user, Level::try_from(513)?, Roles::DOWNGRADER | Roles::RELEASER);
+    ///     assert!(tables.has_user(user));
+    ///     assert_eq!(tables.device_of(user), None);
+    ///     assert_eq!(tables.check(), Ok(()));
+    ///     Ok(())
+    /// }
+    /// ```
     pub fn put_user(&mut self, user: User, clearance: Level, authorised: Roles) {
         let words = self.user_words_mut(user);
         words.fill(0);
@@ -52,6 +67,21 @@ impl Tables {
     }
 
     /// The entity is the last in the container; refused with 14 where eight places are in use.
+    ///
+    /// ```
+    /// use mms::{Entity, Level, Refusal, Tables};
+    ///
+    /// fn main() -> Result<(), Box<dyn std::error::Error>> {
+    ///     let (low, high) = (Entity::try_from(1)?, Entity::try_from(2)?);
+    ///     let mut tables = Tables::empty();
+    ///     tables.put_container(low, Level::LOWEST);
+    ///     tables.put_object(high, Level::HIGHEST);
+    ///     tables.put_inside(high, low)?;
+    ///     // nothing was judged; the check does it
+    ///     assert_eq!(tables.check(), Err(Refusal::NotSecure));
+    ///     Ok(())
+    /// }
+    /// ```
     pub fn put_inside(&mut self, entity: Entity, container: Entity) -> Result<(), Refusal> {
         let words = self.entity_words_mut(container);
         let used = words[entity::USED] as usize;
@@ -70,6 +100,7 @@ impl Tables {
         Ok(())
     }
 
+    /// A record of this kind and level and nothing else; gives its words.
     fn put_entity(&mut self, entity: Entity, kind: Kind, level: Level) -> &mut [u32] {
         let words = self.entity_words_mut(entity);
         words.fill(0);

@@ -1,5 +1,5 @@
-//! Readers of the records' words. Each gives `None`, or nothing, where the record is absent or the word is out of its range, so that they
-//! can be used on any words.
+//! Readers of the records' words. Each gives `None`, or nothing, where the record is absent or the word is out of its
+//! range, so that they can be used on any words.
 use super::Tables;
 use crate::layout::{entity, user, ROW};
 use crate::{Entity, Kind, Level, Operation, Refusal, Roles, Shown, Triple, Type, User};
@@ -120,6 +120,20 @@ impl Tables {
     }
 
     /// What the entity holds or, being a device, shows, in the order of its places.
+    ///
+    /// ```
+    /// use mms::{Entity, Level, Tables};
+    ///
+    /// fn main() -> Result<(), Box<dyn std::error::Error>> {
+    ///     let (folder, object) = (Entity::try_from(4)?, Entity::try_from(5)?);
+    ///     let mut tables = Tables::empty();
+    ///     tables.put_container(folder, Level::LOWEST);
+    ///     tables.put_object(object, Level::LOWEST);
+    ///     tables.put_inside(object, folder)?;
+    ///     assert_eq!(tables.contents_of(folder), [object]);
+    ///     Ok(())
+    /// }
+    /// ```
     pub fn contents_of(&self, entity: Entity) -> Vec<Entity> {
         self.places(entity).filter_map(|(inside, _)| Entity::from_number(inside)).collect()
     }
@@ -143,6 +157,7 @@ impl Tables {
         (0..used).map(move |place| (words[entity::CONTENTS + place], words[entity::SHOWN + place]))
     }
 
+    /// A word of a user who is present.
     fn user_word(&self, user: User, word: usize) -> Option<u32> {
         if self.has_user(user) {
             Some(self.user_words(user)[word])
@@ -151,6 +166,7 @@ impl Tables {
         }
     }
 
+    /// A word of an entity that is present.
     fn entity_word(&self, entity: Entity, word: usize) -> Option<u32> {
         self.kind_of(entity).map(|_| self.entity_words(entity)[word])
     }
