@@ -89,3 +89,31 @@ impl<T: Filler> Guarded<T> {
 fn filled<T: Filler>(block: &[T], from: usize, to: usize) -> bool {
     (from..to).all(|place| block[place] == T::filler(place))
 }
+
+#[cfg(test)]
+mod tests {
+    use super::*;
+
+    /// Every single word that is changed around a slice, or behind what was written to a room, is seen.
+    #[test]
+    fn a_stray_write_is_seen() {
+        for place in 0..3 + 2 * GUARD {
+            let mut slice = Guarded::<u32>::holding(&[7, 8, 9]);
+            let mut room = Guarded::<u8>::room(3);
+            slice.block[place] ^= 1;
+            room.block[place] ^= 1;
+            let inside = (GUARD..GUARD + 3).contains(&place);
+            assert_eq!(slice.guards_stand(), inside);
+            assert!(!slice.holds(&[7, 8, 9]));
+            assert!(!room.untouched_from(0));
+            assert_eq!(room.untouched_from(1), place == GUARD);
+        }
+    }
+
+    /// What nobody writes to stays.
+    #[test]
+    fn a_fresh_slice_is_untouched() {
+        assert!(Guarded::<u32>::holding(&[7, 8, 9]).holds(&[7, 8, 9]));
+        assert!(Guarded::<u8>::room(200).untouched_from(0));
+    }
+}

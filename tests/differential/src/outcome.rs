@@ -1,5 +1,7 @@
 //! What a run says while it goes on, and what came of it.
 use std::fmt::Arguments;
+use std::io::Write;
+use std::process::exit;
 
 /// Where a run writes its lines: standard output, or nowhere while wrong desks are tried, of which one line each is enough.
 #[derive(Clone, Copy)]
@@ -11,10 +13,10 @@ impl Out {
     pub const LOUD: Out = Out { quiet: false };
     pub const QUIET: Out = Out { quiet: true };
 
-    /// Writes one line, as in `out.line(format_args!("{} steps", steps))`.
+    /// Writes one line, as in `out.line(format_args!("{} steps", steps))`. A run whose lines can't be written ends, and is not passed.
     pub fn line(&self, text: Arguments) {
-        if !self.quiet {
-            println!("{}", text);
+        if !self.quiet && writeln!(std::io::stdout(), "{}", text).is_err() {
+            exit(1);
         }
     }
 }

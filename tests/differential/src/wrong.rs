@@ -45,7 +45,7 @@ pub fn run(effort: &Effort, out: Out) -> Outcome {
     for wrong in WRONG {
         let noticed = effort.noticed(wrong);
         let found = if noticed.is_empty() { "NOT NOTICED".to_string() } else { noticed.join("; ") };
-        out.line(format_args!("{:<8} {:<70} {}", wrong.name, wrong.error, found));
+        out.line(format_args!("{:<8} {:<77} {}", wrong.name, wrong.error, found));
         outcome.amiss += u64::from(noticed.is_empty());
     }
     out.line(format_args!("{} wrong desks, {} not noticed", WRONG.len(), outcome.amiss));

@@ -3,7 +3,7 @@ use crate::layout::{
     entity, entity_base, kind, shown, triple, user, user_base, ENTITIES, ENTITY_WORDS, FIRST_ENTITY_WORD, LAST_WHO,
     MAX_LEVEL, MAX_ROLES, OPERATIONS, PLACES, TRIPLES, USERS, USER_WORDS,
 };
-use crate::view::{container_of, entity_record, present_entity, present_user, user_record};
+use crate::view::{entity_record, present_entity, present_user, user_record, Holders};
 use crate::{levels, Dice};
 
 /// Changes a few words of good tables; they may stay good.
@@ -37,9 +37,10 @@ fn put_last(dice: &mut Dice, tables: &mut [u32], holder: u32, content: u32) {
 
 /// Puts a container that is in no other one into something inside itself, so that the circle is the only thing that is not well-formed.
 fn close_circle(dice: &mut Dice, tables: &mut [u32]) {
+    let holders = Holders::of(tables);
     let inner = present_entity(dice, tables);
     let mut outer = inner;
-    while let Some(holder) = container_of(tables, outer) {
+    while let Some(holder) = holders.container_of(outer) {
         outer = holder;
     }
     if entity_record(tables, inner)[entity::KIND] == kind::CONTAINER {

@@ -1,6 +1,6 @@
 //! Reading tables that are good, as the generator needs it.
 use crate::layout::{
-    entity, entity_base, kind, user, user_base, ENTITIES, ENTITY_WORDS, FIRST_ROLE, TRIPLES, USERS, USER_WORDS,
+    entity, entity_base, kind, user, user_base, ENTITIES, ENTITY_WORDS, FIRST_ROLE, PLACES, TRIPLES, USERS, USER_WORDS,
 };
 use crate::Dice;
 
@@ -31,21 +31,37 @@ pub fn place_in(record: &[u32], number: u32) -> Option<u32> {
     contents(record).iter().position(|&held| held == number).map(|place| place as u32 + 1)
 }
 
-/// The container that an entity is in.
-pub fn container_of(tables: &[u32], number: u32) -> Option<u32> {
-    (1..=ENTITIES).find(|&holder| {
-        let record = entity_record(tables, holder);
-        record[entity::KIND] == kind::CONTAINER && place_in(record, number).is_some()
-    })
+/// Which container each entity of good tables is in.
+pub struct Holders([u32; ENTITIES as usize + 1]);
+
+impl Holders {
+    pub fn of(tables: &[u32]) -> Holders {
+        let mut holders = Holders([0; ENTITIES as usize + 1]);
+        let is_container = |&number: &u32| entity_record(tables, number)[entity::KIND] == kind::CONTAINER;
+        for holder in (1..=ENTITIES).filter(is_container) {
+            contents(entity_record(tables, holder)).iter().for_each(|&held| holders.0[held as usize] = holder);
+        }
+        holders
+    }
+
+    /// The container that an entity is in.
+    pub fn container_of(&self, number: u32) -> Option<u32> {
+        Some(self.0[number as usize]).filter(|&holder| holder != 0)
+    }
+
+    /// Is an entity another one, or inside it at any depth?
+    pub fn is_or_inside(&self, inner: u32, outer: u32) -> bool {
+        let mut at = inner;
+        while at != outer && at != 0 {
+            at = self.0[at as usize];
+        }
+        at == outer
+    }
 }
 
-/// Is an entity another one, or inside it at any depth?
-pub fn is_or_inside(tables: &[u32], inner: u32, outer: u32) -> bool {
-    let mut at = Some(inner);
-    while at.is_some() && at != Some(outer) {
-        at = container_of(tables, at.unwrap_or(inner));
-    }
-    at.is_some()
+/// Is it a container with no place left?
+pub fn is_full_container(record: &[u32]) -> bool {
+    record[entity::KIND] == kind::CONTAINER && record[entity::USED] == PLACES
 }
 
 /// The users that something is true of, by their records.

@@ -2,6 +2,7 @@
 mod by_step;
 mod call;
 mod cells;
+mod corners;
 mod difference;
 mod list_call;
 mod list_tally;
@@ -91,6 +92,7 @@ fn summarise(run: &Run, tables: u64, out: Out) -> u64 {
         "state checks, answered 0: {}, 1: {}, 2: {}, 3: {}",
         good, other_length, not_well_formed, not_secure
     ));
+    run.corners.print(out);
     run.lists.tally.print(out);
     let unchecked = (0..run.checks.len()).filter(|&given| run.checks[given] == 0);
     let mut amiss = 0;
@@ -98,5 +100,5 @@ fn summarise(run: &Run, tables: u64, out: Out) -> u64 {
         out.line(format_args!("not reached: state check, answer {}", given));
         amiss += 1;
     }
-    amiss + run.cells.name_amiss(out) + run.lists.tally.name_unreached(out)
+    amiss + run.cells.name_amiss(out) + run.corners.name_unreached(out) + run.lists.tally.name_unreached(out)
 }

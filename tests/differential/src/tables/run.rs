@@ -1,6 +1,7 @@
 //! One table after another, each with a history of requests.
 use super::call::Calls;
 use super::cells::Cells;
+use super::corners::{Corners, Done};
 use super::difference::Difference;
 use super::list_call::ListCalls;
 use super::lists::Lists;
@@ -28,6 +29,7 @@ pub struct Run<'a> {
     calls: Calls<'a>,
     pub lists: Lists<'a>,
     pub cells: Cells,
+    pub corners: Corners,
     /// The state check, by answer.
     pub checks: [u64; answer::NOT_SECURE as usize + 1],
     dice: Dice,
@@ -46,6 +48,7 @@ impl<'a> Run<'a> {
             calls: Calls::new(what.stepping),
             lists: Lists::new(ListCalls::new(what.listing)),
             cells: Cells::new(),
+            corners: Corners::new(),
             checks: [0; 4],
             dice: Dice::new(what.seed),
             list_dice: Dice::new(what.seed),
@@ -102,6 +105,9 @@ impl<'a> Run<'a> {
         }
         self.cells.count(request, given);
         self.steps += 1;
+        if given != answer::UNKNOWN_USER {
+            self.corners.count(&Done { before: &self.tables, after: self.calls.left(), request, given });
+        }
         self.tables.copy_from_slice(self.calls.left());
         Ok(())
     }

@@ -3,7 +3,7 @@ use super::Plan;
 use crate::layout::{
     entity, entity_base, kind, operation, triple, user, ENTITIES, FIRST_ROLE, LAST_WHO, OPERATIONS, TRIPLES,
 };
-use crate::view::{any_of, entity_record, is_off, is_on, user_record, users_where};
+use crate::view::{any_of, entity_record, is_full_container, is_off, is_on, user_record, users_where, Holders};
 
 /// Operations and positions that an entity can stand in; those that are hard to come by stand twice.
 const OF_OBJECTS: &[(u32, u32)] = &[
@@ -58,20 +58,23 @@ impl Plan<'_> {
 
     /// Gives every present entity its triples.
     pub(super) fn make_triples(&mut self) {
+        let holders = Holders::of(&self.tables);
         for number in 1..=ENTITIES {
+            let holder = holders.container_of(number);
+            let in_full = holder.map_or(false, |holder| is_full_container(entity_record(&self.tables, holder)));
             if entity_record(&self.tables, number)[entity::KIND] != 0 {
-                self.make_triples_of(number);
+                self.make_triples_of(number, in_full);
             }
         }
     }
 
     /// Gives an entity triples, as many as the plan says or more, no two alike.
-    fn make_triples_of(&mut self, number: u32) {
+    fn make_triples_of(&mut self, number: u32, in_full: bool) {
         let wanted = self.dice.between(self.least_triples, TRIPLES) as usize;
-        let kind = entity_record(&self.tables, number)[entity::KIND];
         let mut chosen: Vec<u32> = Vec::new();
         while chosen.len() < wanted {
-            let triple = self.choose_triple(kind);
+            let (operation, position) = self.choose_right(number, in_full);
+            let triple = triple(self.choose_who(operation), operation, position);
             if !chosen.contains(&triple) {
                 chosen.push(triple);
             }
@@ -80,19 +83,22 @@ impl Plan<'_> {
         self.tables[first..first + wanted].copy_from_slice(&chosen);
     }
 
-    /// A triple, mostly of an operation that suits the kind.
-    fn choose_triple(&mut self, of: u32) -> u32 {
-        let useful = match of {
-            kind::OBJECT => OF_OBJECTS,
-            kind::CONTAINER => OF_CONTAINERS,
-            _ => OF_DEVICES,
+    /// An operation and a position, mostly such as suit the entity. Moves within full containers are to be possible, and what is for
+    /// devices is to be asked of other things too, and the other way round, to be refused.
+    fn choose_right(&mut self, number: u32, in_full: bool) -> (u32, u32) {
+        let record = entity_record(&self.tables, number);
+        let (useful, of_others) = match record[entity::KIND] {
+            kind::OBJECT => (OF_OBJECTS, OF_DEVICES),
+            kind::CONTAINER => (OF_CONTAINERS, OF_DEVICES),
+            _ => (OF_DEVICES, OF_CONTAINERS),
         };
-        let (operation, position) = if self.dice.chance(75) {
-            self.dice.one_of(useful)
-        } else {
-            (self.dice.between(1, OPERATIONS), self.dice.between(1, 2))
-        };
-        triple(self.choose_who(operation), operation, position)
+        match self.dice.below(100) {
+            0..=14 if is_full_container(record) => (operation::MOVE, 2),
+            0..=14 if in_full => (operation::MOVE, 1),
+            0..=74 => self.dice.one_of(useful),
+            75..=84 => self.dice.one_of(of_others),
+            _ => (self.dice.between(1, OPERATIONS), self.dice.between(1, 2)),
+        }
     }
 
     /// Whom a triple is for. Whoever may log on must be off to make use of it, and has no roles then.

@@ -1,10 +1,12 @@
 //! Requests with good tables in view, so that about half are accepted and every refusal is met.
 mod arguments;
 mod operands;
+mod reference;
+mod second;
 mod spoil;
 
 use crate::layout::{asked, operation, user, OPERATIONS, REQUEST_WORDS};
-use crate::view::{allows, present_user, user_record};
+use crate::view::{allows, present_user, user_record, Holders};
 use crate::Dice;
 use operands::Aim;
 
@@ -14,10 +16,14 @@ const NO_OPERATIONS: [u32; 6] = [0, 21, 22, 256, 65_536, u32::MAX];
 /// How often a request is drawn again that had no chance from the start.
 const MORE_TRIES: u32 = 5;
 
+/// In a hundred moves, so many are looked for that stay within one full container: by chance there would hardly be any [rule 6.3].
+const WITHIN_FULL: u32 = 30;
+
 /// A request under construction, with all that it is made from.
 struct Drawing<'a> {
     dice: &'a mut Dice,
     tables: &'a [u32],
+    holders: Holders,
     operation: u32,
     words: [u32; REQUEST_WORDS],
 }
@@ -41,9 +47,9 @@ fn in_place_to_ask(record: &[u32], of: u32) -> bool {
 impl Drawing<'_> {
     /// Draws the whole request; true where it stood a chance before it may have been spoilt.
     fn draw(&mut self) -> bool {
-        let aim = Aim::choose(self.dice);
+        let aim = Aim::choose(self.dice, self.operation);
         let operands = operands_of(self.operation);
-        let (requester, first) = if operands > 0 { self.choose_first(aim) } else { (self.choose_requester(), 1) };
+        let (requester, first, second) = self.choose(operands, aim);
         let mut hopeful = in_place_to_ask(user_record(self.tables, requester), self.operation);
         self.words[asked::USER] = requester;
         self.words[asked::OPERATION] = self.operation;
@@ -53,7 +59,6 @@ impl Drawing<'_> {
             hopeful = hopeful && allows(self.tables, first, requester, self.operation, 1);
         }
         if operands > 1 {
-            let second = self.choose_second(requester, first);
             let from_above = self.dice.chance(40);
             self.refer_to(second, from_above, asked::SECOND);
             hopeful = hopeful && allows(self.tables, second, requester, self.operation, 2);
@@ -61,6 +66,21 @@ impl Drawing<'_> {
         self.fill_arguments(first);
         self.spoil(operands);
         hopeful
+    }
+
+    /// Who asks, and the operands; 1 stands for an operand that the operation does not take.
+    fn choose(&mut self, operands: u32, aim: Aim) -> (u32, u32, u32) {
+        if self.operation == operation::MOVE && self.dice.chance(WITHIN_FULL) {
+            if let Some(all) = self.choose_within_full() {
+                return all;
+            }
+        }
+        if operands == 0 {
+            return (self.choose_requester(), 1, 1);
+        }
+        let (requester, first) = self.choose_first(aim);
+        let second = if operands > 1 { self.choose_second(requester, first) } else { 1 };
+        (requester, first, second)
     }
 
     /// A requester for an operation without operands.
@@ -77,7 +97,7 @@ impl Drawing<'_> {
 
 /// Draws a request of an operation, and says whether it stood a chance.
 fn draw(dice: &mut Dice, tables: &[u32], operation: u32) -> ([u32; REQUEST_WORDS], bool) {
-    let mut drawing = Drawing { dice, tables, operation, words: [0; REQUEST_WORDS] };
+    let mut drawing = Drawing { dice, tables, holders: Holders::of(tables), operation, words: [0; REQUEST_WORDS] };
     let hopeful = drawing.draw();
     (drawing.words, hopeful)
 }

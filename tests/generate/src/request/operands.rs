@@ -1,9 +1,9 @@
-//! Who asks, and about what. Refusals deep in the ladder are reached by looking for them, since chance seldom gets there.
+//! Who asks, and about what first. Refusals deep in the ladder are reached by looking for them, since chance seldom gets there.
 use super::{in_place_to_ask, Drawing};
-use crate::layout::{at_most, entity, kind, operation, type_of, user, ENTITIES, FIRST_ROLE, NAMES, PLACES, USERS};
+use crate::layout::{at_most, entity, kind, operation, type_of, user, ENTITIES, FIRST_ROLE, USERS};
 use crate::view::{
-    allows, any_of, container_of, entity_record, is_off, is_on, is_or_inside, place_in, present_entity, present_user,
-    stands_for, triples, user_record, users_where,
+    any_of, entity_record, is_off, is_on, present_entity, present_user, stands_for, triples, user_record, users_where,
+    Holders,
 };
 use crate::Dice;
 
@@ -20,35 +20,17 @@ pub(super) enum Aim {
 }
 
 impl Aim {
-    pub(super) fn choose(dice: &mut Dice) -> Aim {
+    /// What has a triple for an operation on devices and lies behind a mark is rare, and is looked for more often.
+    pub(super) fn choose(dice: &mut Dice, of: u32) -> Aim {
+        let (accepted, other_kind, hidden) = match of {
+            operation::LOGIN | operation::SET_MAXIMUM | operation::SET_DEVICE_LEVEL => (65, 70, 95),
+            _ => (80, 85, 92),
+        };
         match dice.below(100) {
-            0..=79 => Aim::Acceptance,
-            80..=84 => Aim::OtherKind,
-            85..=91 => Aim::Hidden,
+            roll if roll < accepted => Aim::Acceptance,
+            roll if roll < other_kind => Aim::OtherKind,
+            roll if roll < hidden => Aim::Hidden,
             _ => Aim::Any,
-        }
-    }
-}
-
-/// What to look for in a second operand.
-#[derive(Clone, Copy)]
-enum Goal {
-    SameHolder,
-    Inside,
-    Roomy,
-    Crowded,
-    Any,
-}
-
-impl Goal {
-    fn choose(dice: &mut Dice, of: u32) -> Goal {
-        match dice.below(100) {
-            0..=14 => Goal::Any,
-            _ if of == operation::COPY => Goal::Roomy,
-            15..=59 => Goal::Roomy,
-            60..=69 => Goal::Crowded,
-            70..=86 => Goal::SameHolder,
-            _ => Goal::Inside,
         }
     }
 }
@@ -92,8 +74,8 @@ fn kind_suits(record: &[u32], of: u32) -> bool {
 }
 
 /// Is an entity in a container that is marked and too high for a clearance?
-fn behind_mark(tables: &[u32], number: u32, clearance: u32) -> bool {
-    container_of(tables, number).map_or(false, |holder| {
+fn behind_mark(tables: &[u32], holders: &Holders, number: u32, clearance: u32) -> bool {
+    holders.container_of(number).map_or(false, |holder| {
         let record = entity_record(tables, holder);
         record[entity::MARK] != 0 && !at_most(record[entity::LEVEL], clearance)
     })
@@ -141,67 +123,8 @@ impl Drawing<'_> {
             return false;
         }
         match aim {
-            Aim::Hidden => behind_mark(self.tables, number, record[user::CLEARANCE]),
+            Aim::Hidden => behind_mark(self.tables, &self.holders, number, record[user::CLEARANCE]),
             _ => kind_suits(entity_record(self.tables, number), self.operation) == (aim == Aim::Acceptance),
-        }
-    }
-
-    /// A second operand that the requester may use; where none meets the goal, any such.
-    pub(super) fn choose_second(&mut self, requester: u32, first: u32) -> u32 {
-        let goal = Goal::choose(self.dice, self.operation);
-        let fitting: Vec<u32> =
-            (1..=ENTITIES).filter(|&number| allows(self.tables, number, requester, self.operation, 2)).collect();
-        let meeting: Vec<u32> = fitting.iter().copied().filter(|&number| self.reaches(goal, first, number)).collect();
-        if fitting.is_empty() || self.dice.chance(5) {
-            return present_entity(self.dice, self.tables);
-        }
-        self.dice.one_of(if meeting.is_empty() { &fitting } else { &meeting })
-    }
-
-    fn reaches(&self, goal: Goal, first: u32, second: u32) -> bool {
-        let record = entity_record(self.tables, second);
-        let is_container = record[entity::KIND] == kind::CONTAINER;
-        match goal {
-            Goal::SameHolder => is_container && place_in(record, first).is_some(),
-            Goal::Inside => is_container && is_or_inside(self.tables, second, first),
-            Goal::Roomy => {
-                record[entity::KIND] != kind::DEVICE
-                    && record[entity::USED] < PLACES
-                    && at_most(entity_record(self.tables, first)[entity::LEVEL], record[entity::LEVEL])
-                    && !is_or_inside(self.tables, second, first)
-            }
-            Goal::Crowded => is_container && record[entity::USED] == PLACES,
-            Goal::Any => true,
-        }
-    }
-
-    /// Writes a reference that leads to the entity, through what holds or shows it where that is asked.
-    pub(super) fn refer_to(&mut self, number: u32, from_above: bool, at: usize) {
-        let climbs = if from_above { self.dice.between(1, NAMES - 1) } else { 0 };
-        let mut first = number;
-        let mut places = Vec::new();
-        for _ in 0..climbs {
-            if let Some((above, place)) = self.choose_above(first) {
-                first = above;
-                places.push(place);
-            }
-        }
-        places.push(first);
-        self.words[at] = places.len() as u32;
-        for (word, &name) in self.words[at + 1..].iter_mut().zip(places.iter().rev()) {
-            *word = name;
-        }
-    }
-
-    /// Something that holds the entity or shows it, and at which place.
-    fn choose_above(&mut self, number: u32) -> Option<(u32, u32)> {
-        let above: Vec<(u32, u32)> = (1..=ENTITIES)
-            .filter_map(|holder| place_in(entity_record(self.tables, holder), number).map(|place| (holder, place)))
-            .collect();
-        if above.is_empty() {
-            None
-        } else {
-            Some(self.dice.one_of(&above))
         }
     }
 }

@@ -1,0 +1,201 @@
+//! Corners of the rules that a run must have been to: a cell of operation and answer says nothing of them.
+use crate::outcome::Out;
+use generate::layout::{
+    answer, asked, at_most, entity, kind, operation, role, triple, user, ENTITIES, MAX_COUNT, NAMES, OPERATIONS,
+    PLACES, TRIPLES,
+};
+use generate::view::{contents, entity_record, is_full_container, place_in, triples, user_record, Holders};
+
+/// A step that both desks did alike, by a requester who is present.
+pub struct Done<'a> {
+    pub before: &'a [u32],
+    pub after: &'a [u32],
+    pub request: &'a [u32],
+    pub given: u32,
+}
+
+impl Done<'_> {
+    fn is(&self, operation: u32, given: u32) -> bool {
+        self.request[asked::OPERATION] == operation && self.given == given
+    }
+
+    fn accepted(&self, operation: u32) -> bool {
+        self.is(operation, answer::ACCEPTED)
+    }
+
+    fn is_refused(&self) -> bool {
+        self.given >= answer::BAD_REQUEST
+    }
+
+    /// The requester's record before.
+    fn requester(&self) -> &[u32] {
+        user_record(self.before, self.request[asked::USER])
+    }
+
+    fn has_role(&self, role: u32) -> bool {
+        self.requester()[user::CURRENT] & role != 0
+    }
+
+    /// The entity that an accepted request names.
+    fn operand(&self, at: usize) -> u32 {
+        let names = &self.request[at + 1..at + 1 + self.request[at] as usize];
+        let further = &names[1..];
+        further.iter().fold(names[0], |number, &place| contents(entity_record(self.before, number))[place as usize - 1])
+    }
+
+    fn first(&self) -> &[u32] {
+        entity_record(self.before, self.operand(asked::FIRST))
+    }
+
+    fn second(&self) -> &[u32] {
+        entity_record(self.before, self.operand(asked::SECOND))
+    }
+
+    /// The place of the first operand in its container, and the container's record.
+    fn place(&self) -> Option<(u32, &[u32])> {
+        let number = self.operand(asked::FIRST);
+        let record = entity_record(self.before, Holders::of(self.before).container_of(number)?);
+        Some((place_in(record, number)?, record))
+    }
+
+    /// What the requester's device shows before.
+    fn screen(&self) -> &[u32] {
+        match self.requester()[user::DEVICE] {
+            0 => &[],
+            device => contents(entity_record(self.before, device)),
+        }
+    }
+
+    fn asked_triple(&self) -> u32 {
+        triple(self.request[asked::A], self.request[asked::B], self.request[asked::C])
+    }
+
+    fn holds_asked_triple(&self) -> bool {
+        triples(self.first()).contains(&self.asked_triple())
+    }
+
+    fn is_lower_than_first(&self) -> bool {
+        let (new, old) = (self.request[asked::A], self.first()[entity::LEVEL]);
+        new != old && at_most(new, old)
+    }
+
+    fn is_beside_first(&self) -> bool {
+        let (new, old) = (self.request[asked::A], self.first()[entity::LEVEL]);
+        !at_most(new, old) && !at_most(old, new)
+    }
+}
+
+/// A corner: its name, and how to know it.
+type Corner = (&'static str, fn(&Done) -> bool);
+
+const CORNERS: [Corner; 26] = [
+    ("a refusal where another is held [8.2]", |d| {
+        d.is_refused() && d.requester()[user::HELD] != 0 && d.requester()[user::HELD] != d.given
+    }),
+    ("a refusal where nothing is held [8.2]", |d| d.is_refused() && d.requester()[user::HELD] == 0),
+    ("a refusal that the count has no number for [8.2]", |d| d.is_refused() && d.requester()[user::COUNT] == MAX_COUNT),
+    ("a first refusal of what is no operation [8.2]", |d| {
+        d.requester()[user::HELD] == 0 && d.is_refused() && !(1..=OPERATIONS).contains(&d.request[asked::OPERATION])
+    }),
+    ("four names, accepted [5.2]", |d| d.given == answer::ACCEPTED && d.request[asked::FIRST] == NAMES),
+    ("a reference through a device, accepted [5.3]", |d| {
+        let first = d.request[asked::FIRST + 1];
+        d.given == answer::ACCEPTED
+            && d.request[asked::FIRST] > 1
+            && entity_record(d.before, first)[entity::KIND] == kind::DEVICE
+    }),
+    ("an operand that is marked itself, accepted [7.9]", |d| {
+        d.accepted(operation::EDIT)
+            && d.first()[entity::MARK] != 0
+            && !at_most(d.first()[entity::LEVEL], d.requester()[user::CLEARANCE])
+    }),
+    ("a create that fills the container [6.1]", |d| {
+        d.accepted(operation::CREATE) && d.first()[entity::USED] == PLACES - 1
+    }),
+    ("a create that takes the last number [6.1]", |d| {
+        d.accepted(operation::CREATE) && (1..=ENTITIES).all(|number| entity_record(d.after, number)[entity::KIND] != 0)
+    }),
+    ("a delete with others behind in the container [6.2]", |d| {
+        d.accepted(operation::DELETE) && d.place().map_or(false, |(place, record)| place < record[entity::USED])
+    }),
+    ("a delete of what is in no container [6.2]", |d| d.accepted(operation::DELETE) && d.place().is_none()),
+    ("a move within one full container [6.3]", |d| {
+        d.accepted(operation::MOVE) && is_full_container(d.second()) && d.place().is_some()
+    }),
+    ("a move of what is in no container [6.3]", |d| d.accepted(operation::MOVE) && d.place().is_none()),
+    ("a move from between others into another container [6.3]", |d| {
+        d.accepted(operation::MOVE)
+            && d.place().map_or(false, |(place, record)| place < record[entity::USED] && record != d.second())
+    }),
+    ("a copy of something to itself [6.5]", |d| {
+        d.accepted(operation::COPY) && d.operand(asked::FIRST) == d.operand(asked::SECOND)
+    }),
+    ("a strictly lower level, by a downgrader [6.6]", |d| d.accepted(operation::SET_LEVEL) && d.is_lower_than_first()),
+    ("a level beside the old one, without a downgrader [6.6]", |d| {
+        d.accepted(operation::SET_LEVEL) && d.is_beside_first() && !d.has_role(role::DOWNGRADER)
+    }),
+    ("a grant of what is there among eight [6.8]", |d| {
+        d.accepted(operation::GRANT) && d.holds_asked_triple() && triples(d.first()).len() == TRIPLES as usize
+    }),
+    ("a revocation of what is not there [6.9]", |d| d.accepted(operation::REVOKE) && !d.holds_asked_triple()),
+    ("a revocation with others behind [6.9]", |d| {
+        d.accepted(operation::REVOKE) && d.holds_asked_triple() && triples(d.first()).last() != Some(&d.asked_triple())
+    }),
+    ("a show of what a full screen shows already [6.10]", |d| {
+        d.accepted(operation::SHOW) && d.screen().len() == PLACES as usize
+    }),
+    ("a logout from a screen that shows something [6.13]", |d| d.accepted(operation::LOGOUT) && !d.screen().is_empty()),
+    ("current roles of somebody else, by an officer [6.14]", |d| {
+        d.accepted(operation::SET_CURRENT) && d.request[asked::A] != d.request[asked::USER]
+    }),
+    ("a lower level of the own device, without a downgrader [6.18]", |d| {
+        d.accepted(operation::SET_DEVICE_LEVEL)
+            && d.is_lower_than_first()
+            && d.operand(asked::FIRST) == d.requester()[user::DEVICE]
+            && !d.has_role(role::DOWNGRADER)
+    }),
+    ("an acknowledgement by somebody who is off [6.20]", |d| {
+        d.accepted(operation::ACKNOWLEDGE) && d.requester()[user::DEVICE] == 0
+    }),
+    ("an acknowledgement of nothing where nothing is held [6.20]", |d| {
+        d.is(operation::ACKNOWLEDGE, answer::NOT_ACKNOWLEDGED)
+            && d.requester()[user::HELD] == 0
+            && d.request[asked::A] == 0
+            && d.request[asked::B] == 0
+    }),
+];
+
+/// How often a run has been to each corner.
+pub struct Corners {
+    counts: [u64; CORNERS.len()],
+}
+
+impl Corners {
+    pub fn new() -> Corners {
+        Corners { counts: [0; CORNERS.len()] }
+    }
+
+    /// Counts a step for each corner that it has been to.
+    pub fn count(&mut self, done: &Done) {
+        for (count, (_, is_there)) in self.counts.iter_mut().zip(&CORNERS) {
+            *count += u64::from(is_there(done));
+        }
+    }
+
+    /// Writes the counts.
+    pub fn print(&self, out: Out) {
+        for (count, (name, _)) in self.counts.iter().zip(&CORNERS) {
+            out.line(format_args!("{:>7} {}", count, name));
+        }
+    }
+
+    /// Names the corners that were not reached; gives their number.
+    pub fn name_unreached(&self, out: Out) -> u64 {
+        let unreached: Vec<&str> =
+            CORNERS.iter().zip(self.counts).filter(|(_, count)| *count == 0).map(|((name, _), _)| *name).collect();
+        for name in &unreached {
+            out.line(format_args!("not reached: {}", name));
+        }
+        unreached.len() as u64
+    }
+}
