@@ -24,10 +24,12 @@ impl Level {
         self != other && self.at_most::<R>(other)
     }
 
+    #[inline]
     fn rank(self) -> u32 {
         self.0 >> COMPARTMENTS
     }
 
+    #[inline]
     fn compartments(self) -> u32 {
         self.0 & ((1 << COMPARTMENTS) - 1)
     }

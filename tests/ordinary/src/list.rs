@@ -45,16 +45,14 @@ impl<'a> Disclosure<'a> {
     /// Counts, by entity, the entries with at most that many names, from those with one name fewer.
     fn count(&mut self, left: usize) {
         for entity in Entity::all() {
-            let below: u32 = self.places(entity).map(|held| self.entries[left - 1][held.index()]).sum();
-            self.entries[left][entity.index()] = u32::from(self.showable.holds(entity)) + below;
+            let mut entries = u32::from(self.showable.holds(entity));
+            if self.open.holds(entity) {
+                let below = &self.entries[left - 1];
+                let held = contents(entity_words(self.tables, entity));
+                entries += held.map(|held| below[held.index()]).sum::<u32>();
+            }
+            self.entries[left][entity.index()] = entries;
         }
-    }
-
-    /// What a reference may reach in the places of an entity.
-    fn places(&self, entity: Entity) -> impl Iterator<Item = Entity> + '_ {
-        let words =
-            Some(entity).filter(|entity| self.open.holds(*entity)).map(|entity| entity_words(self.tables, entity));
-        words.into_iter().flat_map(contents)
     }
 
     /// Writes the entries into the room, if they all fit there.
@@ -77,6 +75,8 @@ impl<'a> Disclosure<'a> {
     }
 
     /// Writes the entry of the reference that has come to an entity, and then those that go on from there.
+    ///
+    /// The names behind the length are 0 when it starts, and again when it ends.
     fn visit<R: Rules>(&self, entity: Entity, length: usize, names: &mut [u32; NAMES], room: &mut Entries) {
         let left = NAMES + 1 - length;
         if self.entries[left][entity.index()] == 0 {
@@ -84,25 +84,20 @@ impl<'a> Disclosure<'a> {
         }
         if self.showable.holds(entity) {
             if let Some(entry) = room.next() {
-                write_entry::<R>(entry, &names[..], length);
+                entry[0] = length as u32;
+                entry[1..].copy_from_slice(names);
             }
         }
-        if length == NAMES {
+        if length == NAMES || !self.open.holds(entity) {
             return;
         }
-        for (held, place) in self.places(entity).zip(1..) {
+        for (held, place) in contents(entity_words(self.tables, entity)).zip(1..) {
             names[length] = place;
             self.visit::<R>(held, length + 1, names, room);
         }
-    }
-}
-
-/// Writes an entry: the length, the names, and zeros behind them.
-fn write_entry<R: Rules>(entry: &mut [u32], names: &[u32], length: usize) {
-    entry[0] = length as u32;
-    entry[1..].copy_from_slice(names);
-    if !R::ZEROS {
-        entry[1 + length..].fill(0);
+        if !R::ZEROS {
+            names[length] = 0;
+        }
     }
 }
 

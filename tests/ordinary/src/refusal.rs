@@ -33,6 +33,7 @@ pub enum Refusal {
 
 impl Refusal {
     /// Refuses unless the condition holds.
+    #[inline]
     pub fn unless(self, holds: bool) -> Result<(), Refusal> {
         if holds {
             Ok(())
@@ -42,6 +43,7 @@ impl Refusal {
     }
 
     /// The refusal with a number of its own: the need of 17 or the line of 18.
+    #[inline]
     pub fn with(self, number: u32) -> Reply {
         Reply { answer: self as u32, number }
     }
@@ -49,6 +51,7 @@ impl Refusal {
 
 impl Reply {
     /// 0 with its number, or a refusal with the number 0.
+    #[inline]
     pub fn to(outcome: Result<u32, Refusal>) -> Reply {
         match outcome {
             Ok(number) => Reply { answer: 0, number },

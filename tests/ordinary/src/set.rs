@@ -7,26 +7,31 @@ pub struct EntitySet(u64);
 
 impl EntitySet {
     /// Takes an entity in, and says whether it was not in yet.
+    #[inline]
     pub fn insert(&mut self, entity: Entity) -> bool {
         let new = !self.holds(entity);
         self.0 |= bit(entity);
         new
     }
 
+    #[inline]
     pub fn holds(self, entity: Entity) -> bool {
         self.0 & bit(entity) != 0
     }
 
     /// The members of either set.
+    #[inline]
     pub fn and(self, other: EntitySet) -> EntitySet {
         EntitySet(self.0 | other.0)
     }
 
+    #[inline]
     pub fn is_within(self, other: EntitySet) -> bool {
         self.0 & !other.0 == 0
     }
 }
 
+#[inline]
 fn bit(entity: Entity) -> u64 {
     1 << entity.index()
 }

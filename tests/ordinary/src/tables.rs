@@ -13,24 +13,29 @@ pub struct Entity(u32);
 
 impl User {
     /// The user of that number, if there can be one.
+    #[inline]
     pub fn new(number: u32) -> Option<User> {
         (1..=USERS).contains(&number).then(|| User(number))
     }
 
     /// The user of that number, if there is one.
+    #[inline]
     pub fn present(tables: &Tables, number: u32) -> Option<User> {
         User::new(number).filter(|user| user_words(tables, *user)[user::PRESENT] != 0)
     }
 
+    #[inline]
     pub fn all() -> impl Iterator<Item = User> {
         (1..=USERS).map(User)
     }
 
+    #[inline]
     pub fn number(self) -> u32 {
         self.0
     }
 
     /// Where the user's record starts.
+    #[inline]
     pub fn start(self) -> usize {
         (self.0 as usize - 1) * USER_WORDS
     }
@@ -38,91 +43,111 @@ impl User {
 
 impl Entity {
     /// The entity of that number, if there can be one.
+    #[inline]
     pub fn new(number: u32) -> Option<Entity> {
         (1..=ENTITIES).contains(&number).then(|| Entity(number))
     }
 
     /// The entity of that number, if there is one.
+    #[inline]
     pub fn present(tables: &Tables, number: u32) -> Option<Entity> {
         Entity::new(number).filter(|entity| kind_of(tables, *entity) != kind::ABSENT)
     }
 
+    #[inline]
     pub fn all() -> impl Iterator<Item = Entity> {
         (1..=ENTITIES).map(Entity)
     }
 
+    #[inline]
     pub fn number(self) -> u32 {
         self.0
     }
 
     /// The number counted from 0.
+    #[inline]
     pub fn index(self) -> usize {
         self.0 as usize - 1
     }
 
+    #[inline]
     fn start(self) -> usize {
         FIRST_ENTITY_WORD + self.index() * ENTITY_WORDS
     }
 }
 
+#[inline]
 pub fn user_words(tables: &Tables, user: User) -> &UserWords {
     tables[user.start()..][..USER_WORDS].try_into().expect("a user's words")
 }
 
+#[inline]
 pub fn user_words_mut(tables: &mut Tables, user: User) -> &mut UserWords {
     (&mut tables[user.start()..][..USER_WORDS]).try_into().expect("a user's words")
 }
 
+#[inline]
 pub fn entity_words(tables: &Tables, entity: Entity) -> &EntityWords {
     tables[entity.start()..][..ENTITY_WORDS].try_into().expect("an entity's words")
 }
 
+#[inline]
 pub fn entity_words_mut(tables: &mut Tables, entity: Entity) -> &mut EntityWords {
     (&mut tables[entity.start()..][..ENTITY_WORDS]).try_into().expect("an entity's words")
 }
 
+#[inline]
 pub fn kind_of(tables: &Tables, entity: Entity) -> u32 {
     tables[entity.start() + entity::KIND]
 }
 
+#[inline]
 pub fn level_of(tables: &Tables, entity: Entity) -> Level {
     Level(tables[entity.start() + entity::LEVEL])
 }
 
+#[inline]
 pub fn clearance_of(tables: &Tables, user: User) -> Level {
     Level(user_words(tables, user)[user::CLEARANCE])
 }
 
 /// The device that a user is logged on to.
+#[inline]
 pub fn device_of(tables: &Tables, user: User) -> Option<Entity> {
     Entity::new(user_words(tables, user)[user::DEVICE])
 }
 
 /// What an entity of well-formed tables holds or shows, by place: used places come first, and the rest are 0.
+#[inline]
 pub fn contents(words: &EntityWords) -> impl Iterator<Item = Entity> + '_ {
     words[entity::CONTENTS].iter().map_while(|number| Entity::new(*number))
 }
 
 /// The place where that entity stands, counted from 0.
+#[inline]
 pub fn place_of(words: &EntityWords, entity: Entity) -> Option<usize> {
     words[entity::CONTENTS].iter().position(|number| *number == entity.number())
 }
 
 /// Whether that entity stands in one of the places.
+#[inline]
 pub fn holds(words: &EntityWords, entity: Entity) -> bool {
     place_of(words, entity).is_some()
 }
 
+#[inline]
 pub fn is_full(words: &EntityWords) -> bool {
     words[entity::USED] as usize == PLACES
 }
 
 /// The users who are logged on, each with the device. In well-formed tables no other device shows anything.
+#[inline]
 pub fn logged_on(tables: &Tables) -> impl Iterator<Item = (User, Entity)> + '_ {
     User::all().filter_map(move |user| device_of(tables, user).map(|device| (user, device)))
 }
 
 /// The container that an entity is in.
+#[inline]
 pub fn container_of(tables: &Tables, entity: Entity) -> Option<Entity> {
     Entity::all().find(|container| {
         let words = entity_words(tables, *container);

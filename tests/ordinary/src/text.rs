@@ -27,3 +27,4 @@ const LINES: [(&[u8], Value); 7] = [
 const DOT: u8 = b'.';
 const END_OF_LINE: u8 = b'\n';
 const BASE: u32 = 10;
+const ZERO: u8 = b'0';

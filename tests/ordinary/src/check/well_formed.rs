@@ -84,10 +84,14 @@ fn fields_fit(words: &EntityWords) -> bool {
 
 /// Triples first and no two alike, zeros behind.
 fn triples_fit(words: &[u32]) -> bool {
-    let held = words.iter().take_while(|word| **word != 0).count();
+    let held = words.iter().position(|word| *word == 0).unwrap_or(words.len());
     let (triples, rest) = words.split_at(held);
-    all_zero(rest)
-        && triples.iter().enumerate().all(|(place, triple)| is_triple(*triple) && !triples[..place].contains(triple))
+    all_zero(rest) && triples.iter().all(|triple| is_triple(*triple)) && all_differ(triples)
+}
+
+/// No word stands there twice. There are eight at most, so that comparing all with all is no matter.
+fn all_differ(words: &[u32]) -> bool {
+    (1..words.len()).all(|place| !words[..place].contains(&words[place]))
 }
 
 /// Who 1 to 24, operation 1 to 20, position 1 or 2.

@@ -1,6 +1,6 @@
 //! Reading a request's text.
 
-use super::{Value, BASE, DOT, END_OF_LINE, LINES};
+use super::{Value, BASE, DOT, END_OF_LINE, LINES, ZERO};
 use crate::refusal::{Refusal, Reply};
 use crate::words::{Request, NAMES, REQUEST_WORDS};
 use crate::Rules;
@@ -82,14 +82,16 @@ impl Place<'_> {
     }
 
     /// Reads one digit, if one comes next.
+    #[inline]
     fn digit(&mut self) -> Option<u32> {
         let (byte, rest) = self.rest.split_first()?;
-        let digit = char::from(*byte).to_digit(BASE)?;
+        let digit = Some(byte).filter(|byte| byte.is_ascii_digit())?;
         self.rest = rest;
-        Some(digit)
+        Some(u32::from(digit - ZERO))
     }
 
     /// Reads that byte, and says whether it came next.
+    #[inline]
     fn take(&mut self, wanted: u8) -> bool {
         match self.rest.split_first() {
             Some((byte, rest)) if *byte == wanted => {

@@ -1,6 +1,6 @@
 //! Writing a request's text.
 
-use super::{Value, BASE, DOT, END_OF_LINE, LINES};
+use super::{Value, BASE, DOT, END_OF_LINE, LINES, ZERO};
 use crate::form::no_names_behind;
 use crate::refusal::{Refusal, Reply};
 use crate::words::{request, Request, NAMES};
@@ -48,7 +48,7 @@ impl Text {
                 Value::Number(at) => text.number(request[at]),
                 Value::Reference(at) => text.reference(&request[at + 1..][..request[at] as usize]),
             }
-            text.push(&[END_OF_LINE]);
+            text.push_byte(END_OF_LINE);
         }
         text
     }
@@ -57,7 +57,7 @@ impl Text {
     fn reference(&mut self, names: &[u32]) {
         for (place, name) in names.iter().enumerate() {
             if place > 0 {
-                self.push(&[DOT]);
+                self.push_byte(DOT);
             }
             self.number(*name);
         }
@@ -70,13 +70,18 @@ impl Text {
         let mut rest = number;
         loop {
             start -= 1;
-            digits[start] = b'0' + (rest % BASE) as u8;
+            digits[start] = ZERO + (rest % BASE) as u8;
             rest /= BASE;
             if rest == 0 {
                 break;
             }
         }
         self.push(&digits[start..]);
+    }
+
+    fn push_byte(&mut self, byte: u8) {
+        self.bytes[self.length] = byte;
+        self.length += 1;
     }
 
     fn push(&mut self, bytes: &[u8]) {
