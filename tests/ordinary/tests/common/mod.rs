@@ -1,4 +1,5 @@
-//! Tables and requests built from their words, for the tests.
+//! Tables and requests built from their words, for the tests; not every test needs all of it.
+#![allow(dead_code)]
 
 use ordinary::{Reply, REQUEST_WORDS, TABLE_WORDS};
 
