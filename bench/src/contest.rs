@@ -1,14 +1,11 @@
 //! The contests: one call on one load, for both sides.
 use crate::load::{Call, Load};
+use crate::requests::Wanted;
 use crate::side::PROVED;
 use crate::{requests, tables, texts};
 use generate::layout::OPERATIONS;
 use generate::{dice_for, full, Dice};
 
-/// Accepted and refused requests of each operation for each tables where all operations are in the load.
-const OF_EACH: usize = 3;
-/// The same where the load is of one operation.
-const OF_ONE: usize = 4;
 /// The operations by their numbers from 1.
 const OPERATION_NAMES: [&str; OPERATIONS as usize] = [
     "create",
@@ -120,12 +117,11 @@ impl Contest {
     pub fn load(&self, seed: u64) -> Result<Load, String> {
         let mut dice = self.kind.dice(seed);
         let load = match self.call {
-            Call::Check => Some(self.check_load(&mut dice)),
-            Call::List => Some(self.list_load(&mut dice)),
+            Call::Check => self.check_load(&mut dice),
+            Call::List => self.list_load(&mut dice),
             Call::Step | Call::Advance => self.request_load(&mut dice),
             Call::Read | Call::Write => self.text_load(&mut dice),
         };
-        let load = load.ok_or_else(|| format!("{}: no fitting requests found; try another seed", self.name()))?;
         match load.tables.iter().all(|tables| (PROVED.check)(tables) == 0) {
             true => Ok(load),
             false => Err(format!("{}: tables that are meant to be good are not", self.name())),
@@ -150,18 +146,19 @@ impl Contest {
         }
     }
 
-    fn request_load(&self, dice: &mut Dice) -> Option<Load> {
-        match self.kind {
-            Kind::Operation(number) => requests::prepare(dice, number..=number, OF_ONE),
-            _ => requests::prepare(dice, 1..=OPERATIONS, OF_EACH),
-        }
+    fn request_load(&self, dice: &mut Dice) -> Load {
+        let wanted = match self.kind {
+            Kind::Operation(number) => Wanted { operations: number..=number, of_each: 4, open: 0 },
+            _ => Wanted { operations: 1..=OPERATIONS, of_each: 3, open: 6 },
+        };
+        requests::prepare(dice, wanted)
     }
 
-    fn text_load(&self, dice: &mut Dice) -> Option<Load> {
+    fn text_load(&self, dice: &mut Dice) -> Load {
         match self.kind {
-            Kind::Short => Some(texts::prepare_short(dice)),
-            Kind::Longest => Some(texts::prepare_longest(dice)),
-            _ => self.request_load(dice).map(|load| texts::prepare(load.requests)),
+            Kind::Short => texts::prepare_short(dice),
+            Kind::Longest => texts::prepare_longest(dice),
+            _ => texts::prepare(self.request_load(dice).requests),
         }
     }
 }
