@@ -158,7 +158,7 @@ impl Contest {
         match self.kind {
             Kind::Short => texts::prepare_short(dice),
             Kind::Longest => texts::prepare_longest(dice),
-            _ => texts::prepare(self.request_load(dice).requests),
+            _ => texts::prepare_mixed(dice),
         }
     }
 }

@@ -1,5 +1,6 @@
 //! Requests to write and their texts to read.
 use crate::load::{Load, Request, LONGEST_TEXT};
+use crate::requests::TABLES;
 use generate::layout::answer::ACCEPTED;
 use generate::layout::{asked, operation, shown, NAMES, REQUEST_WORDS};
 use generate::Dice;
@@ -42,7 +43,7 @@ fn text(request: &Request) -> Option<Vec<u8>> {
 }
 
 /// These requests with their texts; those without a text are left out.
-pub fn prepare(requests: Vec<Request>) -> Load {
+fn prepare(requests: Vec<Request>) -> Load {
     let (requests, texts) = requests.into_iter().filter_map(|request| Some((request, text(&request)?))).unzip();
     Load { requests, texts, ..Load::default() }
 }
@@ -55,6 +56,15 @@ pub fn prepare_short(dice: &mut Dice) -> Load {
 /// Texts as long as there are any.
 pub fn prepare_longest(dice: &mut Dice) -> Load {
     prepare((0..TEXTS).map(|_| longest(dice)).collect())
+}
+
+/// Texts of requests of all operations, each thrown with some tables in view.
+pub fn prepare_mixed(dice: &mut Dice) -> Load {
+    let of_tables = |_| {
+        let tables = generate::tables(dice);
+        (0..TEXTS / TABLES).map(|_| generate::request(dice, &tables)).collect::<Vec<_>>()
+    };
+    prepare((0..TABLES).flat_map(of_tables).collect())
 }
 
 #[cfg(test)]
