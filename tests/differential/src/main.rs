@@ -14,6 +14,7 @@ use std::process::exit;
 use tables::Comparison;
 use wrong::Effort;
 
+/// What can be asked for.
 const USAGE: &str = "\
 usage: differential tables SEED STEPS [wrong=NAME] [table=NUMBER]
        differential texts SEED ROUNDS [wrong=NAME]
@@ -40,6 +41,7 @@ const MOST_DIFFERENCES: u64 = 5;
 struct Unclear;
 
 impl From<std::num::ParseIntError> for Unclear {
+    /// A number too large is as unclear as one that is none.
     fn from(_: std::num::ParseIntError) -> Unclear {
         Unclear
     }
@@ -85,6 +87,7 @@ impl Options {
     }
 }
 
+/// Compares check, step and list.
 fn run_tables(seed: &str, steps: &str, rest: &[&str]) -> Result<Outcome, Unclear> {
     let options = options(rest, false)?;
     let what = Comparison {
@@ -99,11 +102,13 @@ fn run_tables(seed: &str, steps: &str, rest: &[&str]) -> Result<Outcome, Unclear
     Ok(tables::run(&what, Out::LOUD))
 }
 
+/// Compares the reader and the writer.
 fn run_texts(seed: &str, rounds: &str, rest: &[&str]) -> Result<Outcome, Unclear> {
     let options = options(rest, true)?;
     Ok(texts::run(number(seed)?, number(rounds)?, options.desk(), Out::LOUD))
 }
 
+/// Tries every wrong desk.
 fn run_wrong(seed: &str, steps: &str, rounds: &str) -> Result<Outcome, Unclear> {
     let effort = Effort { seed: number(seed)?, steps: number(steps)?, rounds: number(rounds)? };
     Ok(wrong::run(&effort, Out::LOUD))
@@ -133,6 +138,7 @@ fn run(words: &[&str]) -> Result<Outcome, Unclear> {
     }
 }
 
+/// Says on standard error what can be asked for.
 fn usage() {
     eprintln!("{}", USAGE);
     for wrong in WRONG {
@@ -140,6 +146,7 @@ fn usage() {
     }
 }
 
+/// The status is 0 where all is well, 1 where something is not, 2 where the command line is unclear.
 fn main() {
     let words: Vec<String> = std::env::args().skip(1).collect();
     let words: Vec<&str> = words.iter().map(String::as_str).collect();

@@ -10,7 +10,9 @@ pub struct Out {
 }
 
 impl Out {
+    /// Says everything.
     pub const LOUD: Out = Out { quiet: false };
+    /// Says nothing.
     pub const QUIET: Out = Out { quiet: true };
 
     /// Writes one line, as in `out.line(format_args!("{} steps", steps))`. A run whose lines can't be written ends, and is not passed.

@@ -13,6 +13,7 @@ pub enum Side<'a> {
 }
 
 impl Side<'_> {
+    /// What it is called in a report.
     pub fn name(self) -> &'static str {
         match self {
             Side::Ordinary(_) => "ordinary",
@@ -20,6 +21,7 @@ impl Side<'_> {
         }
     }
 
+    /// The state check.
     pub fn check(self, tables: &[u32]) -> Reply {
         match self {
             Side::Ordinary(desk) => desk.check(tables),
@@ -27,6 +29,7 @@ impl Side<'_> {
         }
     }
 
+    /// One request.
     pub fn step(self, tables: &mut [u32], request: &[u32]) -> Reply {
         match self {
             Side::Ordinary(desk) => desk.step(tables, request),
@@ -34,6 +37,7 @@ impl Side<'_> {
         }
     }
 
+    /// The disclosure list of a user.
     pub fn list(self, tables: &[u32], user: u32, room: &mut [u32]) -> Reply {
         match self {
             Side::Ordinary(desk) => desk.list(tables, user, room),

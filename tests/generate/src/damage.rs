@@ -16,7 +16,7 @@ pub fn damage(dice: &mut Dice, tables: &mut [u32]) {
         }
         2 => change_user(dice, tables),
         3 | 4 => change_entity(dice, tables),
-        5 | 6 | 7 => change_security(dice, tables),
+        5..=7 => change_security(dice, tables),
         _ => change_words(dice, tables),
     }
 }

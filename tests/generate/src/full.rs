@@ -36,6 +36,7 @@ struct Full<'a> {
 }
 
 impl<'a> Full<'a> {
+    /// Numbers given out, and tables that are still empty.
     fn new(dice: &'a mut Dice) -> Full<'a> {
         let mut devices: Vec<u32> = (1..=ENTITIES).collect();
         dice.shuffle(&mut devices);
@@ -43,16 +44,19 @@ impl<'a> Full<'a> {
         Full { dice, tables: vec![0; TABLE_WORDS], devices, inner }
     }
 
+    /// The words of an entity, to be written.
     fn entity(&mut self, number: u32) -> &mut [u32] {
         &mut self.tables[entity_base(number)..]
     }
 
+    /// Puts an entity last into another.
     fn put_into(&mut self, holder: u32, number: u32) {
         let record = self.entity(holder);
         record[entity::CONTENTS + record[entity::USED] as usize] = number;
         record[entity::USED] += 1;
     }
 
+    /// Shows the value and the label of an entity, last on a device.
     fn put_on_screen(&mut self, device: u32, number: u32) {
         let record = self.entity(device);
         record[entity::SHOWN + record[entity::USED] as usize] = shown::VALUE | shown::LABEL;
@@ -75,6 +79,7 @@ impl<'a> Full<'a> {
         device
     }
 
+    /// A level of rank 2 or 3.
     fn high_level(&mut self) -> u32 {
         if self.dice.chance(50) {
             MAX_LEVEL

@@ -35,6 +35,7 @@ pub fn place_in(record: &[u32], number: u32) -> Option<u32> {
 pub struct Holders([u32; ENTITIES as usize + 1]);
 
 impl Holders {
+    /// Looks into every container once.
     pub fn of(tables: &[u32]) -> Holders {
         let mut holders = Holders([0; ENTITIES as usize + 1]);
         let is_container = |&number: &u32| entity_record(tables, number)[entity::KIND] == kind::CONTAINER;

@@ -33,6 +33,7 @@ pub struct Asking<'a> {
 }
 
 impl<'a> Asking<'a> {
+    /// Ready to ask, with no reference yet.
     pub fn new(step: Step, tables: &'a [u32], asker: u32) -> Asking<'a> {
         let record = user_base(asker);
         let mut request = [0; REQUEST_WORDS];
@@ -61,6 +62,7 @@ impl<'a> Asking<'a> {
         given
     }
 
+    /// Puts so many words back as they were.
     fn put_back(&mut self, from: usize, count: usize) {
         self.tables[from..from + count].copy_from_slice(&self.original[from..from + count]);
     }

@@ -14,16 +14,19 @@ struct Lent<'a> {
 }
 
 impl<'a> Lent<'a> {
+    /// Nothing is lent yet.
     fn new(side: Side<'a>) -> Lent<'a> {
         let nothing = Reply { answer: 0, number: 0 };
         Lent { side, tables: Guarded::room(0), request: Guarded::room(0), reply: nothing }
     }
 
+    /// Lends a copy of these tables for a check.
     fn check(&mut self, tables: &[u32]) {
         self.tables.hold(tables);
         self.reply = self.side.check(self.tables.lent());
     }
 
+    /// Lends copies of these for a step.
     fn step(&mut self, tables: &[u32], request: &[u32]) {
         self.tables.hold(tables);
         self.request.hold(request);
@@ -38,6 +41,7 @@ pub struct Calls<'a> {
 }
 
 impl<'a> Calls<'a> {
+    /// Calls of this desk and of the proved one.
     pub fn new(desk: ByHand<'a>) -> Calls<'a> {
         Calls { ordinary: Lent::new(Side::Ordinary(desk)), proved: Lent::new(Side::Proved) }
     }
@@ -98,6 +102,7 @@ impl<'a> Calls<'a> {
         }
     }
 
+    /// What there is to say of the last call.
     fn difference(&self, call: &'static str, complaint: &str) -> Difference {
         Difference::new(call, complaint)
             .with_replies(self.ordinary.reply, self.proved.reply)

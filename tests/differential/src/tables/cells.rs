@@ -17,6 +17,7 @@ struct Row {
     own: &'static [usize],
 }
 
+/// A row of the table below.
 const fn row(name: &'static str, operands: u32, sorted: bool, own: &'static [usize]) -> Row {
     Row { name, operands, sorted, own }
 }
@@ -79,6 +80,7 @@ pub struct Cells {
 }
 
 impl Cells {
+    /// Nothing is counted yet.
     pub fn new() -> Cells {
         Cells { counts: [[0; COLUMNS]; ROWS] }
     }
@@ -108,6 +110,7 @@ impl Cells {
         }
     }
 
+    /// One cell as it is printed.
     fn cell(&self, operation: usize, given: usize) -> String {
         match self.counts[operation][given] {
             0 if !can_be(operation, given) => format!("{:>7}", "."),

@@ -15,14 +15,17 @@ pub struct Done<'a> {
 }
 
 impl Done<'_> {
+    /// Was it this operation, and answered so?
     fn is(&self, operation: u32, given: u32) -> bool {
         self.request[asked::OPERATION] == operation && self.given == given
     }
 
+    /// Was it this operation, and accepted?
     fn accepted(&self, operation: u32) -> bool {
         self.is(operation, answer::ACCEPTED)
     }
 
+    /// Was it refused so that a notice is left?
     fn is_refused(&self) -> bool {
         self.given >= answer::BAD_REQUEST
     }
@@ -32,6 +35,7 @@ impl Done<'_> {
         user_record(self.before, self.request[asked::USER])
     }
 
+    /// Did the requester act with a role?
     fn has_role(&self, role: u32) -> bool {
         self.requester()[user::CURRENT] & role != 0
     }
@@ -43,10 +47,12 @@ impl Done<'_> {
         further.iter().fold(names[0], |number, &place| contents(entity_record(self.before, number))[place as usize - 1])
     }
 
+    /// The first operand's record before.
     fn first(&self) -> &[u32] {
         entity_record(self.before, self.operand(asked::FIRST))
     }
 
+    /// The second operand's record before.
     fn second(&self) -> &[u32] {
         entity_record(self.before, self.operand(asked::SECOND))
     }
@@ -66,19 +72,23 @@ impl Done<'_> {
         }
     }
 
+    /// The triple that a grant or a revocation names.
     fn asked_triple(&self) -> u32 {
         triple(self.request[asked::A], self.request[asked::B], self.request[asked::C])
     }
 
+    /// Had the operand that triple before?
     fn holds_asked_triple(&self) -> bool {
         triples(self.first()).contains(&self.asked_triple())
     }
 
+    /// Was the level asked for strictly lower than the old one?
     fn is_lower_than_first(&self) -> bool {
         let (new, old) = (self.request[asked::A], self.first()[entity::LEVEL]);
         new != old && at_most(new, old)
     }
 
+    /// Were the level asked for and the old one incomparable?
     fn is_beside_first(&self) -> bool {
         let (new, old) = (self.request[asked::A], self.first()[entity::LEVEL]);
         !at_most(new, old) && !at_most(old, new)
@@ -88,6 +98,7 @@ impl Done<'_> {
 /// A corner: its name, and how to know it.
 type Corner = (&'static str, fn(&Done) -> bool);
 
+/// All corners, with the rules that they belong to.
 const CORNERS: [Corner; 26] = [
     ("a refusal where another is held [8.2]", |d| {
         d.is_refused() && d.requester()[user::HELD] != 0 && d.requester()[user::HELD] != d.given
@@ -171,6 +182,7 @@ pub struct Corners {
 }
 
 impl Corners {
+    /// Nothing is counted yet.
     pub fn new() -> Corners {
         Corners { counts: [0; CORNERS.len()] }
     }

@@ -13,6 +13,7 @@ pub struct Difference {
 }
 
 impl Difference {
+    /// A difference of which nothing further is said yet.
     pub fn new(call: &'static str, complaint: &str) -> Difference {
         Difference { call, complaint: complaint.to_string(), details: Vec::new() }
     }

@@ -15,11 +15,13 @@ struct Lent<'a> {
 }
 
 impl<'a> Lent<'a> {
+    /// Nothing is lent yet.
     fn new(side: Side<'a>) -> Lent<'a> {
         let nothing = Reply { answer: 0, number: 0 };
         Lent { side, tables: Guarded::room(0), room: Guarded::room(0), reply: nothing }
     }
 
+    /// Lends a copy of these tables and a fresh room for a list.
     fn list(&mut self, tables: &[u32], user: u32, length: usize) {
         self.tables.hold(tables);
         self.room.empty(length);
@@ -34,6 +36,7 @@ pub struct ListCalls<'a> {
 }
 
 impl<'a> ListCalls<'a> {
+    /// Lists of this desk and of the proved one.
     pub fn new(desk: ByHand<'a>) -> ListCalls<'a> {
         ListCalls { ordinary: Lent::new(Side::Ordinary(desk)), proved: Lent::new(Side::Proved) }
     }

@@ -21,6 +21,7 @@ pub struct Lists<'a> {
 }
 
 impl<'a> Lists<'a> {
+    /// Nothing is seen yet.
     pub fn new(calls: ListCalls<'a>) -> Lists<'a> {
         Lists { calls, tally: ListTally::default() }
     }

@@ -40,23 +40,15 @@ pub fn run(what: &Comparison, out: Out) -> Outcome {
     let mut outcome = Outcome::default();
     let mut number = what.only.unwrap_or(1);
     out.line(format_args!("tables: seed {}, {} steps{}", what.seed, what.steps, what.options));
-    while run.steps < what.steps && outcome.differences < what.most_differences {
-        let ended = catch_unwind(AssertUnwindSafe(|| run.table(number)));
-        let ended = ended.unwrap_or_else(|_| Err(Difference::new("some call", "panicked, as standard error says")));
-        if let Err(difference) = ended {
-            report(what, &run, number, &difference, out);
-            let at =
-                format!("{}: table {}, request {}, after {} steps", difference.call, number, run.request, run.steps);
-            outcome.first.get_or_insert(at);
-            outcome.differences += 1;
-        }
+    while run.steps < what.steps && outcome.differences + outcome.amiss < what.most_differences {
+        go_through(what, &mut run, number, &mut outcome, out);
         if what.only.is_some() {
             out.line(format_args!("table {} alone: {} steps, {} differences", number, run.steps, outcome.differences));
             return outcome;
         }
         number += 1;
     }
-    outcome.amiss = summarise(&run, number - 1, out);
+    outcome.amiss += summarise(&run, number - 1, out);
     out.line(format_args!(
         "{} steps, {} cells reached, {} missing, {} differences",
         run.steps,
@@ -65,6 +57,26 @@ pub fn run(what: &Comparison, out: Out) -> Outcome {
         outcome.differences
     ));
     outcome
+}
+
+/// Goes through one table. A desk that panics has given no answer at all: something is amiss then, but it is no difference.
+fn go_through(what: &Comparison, run: &mut Run, number: u64, outcome: &mut Outcome, out: Out) {
+    let ended = catch_unwind(AssertUnwindSafe(|| run.table(number)));
+    match ended {
+        Ok(Ok(())) => (),
+        Ok(Err(difference)) => {
+            report(what, run, number, &difference, out);
+            let call = difference.call;
+            outcome.first.get_or_insert_with(|| {
+                format!("{}: table {}, request {}, after {} steps", call, number, run.request, run.steps)
+            });
+            outcome.differences += 1;
+        }
+        Err(_) => {
+            report(what, run, number, &Difference::new("some call", "panicked, as standard error says"), out);
+            outcome.amiss += 1;
+        }
+    }
 }
 
 /// Says what differed, and how to see it again.

@@ -16,6 +16,7 @@ const PAST: usize = 2 * ENTRY_WORDS + 1;
 const LONGEST: usize = (MOST_ENTRIES as usize + 10) * ENTRY_WORDS;
 /// Of full tables; the first are the fullest.
 const FULL_TABLES: u32 = 4;
+/// So many users of each are asked for, one after another from any of them on.
 const USERS_OF_EACH: u32 = 2;
 
 /// What a list should be.
@@ -58,6 +59,7 @@ impl Wanted {
 }
 
 impl Progress {
+    /// Says what is wrong, and counts it.
     fn complain(&mut self, line: String) {
         self.out.line(format_args!("{}", line));
         self.outcome.first.get_or_insert(line);
@@ -98,6 +100,7 @@ impl Progress {
         ));
     }
 
+    /// The lists of S1 that are written out by hand.
     fn try_s1(&mut self) {
         for case in &LISTS {
             let what = format!("S1, {}", case.what);
@@ -112,6 +115,7 @@ impl Progress {
         self.try_rooms(&Wanted { what, tables, user: 2, answer, entries: Vec::new() });
     }
 
+    /// S1 cut short, or with a word too many.
     fn try_other_lengths(&mut self) {
         for count in [0, 1, TABLE_WORDS - 1, TABLE_WORDS + 1] {
             let mut tables = s1();
@@ -120,6 +124,7 @@ impl Progress {
         }
     }
 
+    /// S1 with one word changed so that it is no longer well-formed, or no longer secure.
     fn try_other_words(&mut self) {
         let changes = [
             ("spare word of user 3", user_base(3) + user::SPARE, 1, answer::NOT_WELL_FORMED),
@@ -149,6 +154,7 @@ impl Progress {
         ordinary
     }
 
+    /// Full tables: a few users, and a number that is nobody's.
     fn try_full(&mut self, dice: &mut Dice, number: u32) {
         let tables = if number == 1 { fullest(dice) } else { full(dice) };
         let first = dice.below(USERS);

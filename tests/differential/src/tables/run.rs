@@ -11,16 +11,18 @@ use generate::{dice_for, Dice};
 
 /// Long enough for tables to fill and to empty.
 const STEPS_PER_TABLE: u32 = 250;
-/// From one request to the next with which something else is done as well.
+/// From one request to the next with which damaged tables are tried too.
 const DAMAGE_EVERY: u32 = 4;
+/// From one request to the next with which lists are asked for too.
 const LISTS_EVERY: u32 = 50;
 /// From one table to the next whose lists are compared with the steps.
 const WITH_STEPS_EVERY: u64 = 4;
 /// Lists have dice of their own, so that they change no request; those of a table number N are those of number -N.
 const OF_LISTS: u64 = u64::MAX;
 
-/// What is lent where another number of words is wanted.
+/// Lengths of slices that are lent as tables.
 const TABLE_LENGTHS: [usize; 5] = [0, 1, TABLE_WORDS - 1, TABLE_WORDS, TABLE_WORDS + 1];
+/// Lengths of slices that are lent as requests.
 const REQUEST_LENGTHS: [usize; 5] = [0, 1, REQUEST_WORDS - 1, REQUEST_WORDS, REQUEST_WORDS + 1];
 
 /// How far a run has come, and what it has seen.
@@ -42,6 +44,7 @@ pub struct Run<'a> {
 }
 
 impl<'a> Run<'a> {
+    /// A run that has not started.
     pub fn new(what: &'a Comparison<'a>) -> Run<'a> {
         Run {
             what,
@@ -84,6 +87,7 @@ impl<'a> Run<'a> {
         }
     }
 
+    /// A check of any tables.
     fn check(&mut self, tables: &[u32]) -> Result<u32, Difference> {
         let given = self.calls.check(tables)?;
         self.checks[given as usize] += 1;

@@ -10,6 +10,7 @@ use generate::layout::{
 use generate::{s1, s1_unmarked};
 use ordinary::{Reply, Right};
 
+/// The words of a request.
 type Words = [u32; REQUEST_WORDS];
 
 /// A list of S1, or of S1 with its marked container unmarked.
@@ -23,6 +24,7 @@ pub struct ListCase {
 }
 
 impl ListCase {
+    /// The tables that the list is asked of.
     pub fn tables(&self) -> Vec<u32> {
         if self.unmarked {
             s1_unmarked()
@@ -31,11 +33,13 @@ impl ListCase {
         }
     }
 
+    /// The words that the list leaves.
     pub fn words(&self) -> Vec<u32> {
         self.entries.concat()
     }
 }
 
+/// A row of the table below.
 const fn list(
     what: &'static str,
     unmarked: bool,
@@ -84,22 +88,27 @@ fn show_of_length_5() -> Words {
     words
 }
 
+/// User 1 releases 6.
 fn release_6() -> Words {
     request(1, operation::RELEASE, [&[6], &[]], [0, 0])
 }
 
+/// User 2 copies 5 to 7.
 fn copy_5_to_7() -> Words {
     request(2, operation::COPY, [&[5], &[7]], [0, 0])
 }
 
+/// User 2 creates an object in 7.
 fn create_in_7(level: u32) -> Words {
     request(2, operation::CREATE, [&[7], &[]], [1, level])
 }
 
+/// User 1 sets the level of 7.
 fn level_of_7(level: u32) -> Words {
     request(1, operation::SET_LEVEL, [&[7], &[]], [level, 0])
 }
 
+/// User 2 acknowledges.
 fn acknowledge(refusal: u32, count: u32) -> Words {
     request(2, operation::ACKNOWLEDGE, [&[], &[]], [refusal, count])
 }
@@ -134,6 +143,7 @@ struct Trial<'a> {
 }
 
 impl Trial<'_> {
+    /// Counts a thing that was asked, and says so where it is not as wanted.
     fn expect(&mut self, what: &str, got: u32, wanted: u32) {
         self.asked += 1;
         if got != wanted {
@@ -144,6 +154,7 @@ impl Trial<'_> {
         }
     }
 
+    /// The same for something that should hold.
     fn expect_true(&mut self, what: &str, holds: bool) {
         self.expect(what, u32::from(holds), 1);
     }
@@ -153,14 +164,17 @@ impl Trial<'_> {
         self.side.step(&mut self.tables, request).answer
     }
 
+    /// A word of an entity now.
     fn entity(&self, number: u32, word: usize) -> u32 {
         self.tables[entity_base(number) + word]
     }
 
+    /// A word of a user now.
     fn user(&self, number: u32, word: usize) -> u32 {
         self.tables[user_base(number) + word]
     }
 
+    /// Each single request, on S1 as it is.
     fn check_single_requests(&mut self) {
         for (what, request, wanted) in single_requests() {
             self.tables = s1();
@@ -181,6 +195,7 @@ impl Trial<'_> {
         self.expect("first place of 7 after the create", self.entity(7, entity::CONTENTS), 8);
     }
 
+    /// The release that is accepted after a change of roles.
     fn check_release(&mut self) {
         self.tables = s1();
         let given = self.ask(&request(1, operation::SET_CURRENT, [&[], &[]], [1, 5]));
@@ -199,6 +214,7 @@ impl Trial<'_> {
         self.expect(&format!("count after {}", what), self.user(2, user::COUNT), wanted[2]);
     }
 
+    /// Two refusals, a wrong acknowledgement and a right one.
     fn check_notice(&mut self) {
         self.tables = s1();
         self.expect_notice("show 4.1", &show(2, &[4, 1], 3), [9, 9, 1]);
@@ -233,6 +249,7 @@ impl Trial<'_> {
         }
     }
 
+    /// All that document 01 says of S1.
     fn check_all(&mut self) {
         self.check_single_requests();
         self.check_effects();

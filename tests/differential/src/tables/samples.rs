@@ -5,6 +5,7 @@ use generate::Dice;
 /// How many of each sort.
 const SAMPLES: u32 = 20;
 
+/// A length and four names.
 type Reference = [u32; ENTRY_WORDS];
 
 /// Any reference of one to four names that may lead somewhere.

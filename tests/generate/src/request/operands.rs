@@ -114,6 +114,7 @@ impl Drawing<'_> {
         found
     }
 
+    /// Are a requester and an operand what was looked for?
     fn meets(&self, aim: Aim, (requester, number): (u32, u32)) -> bool {
         let record = user_record(self.tables, requester);
         if aim == Aim::Any {

@@ -15,6 +15,7 @@ enum Goal {
 }
 
 impl Goal {
+    /// A goal; for a copy, only that the second is high enough matters.
     fn choose(dice: &mut Dice, of: u32) -> Goal {
         match dice.below(100) {
             0..=14 => Goal::Any,
@@ -40,6 +41,7 @@ impl Drawing<'_> {
         self.dice.one_of(if meeting.is_empty() { &fitting } else { &meeting })
     }
 
+    /// Is a second operand what was looked for, given the first?
     fn reaches(&self, goal: Goal, first: u32, second: u32) -> bool {
         let record = entity_record(self.tables, second);
         let is_container = record[entity::KIND] == kind::CONTAINER;
