@@ -1,4 +1,4 @@
-//! Tables as `state.words` has them, then a script of requests to them, on standard output: for a program that reads both [rules 12.1 to 12.6].
+//! Tables as `state.words` has them, then a script of requests to them, on standard output: for a program that reads both [rules 12.1, 12.2].
 use crate::tables::s1::show;
 use crate::texts::cases;
 use generate::layout::{answer, REQUEST_WORDS};
