@@ -4,7 +4,7 @@ use crate::tables::*;
 use crate::words::*;
 use crate::Rules;
 
-/// The roles that a user acts with.
+/// The roles that a user acts with [rule 5.6].
 pub fn roles<R: Rules>(tables: &Tables, user: User) -> u32 {
     let words = user_words(tables, user);
     words[if R::ROLES { user::AUTHORISED } else { user::CURRENT }]
@@ -20,7 +20,7 @@ impl Whos {
         Whos(1 << user.number() | roles::<R>(tables, user) << (USERS + 1))
     }
 
-    /// Whether one of the entity's triples allows the operation in that operand position.
+    /// Whether one of the entity's triples allows the operation in that operand position [rule 7.8].
     pub fn allowed(self, words: &EntityWords, operation: u32, position: u32) -> bool {
         let wanted = triple(0, operation, position);
         let who_bits = triple(u32::from(u16::MAX), 0, 0);
@@ -28,7 +28,7 @@ impl Whos {
     }
 }
 
-/// The word of a triple.
+/// The word of a triple [rule 2.5].
 pub fn triple(who: u32, operation: u32, position: u32) -> u32 {
     who << 16 | operation << 8 | position
 }

@@ -1,4 +1,4 @@
-//! The operations: their own conditions, rungs 11 to 16, and what each changes.
+//! The operations: their own conditions, rungs 11 to 16, and what each changes [section 6 of the rules].
 
 mod arrange;
 mod change;

@@ -1,9 +1,9 @@
-//! What each operation takes, and whether a request has that form: rung 5.
+//! What each operation takes, and whether a request has that form: rung 5 [rules 5.4, 7.5].
 
 use crate::refusal::Refusal;
 use crate::words::*;
 
-/// What an operand must be.
+/// What an operand must be [rule 5.5].
 #[derive(Clone, Copy, PartialEq, Eq)]
 pub enum Operand {
     Any,
@@ -12,6 +12,21 @@ pub enum Operand {
     Container,
     Draft,
     Device,
+}
+
+impl Operand {
+    /// Whether a present entity is of that kind and type.
+    #[inline]
+    pub fn accepts(self, words: &EntityWords) -> bool {
+        let kind = words[entity::KIND];
+        match self {
+            Operand::Any => true,
+            Operand::Entity => kind == kind::OBJECT || kind == kind::CONTAINER,
+            Operand::Container => kind == kind::CONTAINER,
+            Operand::Draft => kind == kind::CONTAINER && words[entity::TYPE] == sort::DRAFT,
+            Operand::Device => kind == kind::DEVICE,
+        }
+    }
 }
 
 /// The least and the most that an argument can be.
@@ -38,26 +53,26 @@ const ROLE_SET: Span = Span(0, ALL_ROLES);
 
 /// The forms of operations 1 to 20 in their order.
 static FORMS: [Form; OPERATIONS as usize] = [
-    one(Operand::Container, [SORT, LEVEL, UNUSED]),
-    one(Operand::Entity, [UNUSED; 3]),
-    two(Operand::Entity, Operand::Container),
-    one(Operand::Entity, [FREE, UNUSED, UNUSED]),
-    two(Operand::Entity, Operand::Entity),
-    one(Operand::Entity, [LEVEL, UNUSED, UNUSED]),
-    one(Operand::Container, [FLAG, UNUSED, UNUSED]),
-    one(Operand::Any, [WHO, OPERATION, POSITION]),
-    one(Operand::Any, [WHO, OPERATION, POSITION]),
-    one(Operand::Entity, [SUM, UNUSED, UNUSED]),
-    none([UNUSED; 3]),
-    one(Operand::Device, [UNUSED; 3]),
-    none([UNUSED; 3]),
-    none([USER, ROLE_SET, UNUSED]),
-    none([USER, LEVEL, UNUSED]),
-    none([USER, ROLE_SET, UNUSED]),
-    one(Operand::Device, [LEVEL, UNUSED, UNUSED]),
-    one(Operand::Device, [LEVEL, UNUSED, UNUSED]),
-    one(Operand::Draft, [UNUSED; 3]),
-    none([FREE, FREE, UNUSED]),
+    one(Operand::Container, [SORT, LEVEL, UNUSED]),  // create
+    one(Operand::Entity, [UNUSED; 3]),               // delete
+    two(Operand::Entity, Operand::Container),        // move
+    one(Operand::Entity, [FREE, UNUSED, UNUSED]),    // edit
+    two(Operand::Entity, Operand::Entity),           // copy
+    one(Operand::Entity, [LEVEL, UNUSED, UNUSED]),   // level
+    one(Operand::Container, [FLAG, UNUSED, UNUSED]), // mark
+    one(Operand::Any, [WHO, OPERATION, POSITION]),   // grant
+    one(Operand::Any, [WHO, OPERATION, POSITION]),   // revoke
+    one(Operand::Entity, [SUM, UNUSED, UNUSED]),     // show
+    none([UNUSED; 3]),                               // clear
+    one(Operand::Device, [UNUSED; 3]),               // login
+    none([UNUSED; 3]),                               // logout
+    none([USER, ROLE_SET, UNUSED]),                  // current roles
+    none([USER, LEVEL, UNUSED]),                     // clearance
+    none([USER, ROLE_SET, UNUSED]),                  // authorised roles
+    one(Operand::Device, [LEVEL, UNUSED, UNUSED]),   // maximum
+    one(Operand::Device, [LEVEL, UNUSED, UNUSED]),   // device level
+    one(Operand::Draft, [UNUSED; 3]),                // release
+    none([FREE, FREE, UNUSED]),                      // acknowledge
 ];
 
 const fn none(arguments: [Span; 3]) -> Form {

@@ -1,4 +1,4 @@
-//! The refusal ladder from rung 4 up to where the operations have their own conditions.
+//! The refusal ladder from rung 4 up to where the operations have their own conditions [section 7 of the rules].
 
 use crate::access::Whos;
 use crate::effects::{self, Turn};
@@ -24,7 +24,7 @@ pub fn advance<R: Rules>(tables: &mut Tables, request: &Request) -> u32 {
     }
 }
 
-/// Rungs 5 to 16 in order. Each is judged of both operands before the next is judged of either.
+/// Rungs 5 to 16 in order. Each is judged of both operands before the next is judged of either [rule 7.0].
 fn judge<R: Rules>(tables: &mut Tables, requester: User, request: &Request) -> Result<(), Refusal> {
     let form = form::of(request)?;
     let operation = request[request::OPERATION];
@@ -43,26 +43,14 @@ fn judge<R: Rules>(tables: &mut Tables, requester: User, request: &Request) -> R
         |(found, position): (&Found, u32)| whos.allowed(entity_words(tables, found.entity), operation, position);
     Refusal::NoTriple.unless(found.iter().flatten().zip(1..).all(allowed))?;
     Refusal::Marked.unless(!found.iter().flatten().any(|found| found.barred))?;
-    let fits = |(found, operand): (&Found, &Operand)| is_a(entity_words(tables, found.entity), *operand);
+    let fits = |(found, operand): (&Found, &Operand)| operand.accepts(entity_words(tables, found.entity));
     Refusal::WrongKind.unless(found.iter().flatten().zip(form.operands.iter().flatten()).all(fits))?;
 
     let [first, second] = found.map(|found| found.map(|found| found.entity));
     effects::carry_out::<R>(&mut Turn { tables, requester, request }, first, second)
 }
 
-/// Whether an entity is what an operation wants as operand.
-fn is_a(words: &EntityWords, operand: Operand) -> bool {
-    let kind = words[entity::KIND];
-    match operand {
-        Operand::Any => true,
-        Operand::Entity => kind == kind::OBJECT || kind == kind::CONTAINER,
-        Operand::Container => kind == kind::CONTAINER,
-        Operand::Draft => kind == kind::CONTAINER && words[entity::TYPE] == sort::DRAFT,
-        Operand::Device => kind == kind::DEVICE,
-    }
-}
-
-/// Holds the refusal if none is held, and counts it. The count stops at its most.
+/// Holds the refusal if none is held, and counts it. The count stops at its most [rule 8.2].
 fn leave_notice<R: Rules>(words: &mut UserWords, refusal: u32, operation: u32) {
     if words[user::HELD] == 0 || R::NOTICE {
         words[user::HELD] = refusal;

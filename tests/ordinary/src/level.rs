@@ -1,4 +1,4 @@
-//! Levels and how they compare.
+//! Levels and how they compare [rules 1.1, 1.2].
 
 use crate::Rules;
 

@@ -1,7 +1,9 @@
-//! The disclosure list: every reference that a user could show.
+//! The disclosure list: every reference that a user could show [section 10 of the rules].
 
 use crate::access::Whos;
 use crate::effects::may_look;
+use crate::form::Operand;
+use crate::level::Level;
 use crate::reference;
 use crate::refusal::{Refusal, Reply};
 use crate::set::EntitySet;
@@ -104,7 +106,7 @@ impl<'a> Disclosure<'a> {
 /// The user for whom the list is, and the device it would be shown on.
 struct Viewer<'a> {
     whos: Whos,
-    clearance: crate::level::Level,
+    clearance: Level,
     screen: &'a EntityWords,
 }
 
@@ -117,13 +119,12 @@ impl<'a> Viewer<'a> {
         }
     }
 
-    /// Whether show would answer 0 or 14 for the entity, if the way to it is open.
+    /// Whether show would answer 0 or 14 for the entity, if the way to it is open [rule 10.3].
     fn could_show<R: Rules>(&self, words: &EntityWords, entity: Entity) -> bool {
-        let kind = words[entity::KIND];
-        let levels = [words[entity::LEVEL], self.screen[entity::LEVEL]].map(crate::level::Level);
-        (kind == kind::OBJECT || kind == kind::CONTAINER)
+        let (level, device) = (Level(words[entity::LEVEL]), Level(self.screen[entity::LEVEL]));
+        Operand::Entity.accepts(words)
             && self.whos.allowed(words, op::SHOW, 1)
-            && may_look::<R>(levels[0], self.clearance, levels[1])
+            && may_look::<R>(level, self.clearance, device)
             && !(R::SCREEN && is_full(self.screen) && !holds(self.screen, entity))
             && !((R::NAMED || R::MARK) && reference::bars::<R>(words, self.clearance))
     }

@@ -1,4 +1,4 @@
-//! Following a reference name by name: rung 7, and what rung 9 asks of the way.
+//! Following a reference name by name: rung 7, and what rung 9 asks of the way [rules 5.2, 5.3, 7.7, 7.9].
 
 use crate::level::Level;
 use crate::refusal::Refusal;

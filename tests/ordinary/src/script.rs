@@ -1,4 +1,4 @@
-//! The program: a script of requests, and what is reported of each.
+//! The program: a script of requests, and what is reported of each [section 12 of the rules].
 
 use crate::refusal::Refusal;
 use crate::tables::User;

@@ -1,4 +1,4 @@
-//! The request as text: seven lines, each a key and its value.
+//! The request as text: seven lines, each a key and its value [rules 11.1, 11.2].
 
 pub mod read;
 pub mod write;

@@ -1,4 +1,4 @@
-//! Whether well-formed tables are secure.
+//! Whether well-formed tables are secure [section 4 of the rules].
 
 use crate::level::Level;
 use crate::tables::*;
@@ -11,14 +11,15 @@ pub fn holds<R: Rules>(tables: &Tables) -> bool {
         && Entity::all().all(|entity| entity_is_secure::<R>(tables, entity_words(tables, entity)))
 }
 
-/// Current roles are authorised, and the user is cleared for all that the own device shows.
+/// Current roles are authorised, and the user is cleared for all that the own device shows [rules 4.2, 4.4].
 fn user_is_secure<R: Rules>(tables: &Tables, user: User) -> bool {
     let words = user_words(tables, user);
     words[user::CURRENT] & !words[user::AUTHORISED] == 0
         && screen_is_at_most::<R>(tables, user, Level(words[user::CLEARANCE]))
 }
 
-/// Contents are at most the holder's level; a device is at most its maximum, and shows no value without the label.
+/// Contents are at most the holder's level; a device is at most its maximum, and shows no value without the label
+/// [rules 4.1, 4.3, 4.5].
 fn entity_is_secure<R: Rules>(tables: &Tables, words: &EntityWords) -> bool {
     let level = Level(words[entity::LEVEL]);
     contents_are_at_most::<R>(tables, words, level)

@@ -1,4 +1,4 @@
-//! Whether any 2,304 words are well-formed tables.
+//! Whether any 2,304 words are well-formed tables [section 3 of the rules].
 
 use crate::set::EntitySet;
 use crate::tables::*;
@@ -12,7 +12,7 @@ pub fn holds(tables: &Tables) -> bool {
     devices_in_use(tables).map_or(false, |in_use| entities_fit(tables, in_use))
 }
 
-/// The devices that users are on, or none if a user's record is at fault or two users are on one device.
+/// The devices that users are on, or none if a user's record is at fault or two users are on one device [rule 3.16].
 fn devices_in_use(tables: &Tables) -> Option<EntitySet> {
     let mut in_use = EntitySet::default();
     for user in User::all() {
@@ -25,7 +25,7 @@ fn devices_in_use(tables: &Tables) -> Option<EntitySet> {
     Some(in_use)
 }
 
-/// A user's record by itself.
+/// A user's record by itself [rules 3.1, 3.2, 3.17].
 fn user_fits(words: &UserWords) -> bool {
     if words[user::PRESENT] == 0 {
         return all_zero(words);
@@ -40,7 +40,7 @@ fn user_fits(words: &UserWords) -> bool {
         && all_zero(&words[user::SPARE..])
 }
 
-/// Either nothing is held and nothing counted, or a refusal of the ladder is held with its operation.
+/// Either nothing is held and nothing counted, or a refusal of the ladder with its operation [rules 3.19 to 3.21].
 fn notice_fits(words: &UserWords) -> bool {
     let (held, operation, count) = (words[user::HELD], words[user::HELD_OPERATION], words[user::COUNT]);
     if held == 0 {
@@ -66,7 +66,7 @@ fn entities_fit(tables: &Tables, in_use: EntitySet) -> bool {
     census.agrees(in_use)
 }
 
-/// The first eight words of a present entity.
+/// The first eight words of a present entity [rules 3.3, 3.7 to 3.11].
 fn fields_fit(words: &EntityWords) -> bool {
     let kind = words[entity::KIND];
     let (container, device) = (kind == kind::CONTAINER, kind == kind::DEVICE);
@@ -82,7 +82,7 @@ fn fields_fit(words: &EntityWords) -> bool {
         && words[entity::USED] <= if kind == kind::OBJECT { 0 } else { PLACES as u32 }
 }
 
-/// Triples first and no two alike, zeros behind.
+/// Triples first and no two alike, zeros behind [rule 3.5].
 fn triples_fit(words: &[u32]) -> bool {
     let held = words.iter().position(|word| *word == 0).unwrap_or(words.len());
     let (triples, rest) = words.split_at(held);
@@ -94,7 +94,7 @@ fn all_differ(words: &[u32]) -> bool {
     (1..words.len()).all(|place| !words[..place].contains(&words[place]))
 }
 
-/// Who 1 to 24, operation 1 to 20, position 1 or 2.
+/// Who 1 to 24, operation 1 to 20, position 1 or 2 [rule 3.22].
 fn is_triple(word: u32) -> bool {
     let (who, operation, position) = (word >> 16, word >> 8 & 0xff, word & 0xff);
     (1..=WHOS).contains(&who) && (1..=OPERATIONS).contains(&operation) && (1..=POSITIONS).contains(&position)
@@ -125,7 +125,7 @@ impl Default for Census {
 }
 
 impl Census {
-    /// Takes in a present entity whose fields fit, and says whether its places do.
+    /// Takes in a present entity whose fields fit, and says whether its places do [rules 3.4, 3.12].
     fn admit(&mut self, entity: Entity, words: &EntityWords) -> bool {
         let used = words[entity::USED] as usize;
         let (contents, behind) = words[entity::CONTENTS].split_at(used);
@@ -144,7 +144,7 @@ impl Census {
         self.shows(contents) && sums.iter().all(|sum| (1..=shown::ALL).contains(sum))
     }
 
-    /// Notes what stands in a container, unless it is no entity's number or stands in a container already.
+    /// Notes what stands in a container, unless it is no entity's number or stands in a container already [rule 3.13].
     fn put(&mut self, number: u32, container: Entity) -> bool {
         match Entity::new(number) {
             Some(entity) => {
@@ -163,7 +163,8 @@ impl Census {
         fits
     }
 
-    /// What is placed is present and no device, users are on devices, only those show, and containers don't go round.
+    /// What is placed is present and no device, users are on devices, only those show, and containers don't go round
+    /// [rules 3.6, 3.14, 3.15, 3.18].
     fn agrees(&self, in_use: EntitySet) -> bool {
         self.placed.is_within(self.entities)
             && in_use.is_within(self.devices)
@@ -171,12 +172,12 @@ impl Census {
             && self.none_inside_itself()
     }
 
-    /// No container holds itself at any depth. An entity once climbed from is not climbed through again.
+    /// No container holds itself at any depth. What has been climbed through once is not climbed through again.
     fn none_inside_itself(&self) -> bool {
-        let mut outermost = EntitySet::default();
+        let mut known = EntitySet::default();
         for entity in Entity::all() {
-            match self.climb(entity, outermost) {
-                Some(path) => outermost = outermost.and(path),
+            match self.climb(entity, known) {
+                Some(path) => known = known.and(path),
                 None => return false,
             }
         }

@@ -11,7 +11,7 @@ use crate::Rules;
 const SORT_CONTAINER: u32 = 2;
 const SORT_DRAFT: u32 = 3;
 
-/// Makes a new entity in the last place of the container, with the container's triples.
+/// Makes a new entity in the last place of the container, with the container's triples [rule 6.1].
 pub fn create<R: Rules>(turn: &mut Turn, container: Entity) -> Result<(), Refusal> {
     let level = turn.b();
     Refusal::LevelOrRoles.unless(Level(level).at_most::<R>(turn.level_of(container)))?;
@@ -35,7 +35,7 @@ pub fn create<R: Rules>(turn: &mut Turn, container: Entity) -> Result<(), Refusa
     Ok(())
 }
 
-/// Wipes the entity's record and takes it out of its container.
+/// Wipes the entity's record and takes it out of its container [rule 6.2].
 pub fn delete(turn: &mut Turn, entity: Entity) -> Result<(), Refusal> {
     let words = turn.entity(entity);
     let shown = logged_on(turn.tables).any(|(_, device)| holds(turn.entity(device), entity));
@@ -49,7 +49,7 @@ pub fn delete(turn: &mut Turn, entity: Entity) -> Result<(), Refusal> {
     Ok(())
 }
 
-/// Takes the entity out of its container, if it is in one, and puts it last in the other.
+/// Takes the entity out of its container, if it is in one, and puts it last in the other [rule 6.3].
 pub fn relocate<R: Rules>(turn: &mut Turn, entity: Entity, container: Entity) -> Result<(), Refusal> {
     Refusal::LevelOrRoles.unless(turn.level_of(entity).at_most::<R>(turn.level_of(container)))?;
     let target = turn.entity(container);

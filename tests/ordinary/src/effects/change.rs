@@ -8,20 +8,20 @@ use crate::tables::*;
 use crate::words::*;
 use crate::Rules;
 
-/// Sets the entity's value.
+/// Sets the entity's value [rule 6.4].
 pub fn edit(turn: &mut Turn, entity: Entity) -> Result<(), Refusal> {
     turn.entity_mut(entity)[entity::VALUE] = turn.a();
     Ok(())
 }
 
-/// Copies the first entity's value to the second, which must not stand below it.
+/// Copies the first entity's value to the second, which must not stand below it [rule 6.5].
 pub fn copy<R: Rules>(turn: &mut Turn, from: Entity, to: Entity) -> Result<(), Refusal> {
     Refusal::LevelOrRoles.unless(turn.level_of(from).at_most::<R>(turn.level_of(to)))?;
     turn.entity_mut(to)[entity::VALUE] = turn.entity(from)[entity::VALUE];
     Ok(())
 }
 
-/// Sets the entity's level. To lower it needs a downgrader.
+/// Sets the entity's level. To lower it needs a downgrader [rule 6.6].
 pub fn level<R: Rules>(turn: &mut Turn, entity: Entity) -> Result<(), Refusal> {
     let new = Level(turn.a());
     let lowers = new.strictly_below::<R>(turn.level_of(entity));
@@ -46,13 +46,13 @@ fn stays_secure<R: Rules>(tables: &Tables, entity: Entity, new: Level) -> bool {
         && logged_on(tables).all(fits_on)
 }
 
-/// Sets or takes off the container's mark.
+/// Sets or takes off the container's mark [rule 6.7].
 pub fn mark(turn: &mut Turn, container: Entity) -> Result<(), Refusal> {
     turn.entity_mut(container)[entity::MARK] = turn.a();
     Ok(())
 }
 
-/// Sets the device's maximum, which the officer does.
+/// Sets the device's maximum, which the officer does [rule 6.17].
 pub fn maximum<R: Rules>(turn: &mut Turn, device: Entity) -> Result<(), Refusal> {
     let new = Level(turn.a());
     Refusal::RoleMissing.unless(turn.has_role::<R>(role::OFFICER))?;
@@ -61,7 +61,7 @@ pub fn maximum<R: Rules>(turn: &mut Turn, device: Entity) -> Result<(), Refusal>
     Ok(())
 }
 
-/// Sets the device's level. To lower it needs a downgrader, but for the device that the requester is on.
+/// Sets the device's level. To lower it needs a downgrader, but for the device that the requester is on [rule 6.18].
 ///
 /// Of all that makes tables secure, only the device's maximum and what it shows are compared with its level, since no
 /// device stands in a place.
@@ -78,7 +78,7 @@ pub fn device_level<R: Rules>(turn: &mut Turn, device: Entity) -> Result<(), Ref
     Ok(())
 }
 
-/// Releases the draft in the requester's name, which a releaser does.
+/// Releases the draft in the requester's name, which a releaser does [rule 6.19].
 pub fn release<R: Rules>(turn: &mut Turn, draft: Entity) -> Result<(), Refusal> {
     Refusal::RoleMissing.unless(turn.has_role::<R>(role::RELEASER))?;
     let releaser = turn.requester.number();

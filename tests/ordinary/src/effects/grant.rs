@@ -6,7 +6,7 @@ use crate::refusal::Refusal;
 use crate::tables::Entity;
 use crate::words::entity;
 
-/// Puts the triple behind those the entity holds, unless it is among them.
+/// Puts the triple behind those the entity holds, unless it is among them [rule 6.8].
 pub fn grant(turn: &mut Turn, entity: Entity) -> Result<(), Refusal> {
     let new = asked(turn);
     let triples = &mut turn.entity_mut(entity)[entity::TRIPLES];
@@ -19,7 +19,7 @@ pub fn grant(turn: &mut Turn, entity: Entity) -> Result<(), Refusal> {
     Ok(())
 }
 
-/// Takes the triple away, if the entity holds it, and those behind it move up.
+/// Takes the triple away, if the entity holds it, and those behind it move up [rule 6.9].
 pub fn revoke(turn: &mut Turn, entity: Entity) -> Result<(), Refusal> {
     let old = asked(turn);
     let triples = &mut turn.entity_mut(entity)[entity::TRIPLES];

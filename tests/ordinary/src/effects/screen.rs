@@ -8,7 +8,7 @@ use crate::tables::*;
 use crate::words::*;
 use crate::Rules;
 
-/// Shows the entity on the requester's device, or, where it is shown already, sets how much of it.
+/// Shows the entity on the requester's device, or, where it is shown already, sets how much of it [rule 6.10].
 pub fn show<R: Rules>(turn: &mut Turn, entity: Entity) -> Result<(), Refusal> {
     let device = turn.own_device();
     let level = turn.level_of(entity);
@@ -35,7 +35,7 @@ pub fn may_look<R: Rules>(level: Level, clearance: Level, device: Level) -> bool
     level.at_most::<R>(clearance) && level.at_most::<R>(device)
 }
 
-/// Empties the requester's device.
+/// Empties the requester's device [rule 6.11].
 pub fn clear(turn: &mut Turn) -> Result<(), Refusal> {
     let screen = turn.entity_mut(turn.own_device());
     screen[entity::USED] = 0;
@@ -44,7 +44,7 @@ pub fn clear(turn: &mut Turn) -> Result<(), Refusal> {
     Ok(())
 }
 
-/// Logs the requester on to the device, which must be free, as the requester must be.
+/// Logs the requester on to the device, which must be free, as the requester must be [rule 6.12].
 pub fn login(turn: &mut Turn, device: Entity) -> Result<(), Refusal> {
     let on_or_taken = |(user, taken): (User, Entity)| user == turn.requester || taken == device;
     Refusal::Arrangement.unless(!logged_on(turn.tables).any(on_or_taken))?;
@@ -52,7 +52,7 @@ pub fn login(turn: &mut Turn, device: Entity) -> Result<(), Refusal> {
     Ok(())
 }
 
-/// Empties the requester's device and logs the requester off, without roles.
+/// Empties the requester's device and logs the requester off, without roles [rule 6.13].
 pub fn logout(turn: &mut Turn) -> Result<(), Refusal> {
     clear(turn)?;
     let words = turn.user_mut(turn.requester);

@@ -8,7 +8,7 @@ use crate::tables::*;
 use crate::words::*;
 use crate::Rules;
 
-/// Sets user a's current roles. For another user only the officer does so.
+/// Sets user a's current roles. For another user only the officer does so [rule 6.14].
 pub fn current_roles<R: Rules>(turn: &mut Turn) -> Result<(), Refusal> {
     let user = user_a(turn)?;
     let roles = turn.b();
@@ -20,7 +20,7 @@ pub fn current_roles<R: Rules>(turn: &mut Turn) -> Result<(), Refusal> {
     Ok(())
 }
 
-/// Sets user a's clearance, which the officer does.
+/// Sets user a's clearance, which the officer does [rule 6.15].
 ///
 /// Of all that makes tables secure, only what the user's own device shows is compared with the clearance.
 pub fn clearance<R: Rules>(turn: &mut Turn) -> Result<(), Refusal> {
@@ -32,7 +32,7 @@ pub fn clearance<R: Rules>(turn: &mut Turn) -> Result<(), Refusal> {
     Ok(())
 }
 
-/// Sets user a's authorised roles, which the officer does.
+/// Sets user a's authorised roles, which the officer does [rule 6.16].
 pub fn authorised_roles<R: Rules>(turn: &mut Turn) -> Result<(), Refusal> {
     let user = user_a(turn)?;
     let roles = turn.b();
@@ -43,7 +43,7 @@ pub fn authorised_roles<R: Rules>(turn: &mut Turn) -> Result<(), Refusal> {
     Ok(())
 }
 
-/// Wipes the requester's notice, if the arguments tell what is held and how many were counted.
+/// Wipes the requester's notice, if the arguments tell what is held and how many were counted [rule 6.20].
 pub fn acknowledge(turn: &mut Turn) -> Result<(), Refusal> {
     let (held, count) = (turn.a(), turn.b());
     let words = turn.user_mut(turn.requester);

@@ -1,4 +1,4 @@
-//! Reading a request's text.
+//! Reading a request's text [rule 11.4].
 
 use super::{Value, BASE, DOT, END_OF_LINE, LINES, ZERO};
 use crate::refusal::{Refusal, Reply};

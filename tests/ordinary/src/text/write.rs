@@ -1,4 +1,4 @@
-//! Writing a request's text.
+//! Writing a request's text [rule 11.3].
 
 use super::{Value, BASE, DOT, END_OF_LINE, LINES, ZERO};
 use crate::form::no_names_behind;
