@@ -113,14 +113,15 @@ impl Contest {
         format!("{} {}", self.call.name(), self.kind.name())
     }
 
-    /// Its load, which follows from the seed: its tables have all passed the check. Else what is wrong.
-    pub fn load(&self, seed: u64) -> Result<Load, String> {
+    /// Its load of so many tables, which follow from the seed and have all passed the check. Else what is wrong. A smaller load is the
+    /// beginning of a larger one.
+    pub fn load(&self, seed: u64, tables: usize) -> Result<Load, String> {
         let mut dice = self.kind.dice(seed);
         let load = match self.call {
-            Call::Check => self.check_load(&mut dice),
-            Call::List => self.list_load(&mut dice),
-            Call::Step | Call::Advance => self.request_load(&mut dice),
-            Call::Read | Call::Write => self.text_load(&mut dice),
+            Call::Check => self.check_load(&mut dice, tables),
+            Call::List => self.list_load(&mut dice, tables),
+            Call::Step | Call::Advance => self.request_load(&mut dice, tables),
+            Call::Read | Call::Write => self.text_load(&mut dice, tables),
         };
         match load.tables.iter().all(|tables| (PROVED.check)(tables) == 0) {
             true => Ok(load),
@@ -128,12 +129,12 @@ impl Contest {
         }
     }
 
-    fn check_load(&self, dice: &mut Dice) -> Load {
-        self.maker().map_or_else(tables::check_s1, |make| tables::check(dice, make))
+    fn check_load(&self, dice: &mut Dice, tables: usize) -> Load {
+        self.maker().map_or_else(tables::check_s1, |make| tables::check(dice, tables, make))
     }
 
-    fn list_load(&self, dice: &mut Dice) -> Load {
-        self.maker().map_or_else(tables::list_s1, |make| tables::list(dice, make))
+    fn list_load(&self, dice: &mut Dice, tables: usize) -> Load {
+        self.maker().map_or_else(tables::list_s1, |make| tables::list(dice, tables, make))
     }
 
     /// What makes its tables; none where they are S1.
@@ -146,19 +147,19 @@ impl Contest {
         }
     }
 
-    fn request_load(&self, dice: &mut Dice) -> Load {
+    fn request_load(&self, dice: &mut Dice, tables: usize) -> Load {
         let wanted = match self.kind {
             Kind::Operation(number) => Wanted { operations: number..=number, of_each: 4, open: 0 },
             _ => Wanted { operations: 1..=OPERATIONS, of_each: 3, open: 6 },
         };
-        requests::prepare(dice, wanted)
+        requests::prepare(dice, tables, wanted)
     }
 
-    fn text_load(&self, dice: &mut Dice) -> Load {
+    fn text_load(&self, dice: &mut Dice, tables: usize) -> Load {
         match self.kind {
-            Kind::Short => texts::prepare_short(dice),
-            Kind::Longest => texts::prepare_longest(dice),
-            _ => texts::prepare_mixed(dice),
+            Kind::Short => texts::prepare_short(dice, tables),
+            Kind::Longest => texts::prepare_longest(dice, tables),
+            _ => texts::prepare_mixed(dice, tables),
         }
     }
 }

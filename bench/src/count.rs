@@ -3,13 +3,15 @@ use crate::contest::Contest;
 use crate::load::Rooms;
 use crate::side::{Outcome, Side};
 
+/// How many tables a load has: fewer than when it is timed, since finding it takes more instructions than its calls do.
+pub const TABLES: usize = 10;
 /// How many passes there are tables for.
 const PASSES: usize = 2;
 
 /// Makes so many calls, of two passes at most, and gives the sum of their outcomes; else says what is wrong. The tables of both passes are
 /// there before the first call, however many are made.
 pub fn count(contest: &Contest, side: &Side, calls: usize, seed: u64) -> Result<Outcome, String> {
-    let load = contest.load(seed)?;
+    let load = contest.load(seed, TABLES)?;
     let in_a_pass = load.calls(contest.call);
     if calls > PASSES * in_a_pass {
         return Err(format!("{}: there are {} calls at most", contest.name(), PASSES * in_a_pass));

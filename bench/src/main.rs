@@ -18,7 +18,7 @@ use std::{env, process};
 
 const USAGE: &str = "usage:
   bench time SEED REPETITIONS               both sides timed on the same loads, as a table
-  bench contests [SEED]                     the calls, their loads and the number of calls in each
+  bench contests [SEED]                     the calls, their loads, and how many calls there are to count
   bench count CALL LOAD SIDE CALLS [SEED]   so many calls of one side (proved or ordinary) and nothing else";
 /// The seed where none is given.
 const SEED: u64 = 1;
@@ -56,10 +56,10 @@ fn time(seed: u64, repetitions: u32) -> Result<(), Stop> {
     Ok(())
 }
 
-/// One line for each contest: call, load and the calls of a pass.
+/// One line for each contest: call, load and the calls of a pass when they are counted.
 fn contests(seed: u64) -> Result<(), Stop> {
     for contest in contest::all() {
-        println!("{} {}", contest.name(), contest.load(seed)?.calls(contest.call));
+        println!("{} {}", contest.name(), contest.load(seed, count::TABLES)?.calls(contest.call));
     }
     Ok(())
 }

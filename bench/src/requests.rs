@@ -6,8 +6,6 @@ use generate::Dice;
 use ordinary::Right;
 use std::ops::RangeInclusive;
 
-/// How many tables a load has.
-pub const TABLES: usize = 50;
 /// Throws for a request that is answered as wished; where none of them is, the last is taken.
 const THROWS: u32 = 50;
 
@@ -58,17 +56,17 @@ fn find(dice: &mut Dice, tables: &[u32], wishes: &[Wish], mut open: usize) -> Op
     Some(requests)
 }
 
-/// Tables with such requests for each.
-pub fn prepare(dice: &mut Dice, wanted: Wanted) -> Load {
+/// So many tables, with such requests for each.
+pub fn prepare(dice: &mut Dice, tables: usize, wanted: Wanted) -> Load {
     let both = |operation| [true, false].map(|accepted| Wish { operation, accepted });
     let wishes = wanted.operations.flat_map(both).collect::<Vec<_>>().repeat(wanted.of_each);
     let mut load = Load::default();
-    while load.tables.len() < TABLES {
-        let tables = generate::tables(dice);
-        if let Some(requests) = find(dice, &tables, &wishes, wanted.open) {
+    while load.tables.len() < tables {
+        let next = generate::tables(dice);
+        if let Some(requests) = find(dice, &next, &wishes, wanted.open) {
             load.places.extend(requests.iter().map(|_| load.tables.len()));
             load.requests.extend(requests);
-            load.tables.push(tables);
+            load.tables.push(next);
         }
     }
     load

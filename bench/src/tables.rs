@@ -1,6 +1,5 @@
 //! Tables for the check and for the list, with who asks for a list.
 use crate::load::Load;
-use crate::requests::TABLES;
 use generate::layout::{user, user_base, USERS};
 use generate::Dice;
 
@@ -21,11 +20,10 @@ pub fn check_s1() -> Load {
     Load { tables: vec![generate::s1()], places: vec![0; CALLS_OF_ONE], ..Load::default() }
 }
 
-/// Checks of tables made by dice.
-pub fn check(dice: &mut Dice, make: Maker) -> Load {
-    let tables = (0..TABLES).map(|_| make(dice)).collect();
-    let places = (0..TABLES).flat_map(|place| [place; CHECKS_OF_EACH]).collect();
-    Load { tables, places, ..Load::default() }
+/// Checks of so many tables made by dice.
+pub fn check(dice: &mut Dice, tables: usize, make: Maker) -> Load {
+    let places = (0..tables).flat_map(|place| [place; CHECKS_OF_EACH]).collect();
+    Load { tables: (0..tables).map(|_| make(dice)).collect(), places, ..Load::default() }
 }
 
 /// Lists of S1 alone.
@@ -38,16 +36,16 @@ fn users_on(tables: &[u32]) -> Vec<u32> {
     (1..=USERS).filter(|&number| tables[user_base(number) + user::DEVICE] != 0).collect()
 }
 
-/// Lists of tables made by dice, for users who are on; tables with nobody on are left aside.
-pub fn list(dice: &mut Dice, make: Maker) -> Load {
+/// Lists of so many tables made by dice, for users who are on; tables with nobody on are left aside.
+pub fn list(dice: &mut Dice, tables: usize, make: Maker) -> Load {
     let mut load = Load::default();
-    while load.tables.len() < TABLES {
-        let tables = make(dice);
-        let on = users_on(&tables);
+    while load.tables.len() < tables {
+        let next = make(dice);
+        let on = users_on(&next);
         if !on.is_empty() {
             load.places.extend([load.tables.len(); LISTS_OF_EACH]);
             load.users.extend((0..LISTS_OF_EACH).map(|_| dice.one_of(&on)));
-            load.tables.push(tables);
+            load.tables.push(next);
         }
     }
     load

@@ -1,13 +1,12 @@
 //! Requests to write and their texts to read.
 use crate::load::{Load, Request, LONGEST_TEXT};
-use crate::requests::TABLES;
 use generate::layout::answer::ACCEPTED;
 use generate::layout::{asked, operation, shown, NAMES, REQUEST_WORDS};
 use generate::Dice;
 use ordinary::Right;
 
-/// Texts of one kind in a load.
-const TEXTS: usize = 6000;
+/// Texts for each of the tables that the load would have if it had any.
+const TEXTS_OF_EACH: usize = 120;
 /// The smallest number of ten digits, as many as a number of 32 bits can have.
 const TEN_DIGITS: u32 = 1_000_000_000;
 
@@ -49,22 +48,22 @@ fn prepare(requests: Vec<Request>) -> Load {
 }
 
 /// Texts of 39 bytes, as many as S1's request to show 4.1 has.
-pub fn prepare_short(dice: &mut Dice) -> Load {
-    prepare((0..TEXTS).map(|_| short(dice)).collect())
+pub fn prepare_short(dice: &mut Dice, tables: usize) -> Load {
+    prepare((0..tables * TEXTS_OF_EACH).map(|_| short(dice)).collect())
 }
 
 /// Texts as long as there are any.
-pub fn prepare_longest(dice: &mut Dice) -> Load {
-    prepare((0..TEXTS).map(|_| longest(dice)).collect())
+pub fn prepare_longest(dice: &mut Dice, tables: usize) -> Load {
+    prepare((0..tables * TEXTS_OF_EACH).map(|_| longest(dice)).collect())
 }
 
 /// Texts of requests of all operations, each thrown with some tables in view.
-pub fn prepare_mixed(dice: &mut Dice) -> Load {
+pub fn prepare_mixed(dice: &mut Dice, tables: usize) -> Load {
     let of_tables = |_| {
         let tables = generate::tables(dice);
-        (0..TEXTS / TABLES).map(|_| generate::request(dice, &tables)).collect::<Vec<_>>()
+        (0..TEXTS_OF_EACH).map(|_| generate::request(dice, &tables)).collect::<Vec<_>>()
     };
-    prepare((0..TABLES).flat_map(of_tables).collect())
+    prepare((0..tables).flat_map(of_tables).collect())
 }
 
 #[cfg(test)]
@@ -74,8 +73,9 @@ mod tests {
     #[test]
     fn texts_are_as_long_as_they_are_said_to_be() {
         let mut dice = Dice::new(1);
-        assert!(prepare_short(&mut dice).texts.iter().all(|text| text.len() == 39));
-        assert!(prepare_longest(&mut dice).texts.iter().all(|text| text.len() == LONGEST_TEXT));
-        assert_eq!(prepare_longest(&mut dice).texts.len(), TEXTS);
+        let (short, longest) = (prepare_short(&mut dice, 2), prepare_longest(&mut dice, 2));
+        assert_eq!((short.texts.len(), longest.texts.len()), (2 * TEXTS_OF_EACH, 2 * TEXTS_OF_EACH));
+        assert!(short.texts.iter().all(|text| text.len() == 39));
+        assert!(longest.texts.iter().all(|text| text.len() == LONGEST_TEXT));
     }
 }

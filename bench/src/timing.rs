@@ -6,6 +6,8 @@ use crate::load::{Call, Load, Rooms};
 use crate::side::{Outcome, Side, ORDINARY, SIDES};
 use std::time::{Duration, Instant};
 
+/// How many tables a load has.
+const TABLES: usize = 50;
 /// A repetition of either side takes this long or longer, so that reading the clock does not matter.
 pub const LEAST: Duration = Duration::from_millis(2);
 
@@ -93,7 +95,7 @@ fn pair(bout: &mut Bout, agreed: &Agreed, proved_first: bool) -> Option<([f64; 2
 /// Times a contest; else says what is wrong. One contest is finished before the next begins: coming back to it each time would let whoever is
 /// first pay for bringing its load into the caches.
 pub fn time(contest: Contest, seed: u64, repetitions: u32) -> Result<Report, String> {
-    let load = contest.load(seed)?;
+    let load = contest.load(seed, TABLES)?;
     let agreed = agree(&contest, &load)?;
     let mut bout = Bout::new(contest.call, &load);
     let mut pairs = Vec::new();
@@ -117,7 +119,7 @@ pub fn time(contest: Contest, seed: u64, repetitions: u32) -> Result<Report, Str
 
 /// What the loop around the calls and the call through a pointer take, for requests to the step: it is in the figures of both sides.
 pub fn around(contest: Contest, seed: u64, repetitions: u32) -> Result<Spread, String> {
-    let load = contest.load(seed)?;
+    let load = contest.load(seed, TABLES)?;
     let mut bout = Bout::new(contest.call, &load);
     let one = |_| {
         let done = bout.repetition(&IDLE);
