@@ -1,43 +1,34 @@
 //! One call to both desks, and whether each did what the slow texts say, and nothing else.
 
 use generate::layout::{answer, REQUEST_WORDS};
-use ordinary::{Desk, Reply};
+use mms::words::{self, Answer};
+use ordinary::Reply;
 
 use super::slow;
-use crate::guarded::Guarded;
-
-/// Who is asked.
-#[derive(Clone, Copy)]
-pub enum Side<'a> {
-    Ordinary(&'a (dyn Desk + Sync)),
-    Proved,
-}
+use crate::guarded::{Filler, Guarded};
+use crate::side::Side;
 
 impl Side<'_> {
-    fn name(self) -> &'static str {
-        match self {
-            Side::Ordinary(_) => "ordinary",
-            Side::Proved => "proved",
-        }
-    }
-
+    /// The text of a request.
     fn write(self, request: &[u32], room: &mut [u8]) -> Reply {
         match self {
             Side::Ordinary(desk) => desk.write(request, room),
-            Side::Proved => reply(mms::words::write(request, room)),
+            Side::Proved => reply(words::write(request, room)),
         }
     }
 
+    /// The words of a text.
     fn read(self, text: &[u8], request: &mut [u32]) -> Reply {
         match self {
             Side::Ordinary(desk) => desk.read(text, request),
-            Side::Proved => reply(mms::words::read(text, request)),
+            Side::Proved => reply(words::read(text, request)),
         }
     }
 }
 
-fn reply(proved: mms::words::Answer) -> Reply {
-    Reply { answer: proved.no, number: proved.number }
+/// What the proved desk answered, as the other one puts it.
+fn reply(Answer { no, number }: Answer) -> Reply {
+    Reply { answer: no, number }
 }
 
 /// What a desk was found to do otherwise.
@@ -80,15 +71,16 @@ impl Writing<'_> {
             let mut room = Guarded::room(self.room);
             let got = side.write(&words.lent()[..self.count], room.lent());
             if got != expected || !words.holds(self.words) || !begins_with(&room, &text) {
-                return Err(self.difference(*side, expected, got));
+                let left = format!("in the room: \"{}\"", room.words().escape_ascii());
+                return Err(difference("write", *side, expected, got, &self.told(), &left));
             }
         }
         Ok(expected)
     }
 
-    fn difference(&self, side: Side, expected: Reply, got: Reply) -> Difference {
-        let case = format!("room of {} bytes, {} of the words {:?}", self.room, self.count, self.words);
-        difference("write", side, expected, got, &case)
+    /// What was lent, in words.
+    fn told(&self) -> String {
+        format!("room of {} bytes, {} of the words {:?}", self.room, self.count, self.words)
     }
 }
 
@@ -120,29 +112,33 @@ impl Reading<'_> {
             let mut room = Guarded::room(self.count);
             let got = side.read(&bytes.lent()[..self.text.len()], room.lent());
             if got != expected || !bytes.holds(&whole) || !begins_with(&room, &words) {
-                return Err(self.difference(*side, expected, got));
+                let left = format!("in the words: {:?}", room.words());
+                return Err(difference("read", *side, expected, got, &self.told(), &left));
             }
         }
         Ok(expected)
     }
 
-    fn difference(&self, side: Side, expected: Reply, got: Reply) -> Difference {
-        let case = format!("{} words for the text \"{}\"", self.count, self.text.escape_ascii());
-        difference("read", side, expected, got, &case)
+    /// What was lent, in words.
+    fn told(&self) -> String {
+        format!("{} words for the text \"{}\"", self.count, self.text.escape_ascii())
     }
 }
 
 /// Does this stand at the front of a room, and nothing new behind it or around it?
-fn begins_with<T: crate::guarded::Filler>(room: &Guarded<T>, front: &[T]) -> bool {
+fn begins_with<T: Filler>(room: &Guarded<T>, front: &[T]) -> bool {
     room.words()[..front.len()] == *front && room.untouched_from(front.len())
 }
 
-fn difference(call: &str, side: Side, expected: Reply, got: Reply, case: &str) -> Difference {
+/// The report on a side that replied, or left what it was lent, otherwise than expected.
+fn difference(call: &str, side: Side, expected: Reply, got: Reply, case: &str, left: &str) -> Difference {
     let what = if got == expected {
         "the right answer, but what was lent holds something else than it must".to_string()
     } else {
-        format!("answer {} (number {})", got.answer, got.number)
+        format!(
+            "answer {} (number {}) instead of {} (number {})",
+            got.answer, got.number, expected.answer, expected.number
+        )
     };
-    let details = format!("{} instead of answer {} (number {})\n  {}", what, expected.answer, expected.number, case);
-    Difference { place: format!("{}, {}", side.name(), call), details }
+    Difference { place: format!("{}, {}", side.name(), call), details: format!("{}\n  {}\n  {}", what, case, left) }
 }

@@ -79,6 +79,7 @@ fn name_behind(dice: &mut Dice, words: &mut Words, at: usize) {
     words[at + name as usize] = not_zero(dice);
 }
 
+/// Any number but 0.
 fn not_zero(dice: &mut Dice) -> u32 {
     match number(dice) {
         0 => 1 << dice.below(u32::BITS),

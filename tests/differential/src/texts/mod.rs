@@ -10,10 +10,10 @@ mod tally;
 
 use generate::layout::REQUEST_WORDS;
 use generate::{dice_for, Dice};
-use ordinary::Desk;
 
 use crate::outcome::{Out, Outcome};
-use call::{Difference, Reading, Side, Writing};
+use crate::side::{ByHand, Side};
+use call::{Difference, Reading, Writing};
 use tally::Tally;
 
 /// Rooms of every length up to this are written to; it is some bytes more than the longest text has.
@@ -28,27 +28,26 @@ const LENGTH_STRIDE: usize = 16;
 const MOST_REPORTS: u64 = 5;
 
 /// Compares so many rounds, and says what was reached and what differed.
-pub fn run(seed: u64, rounds: u64, desk: &(dyn Desk + Sync), out: Out) -> Outcome {
+pub fn run(seed: u64, rounds: u64, desk: ByHand, out: Out) -> Outcome {
     let mut outcome = Outcome::default();
     let mut tally = Tally::new();
+    let mut done = 0;
     let sides = [Side::Ordinary(desk), Side::Proved];
     out.line(format_args!("texts: seed {}, {} rounds", seed, rounds));
-    for number in 1..=rounds {
-        let mut round = Round { seed, number, dice: dice_for(seed, number), sides, tally: &mut tally };
+    while done < rounds && outcome.differences < MOST_REPORTS {
+        done += 1;
+        let mut round = Round { seed, number: done, dice: dice_for(seed, done), sides, tally: &mut tally };
         if let Err(difference) = round.compare() {
-            out.line(format_args!("difference in round {}: {}: {}", number, difference.place, difference.details));
-            out.line(format_args!("  again: differential texts {} {}, the last round", seed, number));
-            outcome.first.get_or_insert_with(|| format!("round {}: {}", number, difference.place));
+            out.line(format_args!("difference in round {}: {}: {}", done, difference.place, difference.details));
+            out.line(format_args!("  again: differential texts {} {}, the last round", seed, done));
+            outcome.first.get_or_insert_with(|| format!("round {}: {}", done, difference.place));
             outcome.differences += 1;
-        }
-        if outcome.differences == MOST_REPORTS {
-            break;
         }
     }
     outcome.amiss = tally.print(out);
     out.line(format_args!(
         "{} rounds, {} lines and answers not reached, {} differences",
-        rounds, outcome.amiss, outcome.differences
+        done, outcome.amiss, outcome.differences
     ));
     outcome
 }
@@ -81,19 +80,28 @@ impl Round<'_> {
         };
         let text = slow::write(&words).expect("these words have a text");
         assert_eq!(slow::read(&text), Ok(words), "words come back from their text");
-        self.compare_writers(&words)?;
+        self.compare_rooms(&words)?;
+        self.compare_bad_words()?;
+        self.compare_counts(&words)?;
         self.compare_readers(&text)
     }
 
-    /// Words with a text in rooms of every length, words without one in some, and slices that are too short or too long.
-    fn compare_writers(&mut self, words: &cases::Words) -> Result<(), Difference> {
-        for room in 0..=MOST_ROOM {
-            self.write(words, REQUEST_WORDS, room)?;
-        }
+    /// Words with a text, in rooms of every length.
+    fn compare_rooms(&mut self, words: &cases::Words) -> Result<(), Difference> {
+        (0..=MOST_ROOM).try_for_each(|room| self.write(words, REQUEST_WORDS, room))
+    }
+
+    /// Words without one, in rooms of some lengths: 5 comes before 17.
+    fn compare_bad_words(&mut self) -> Result<(), Difference> {
         for room in (0..=MOST_ROOM).step_by(ROOM_STRIDE) {
             let bad = cases::bad(&mut self.dice);
             self.write(&bad, REQUEST_WORDS, room)?;
         }
+        Ok(())
+    }
+
+    /// Slices that are too short or too long, in rooms that are long enough or hardly so: 1 comes before 17.
+    fn compare_counts(&mut self, words: &cases::Words) -> Result<(), Difference> {
         let mut more = [0; MOST_WORDS];
         more[..REQUEST_WORDS].copy_from_slice(words);
         for count in 0..=MOST_WORDS {
@@ -136,13 +144,14 @@ impl Round<'_> {
         self.write(&words, REQUEST_WORDS, text.len())
     }
 
+    /// The first so many of the words go to both writers, with a room of this length.
     fn write(&mut self, words: &[u32], count: usize, room: usize) -> Result<(), Difference> {
         let reply = Writing { words, count, room }.compare(&self.sides)?;
         self.tally.wrote(reply.answer);
         Ok(())
     }
 
-    /// The first bad line, 0 where there is none.
+    /// A text goes to both readers, with so many words to fill; the first bad line is returned, 0 where there is none.
     fn read(&mut self, text: &[u8], behind: &[u8], count: usize) -> Result<usize, Difference> {
         let reply = Reading { text, behind, count }.compare(&self.sides)?;
         self.tally.read(reply.answer);

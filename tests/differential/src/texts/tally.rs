@@ -13,23 +13,26 @@ const OF_READER: [u32; 3] = [answer::ACCEPTED, answer::BAD_LENGTH, answer::NO_RE
 /// Counts by the line that is bad, 1 to 8; 0 is for a request text.
 type Lines = [u64; BEHIND + 1];
 
+/// Counts of answers, and of bad lines by the damage that led to them.
 #[derive(Default)]
 pub struct Tally {
     written: [u64; answer::NO_REQUEST as usize + 1],
     read: [u64; answer::NO_REQUEST as usize + 1],
-    /// By the damage done.
     lines: Vec<Lines>,
 }
 
 impl Tally {
+    /// Nothing is reached yet.
     pub fn new() -> Tally {
         Tally { lines: damage::all().map(|_| Lines::default()).collect(), ..Tally::default() }
     }
 
+    /// A writer gave this answer.
     pub fn wrote(&mut self, answer: u32) {
         self.written[answer as usize] += 1;
     }
 
+    /// A reader gave this answer.
     pub fn read(&mut self, answer: u32) {
         self.read[answer as usize] += 1;
     }
@@ -60,6 +63,7 @@ impl Tally {
     }
 }
 
+/// The counts of one damage.
 fn print_row(out: Out, name: &str, counts: &Lines) {
     let lines: String = counts[1..].iter().map(|count| format!("{:9}", count)).collect();
     out.line(format_args!("{:18}{:10}{}", name, counts[0], lines));

@@ -7,30 +7,37 @@ use crate::texts::edit::any_byte;
 /// Random texts are up to some twice as long as the longest that can be read.
 const MOST_RANDOM: u32 = 350;
 
+/// The byte is missing.
 pub fn drop(_: &mut Dice, text: &mut Vec<u8>, at: usize) {
     text.remove(at);
 }
 
+/// The byte stands there twice.
 pub fn double(_: &mut Dice, text: &mut Vec<u8>, at: usize) {
     text.insert(at, text[at]);
 }
 
+/// Another byte stands in its place.
 pub fn change(dice: &mut Dice, text: &mut Vec<u8>, at: usize) {
     text[at] = any_byte(dice);
 }
 
+/// One of its bits is turned.
 pub fn change_bit(dice: &mut Dice, text: &mut Vec<u8>, at: usize) {
     text[at] ^= 1 << dice.below(u8::BITS);
 }
 
+/// Any byte stands before it.
 pub fn insert(dice: &mut Dice, text: &mut Vec<u8>, at: usize) {
     text.insert(at, any_byte(dice));
 }
 
+/// A NUL byte stands before it, where a reader of C strings would stop.
 pub fn insert_nul(_: &mut Dice, text: &mut Vec<u8>, at: usize) {
     text.insert(at, 0);
 }
 
+/// The text ends before it.
 pub fn cut(_: &mut Dice, text: &mut Vec<u8>, at: usize) {
     text.truncate(at);
 }

@@ -7,7 +7,7 @@ use crate::texts::edit::{any_byte, line_at, replace};
 const KEYS: [&str; 15] =
     ["user", "op", "ref", "ref2", "a", "b", "c", "ref1", "ref3", "", "us", "users", "d", "=", "ref2=ref"];
 
-/// With another line of the text, or with itself. A last line without LF stays.
+/// The line changes places with another, or with itself. A last line without LF stays.
 pub fn swap(dice: &mut Dice, text: &mut Vec<u8>, at: usize) {
     let other = dice.below(text.len() as u32) as usize;
     let (first, second) = (line_at(text, at.min(other)), line_at(text, at.max(other)));
@@ -19,25 +19,30 @@ pub fn swap(dice: &mut Dice, text: &mut Vec<u8>, at: usize) {
     replace(text, first.start..second.end + 1, &swapped);
 }
 
+/// The line stands there twice.
 pub fn double(_: &mut Dice, text: &mut Vec<u8>, at: usize) {
     let line = line_at(text, at);
     let again = [&text[line.start..line.end], b"\n"].concat();
     replace(text, line.start..line.start, &again);
 }
 
+/// The line is missing.
 pub fn drop(_: &mut Dice, text: &mut Vec<u8>, at: usize) {
     let line = line_at(text, at);
     text.drain(line.start..(line.end + 1).min(text.len()));
 }
 
+/// An empty line stands before it.
 pub fn blank(_: &mut Dice, text: &mut Vec<u8>, at: usize) {
     text.insert(line_at(text, at).start, b'\n');
 }
 
+/// The line ends with CR LF.
 pub fn cr(_: &mut Dice, text: &mut Vec<u8>, at: usize) {
     text.insert(line_at(text, at).end, b'\r');
 }
 
+/// Every line ends with CR LF.
 pub fn cr_in_all(_: &mut Dice, text: &mut Vec<u8>, _: usize) {
     *text = text.split(|byte| *byte == b'\n').collect::<Vec<_>>().join(&b"\r\n"[..]);
 }
@@ -55,12 +60,13 @@ pub fn no_equals(dice: &mut Dice, text: &mut Vec<u8>, at: usize) {
     }
 }
 
+/// The line has the key of another, or one that no line has.
 pub fn other_key(dice: &mut Dice, text: &mut Vec<u8>, at: usize) {
     let line = line_at(text, at);
     replace(text, line.start..line.equals, dice.one_of(&KEYS).as_bytes());
 }
 
-/// One letter of the key is large.
+/// One letter of the key is a capital.
 pub fn other_case(dice: &mut Dice, text: &mut Vec<u8>, at: usize) {
     let line = line_at(text, at);
     if line.equals > line.start {
@@ -68,7 +74,7 @@ pub fn other_case(dice: &mut Dice, text: &mut Vec<u8>, at: usize) {
     }
 }
 
-/// Before the key, around the sign or behind the value.
+/// A space or a tab stands before the key, beside the sign or behind the value.
 pub fn space(dice: &mut Dice, text: &mut Vec<u8>, at: usize) {
     let line = line_at(text, at);
     let place = dice.one_of(&[line.start, line.equals, line.value(), line.end]);

@@ -49,37 +49,45 @@ const MANY_NAMES: [&str; 8] = [
 const EMPTY_NAMES: [&str; 12] =
     ["1..2", ".1", "1.", ".", "..", "...", "1.2..", "1...2", ".1.2.3", "1.2.3.", "1..2.3", ""];
 
+/// Zeros stand before the number, mostly one.
 pub fn leading_zeros(dice: &mut Dice, text: &mut Vec<u8>, at: usize) {
     let start = number_at(text, at).start;
     let zeros = if dice.chance(70) { 1 } else { dice.between(1, ZEROS.len() as u32) };
     replace(text, start..start, &ZEROS[..zeros as usize]);
 }
 
+/// The number is one of the largest, or too large.
 pub fn large(dice: &mut Dice, text: &mut Vec<u8>, at: usize) {
     change_number(text, at, dice.one_of(&LARGE));
 }
 
+/// What stands there is no number, or no whole one.
 pub fn no_number(dice: &mut Dice, text: &mut Vec<u8>, at: usize) {
     change_number(text, at, dice.one_of(&NO_NUMBERS));
 }
 
+/// The number has a sign.
 pub fn sign(dice: &mut Dice, text: &mut Vec<u8>, at: usize) {
     text.insert(number_at(text, at).start, dice.one_of(b"+-"));
 }
 
+/// The value has four names or more.
 pub fn many_names(dice: &mut Dice, text: &mut Vec<u8>, at: usize) {
     change_value(text, at, dice.one_of(&MANY_NAMES));
 }
 
+/// The value has a name without digits.
 pub fn empty_name(dice: &mut Dice, text: &mut Vec<u8>, at: usize) {
     change_value(text, at, dice.one_of(&EMPTY_NAMES));
 }
 
+/// Puts this in place of the number that a byte belongs to.
 fn change_number(text: &mut Vec<u8>, at: usize, to: &str) {
     let number = number_at(text, at);
     replace(text, number, to.as_bytes());
 }
 
+/// Puts this in place of the value of a line.
 fn change_value(text: &mut Vec<u8>, at: usize, to: &str) {
     let line = line_at(text, at);
     replace(text, line.value()..line.end, to.as_bytes());
