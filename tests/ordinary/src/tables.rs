@@ -15,7 +15,7 @@ impl User {
     /// The user of that number, if there can be one.
     #[inline]
     pub fn new(number: u32) -> Option<User> {
-        (1..=USERS).contains(&number).then(|| User(number))
+        (1..=USERS).contains(&number).then_some(User(number))
     }
 
     /// The user of that number, if there is one.
@@ -45,7 +45,7 @@ impl Entity {
     /// The entity of that number, if there can be one.
     #[inline]
     pub fn new(number: u32) -> Option<Entity> {
-        (1..=ENTITIES).contains(&number).then(|| Entity(number))
+        (1..=ENTITIES).contains(&number).then_some(Entity(number))
     }
 
     /// The entity of that number, if there is one.

@@ -45,7 +45,7 @@ impl Place<'_> {
             Value::Number(at) => request[at] = self.number::<R>()?,
             Value::Reference(at) => self.reference::<R>(&mut request[at..=at + NAMES])?,
         }
-        self.take(END_OF_LINE).then(|| ())
+        self.take(END_OF_LINE).then_some(())
     }
 
     /// Reads up to four names into the words behind the length. A fifth is left standing, where the line should end.
