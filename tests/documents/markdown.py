@@ -54,12 +54,13 @@ class Fault(Exception):
 
 
 class Scanner:
-    """Reads a document line by line, and keeps its blocks and its faults."""
+    """Reads a document line by line, and keeps its blocks, the lines outside them with their numbers, and its faults."""
 
     def __init__(self, document):
         self.document = document
         self.blocks = []
         self.faults = []
+        self.prose = []
         self.open = None
         self.fence = ""
         self.indent = 0
@@ -86,6 +87,7 @@ class Scanner:
 
     def outside(self, number, text):
         """A line of prose. It is code without a fence where it stands four columns behind its surroundings after a blank line."""
+        self.prose.append((number, text))
         if not text.strip():
             self.blank_before = True
             return
@@ -111,14 +113,14 @@ class Scanner:
             self.outside(number, text)
 
 
-def blocks_of(document, text):
-    """All fenced blocks of the document and all faults of its form."""
+def scanned(document, text):
+    """The whole document: its blocks, the lines outside them, and the faults of its form."""
     scanner = Scanner(document)
     for number, line in enumerate(text.splitlines(), 1):
         scanner.line(number, line)
     if scanner.open is not None:
         scanner.fault(scanner.open.line, "the fence is not closed")
-    return scanner.blocks, scanner.faults
+    return scanner
 
 
 def fault_of_block(block):

@@ -16,11 +16,12 @@ How an example is written in a document. Code is fenced, never indented, and the
                      target/try; then `output` may be left out.
   sh                 commands, typed in the repository's root. If the next block is `output`, that is what they write (on standard
                      output). A command that fails is wrong. target/try is the reader's own folder; it is emptied before each document.
-                     A line that begins with a path into target/ starts an x86-64 program; elsewhere than on x86-64 the emulator does.
+                     A path into target/ at the start of a line or behind `| ` is an x86-64 program, and is started with UNDER.
   text               a picture or a form. It is not run, so no command and no report may stand in it.
 
 Prose may stand between an example and its result, but no other block. A line `...` in an `output` stands for any lines. Every other word
 behind the backticks is refused, and so is none. Commands that cannot be run from here are listed in examples.py, each with the reason.
+A link to a file or a heading that is not there is wrong, too.
 Documentation comments: a block without a word, or with `rust`, is a program or the body of one; it must end without a panic.
 
 Environment: UNDER   words with which x86-64 programs are started; none on x86-64
@@ -32,6 +33,7 @@ import re
 import shutil
 import sys
 
+import links
 import markdown
 import rustdoc
 from examples import RUNNERS, compare
@@ -95,9 +97,9 @@ def examples_of(name):
     text = (ROOT / name).read_text()
     if name.endswith(".rs"):
         return rustdoc.examples_of(name, text)
-    blocks, faults = markdown.blocks_of(name, text)
-    examples, more = markdown.joined(blocks)
-    return examples, faults + more
+    page = markdown.scanned(name, text)
+    examples, faults = markdown.joined(page.blocks)
+    return examples, page.faults + faults + links.faults_of(name, text)
 
 
 def run_document(name, machine, tally):
