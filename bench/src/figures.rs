@@ -26,7 +26,7 @@ pub fn whole(number: u64) -> String {
     let digits = number.to_string();
     let behind = |at: usize| digits.len() - at;
     let comma = |at: usize| at > 0 && behind(at) % 3 == 0;
-    digits.chars().enumerate().flat_map(|(at, digit)| comma(at).then(|| ',').into_iter().chain(Some(digit))).collect()
+    digits.chars().enumerate().flat_map(|(at, digit)| comma(at).then_some(',').into_iter().chain(Some(digit))).collect()
 }
 
 /// Nanoseconds, with a tenth where there are fewer than a thousand.

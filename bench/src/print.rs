@@ -4,6 +4,15 @@ use crate::load::Call;
 use crate::machine;
 use crate::timing::{Report, LEAST};
 
+/// What the names in the first two columns mean.
+const NAMES: &str = "
+- check, step, list, read, write: the five calls. advance: the step without the check.
+- s1: case state S1 alone, again and again; the list is that of user 2.
+- middle: tables made by dice, some entities absent and some users off. full: all entities present and all users on, levels and triples
+  by dice. fullest: the tables that have the longest list there is.
+- mixed: all operations. A name of an operation: that one alone.
+- short: texts of 39 bytes. longest: texts of 166 bytes.";
+
 /// What stands above the lines of the contests.
 pub fn heading(seed: u64, repetitions: u32) {
     println!("Machine: {}.", machine::describe());
@@ -11,6 +20,7 @@ pub fn heading(seed: u64, repetitions: u32) {
         "Seed {seed}. Nanoseconds for a call: medians of {repetitions} repetitions of each side, in turn, each of {} ms or more.",
         LEAST.as_millis()
     );
+    println!("The ratio is the median of the ratios of repetitions next to each other. Behind it are the quartiles of all three.");
     println!();
     println!("| call | load | proved, ns | ordinary, ns | ratio | proved, quartiles | ordinary, quartiles | ratio, quartiles | a pass |");
     println!("|-|-|-|-|-|-|-|-|-|");
@@ -37,14 +47,15 @@ fn a_pass(report: &Report) -> String {
     format!("{} calls{about}", whole(report.calls as u64))
 }
 
-/// The line of a contest. The ratio is that of the medians; its quartiles are those of the ratios of repetitions side by side.
+/// The line of a contest. The clock of a processor may change during a run: two repetitions next to each other find it much the same, so
+/// their ratio moves less than that of the medians.
 pub fn report(report: &Report) {
     let cells = [
         report.contest.call.name().to_string(),
         report.contest.kind.name().to_string(),
         nanoseconds(report.proved.median),
         nanoseconds(report.ordinary.median),
-        ratio(report.proved.median / report.ordinary.median),
+        ratio(report.ratio.median),
         between(report.proved, nanoseconds),
         between(report.ordinary, nanoseconds),
         between(report.ratio, ratio),
@@ -55,7 +66,7 @@ pub fn report(report: &Report) {
 
 /// What stands below them.
 pub fn footing(around: Spread, sum: u64) {
-    println!();
+    println!("{NAMES}\n");
     println!(
         "In every figure: the loop and the call through a pointer, {} ns for requests.",
         nanoseconds(around.median)
