@@ -96,13 +96,13 @@ module _ (d : Tables) (o : Bounded d) (e : ℕ) where
 -- ---- places
 
 -- what `placeTest` says of place i
-abbrev Placed : Tables → ℕ → ℕ → Type 0
+abbrev pub Placed : Tables → ℕ → ℕ → Type 0
 Placed d e i = (counts d e ≤ i → (places d e i ≡ 0) × (sums d e i ≡ 0))
     × ((counts d e ≤ i → ⊥) → (objectKind ≤ kinds d (places d e i)) × ((kinds d (places d e i) ≤ containerKind)
     × ((kinds d e ≡ deviceKind → (1 ≤ sums d e i) × (sums d e i ≤ sumLimit)) × (kinds d e ≢ deviceKind → sums d e i ≡ 0))))
 
 -- the test says so
-place-agrees : (d : Tables) (e i : ℕ) → Agrees (placeTest d e i) (Placed d e i)
+pub place-agrees : (d : Tables) (e i : ℕ) → Agrees (placeTest d e i) (Placed d e i)
 unfolding placeTest
 place-agrees d e i = agrees-pick (agrees-le (counts d e) i) (search agreement) (search agreement depth 20)
 
@@ -121,6 +121,10 @@ apart row n f i j h l q = go (ltb i j) (below i j) (ltb j i) (below j i)
     go false (over k) false (over m) = omega arith
 
 module _ (d : Tables) (o : Bounded d) (e : ℕ) where
+  -- a used place that is in order holds something, since nothing has no kind
+  pub placed-used : (i : ℕ) → i < counts d e → Placed d e i → places d e i ≢ 0
+  placed-used i h p q = omega (arith, p .1 (λ m. omega arith) .0, ap (kinds d) q, o .entityOut 0 (inl refl) kind)
+
   -- what the model's tests of contents say
   abbrev Left : Type 0
   Left = Filled (kinds d e) (counts d e) (places d e) (sums d e)
@@ -164,9 +168,7 @@ module _ (d : Tables) (o : Bounded d) (e : ℕ) where
       inside i h = r .1 .0 i (omega (arith, r .0 .0)) .1 (λ m. omega arith)
 
       used : (i : ℕ) → i < counts d e → 1 ≤ places d e i
-      used i h =
-          let z : places d e i ≢ 0 = λ q. omega (arith, inside i h .0, ap (kinds d) q, o .entityOut 0 (inl refl) kind) in
-          omega arith
+      used i h = let z : places d e i ≢ 0 = placed-used i h (r .1 .0 i (omega (arith, r .0 .0))) in omega arith
 
       rest : (i : ℕ) → counts d e ≤ i → (places d e i ≡ 0) × (sums d e i ≡ 0)
       rest i m = go (ltb i placeCount) (below i placeCount)

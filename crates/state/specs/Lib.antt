@@ -4,6 +4,7 @@ pub mod Holders
 pub mod RowLaws
 pub mod UserLaws
 pub mod EntityLaws
+pub mod UnlikeLaws
 pub mod OwnLaws
 pub mod PassLaws
 pub mod HolderLaws

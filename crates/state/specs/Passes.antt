@@ -49,6 +49,10 @@ placeTest d e i = pick (leb (counts d e) i) (eqb (places d e i) 0 && eqb (sums d
 unfoldable pub unlike : (ℕ → ℕ) → ℕ → Bool
 unlike row i = every i (λ j. not (eqb (row j) (row i)))
 
+-- what stands at i of a row is nothing, or stands nowhere before it
+unfoldable pub newAt : (ℕ → ℕ) → ℕ → Bool
+newAt row i = eqb (row i) 0 || unlike row i
+
 -- triple i of a row: zero, and then the next one too; else it names what it may, and is none of those before it
 unfoldable pub tripleNew : (ℕ → ℕ) → ℕ → Bool
 tripleNew row i = pick (eqb (row i) 0) (leb 7 i || eqb (row (i + 1)) 0) (tripleTest (row i) && unlike row i)

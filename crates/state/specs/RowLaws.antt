@@ -9,7 +9,7 @@ use Rattle.laws.specs.Bools.{or-imp, or-imp-not}
 use Rattle.model.specs.Basics.Tests.{every}
 use Rattle.model.specs.State.Tests.{tripleTest}
 use Rattle.model.specs.Tables.Words.{Tables, counts, deviceKind, kinds, places, sums}
-use Rattle.state.specs.Passes.{placeTest, tripleNew, unlike}
+use Rattle.state.specs.Passes.{newAt, placeTest, tripleNew, unlike}
 
 -- ---- a place, which holds x and of which v is shown, of an entity that uses n places
 
@@ -29,6 +29,16 @@ module _ (d : Tables) (e i n x v : ℕ) (ne : n ≡ counts d e) (xe : x ≡ plac
 pub unlike-of : (row : ℕ → ℕ) (i x : ℕ) → x ≡ row i → (b : Bool) → b ≡ every i (λ j. not (eqb (row j) x)) → b ≡ unlike row i
 unfolding unlike
 unlike-of row i x e b h = h ∙ ap (λ (y : ℕ). every i (λ j. not (eqb (row j) y))) e
+
+-- nothing stands at i
+pub new-zero : (row : ℕ → ℕ) (i x : ℕ) → x ≡ row i → x ≡ 0 → true ≡ newAt row i
+unfolding newAt
+new-zero row i x e z = rw (← e, eq-eqb x 0 z)
+
+-- something does, and is compared with all before it
+pub new-of : (row : ℕ → ℕ) (i x : ℕ) → x ≡ row i → x ≢ 0 → (b : Bool) → b ≡ every i (λ j. not (eqb (row j) x)) → b ≡ newAt row i
+unfolding newAt
+new-of row i x e z b h = unlike-of row i x e b h ∙ rw (← e, ne-eqb x 0 z)
 
 -- ---- the triple x at i of a row
 

@@ -1,7 +1,7 @@
 // The entities' records, each by itself, what stands in their places, and screens that nobody is on.
 use levels::Entity;
 ghost use mathlib.Core.Path.{_≡_};
-ghost use mathlib.Core.Bool.{not};
+ghost use mathlib.Core.Bool.{not, true};
 ghost use Prim.Native.Nat.{_+_, _<_, _≤_, suc};
 ghost use lib.Dec.{eqb};
 ghost use lib.ListN.{length};
@@ -10,7 +10,7 @@ ghost use Rattle.model.specs.State.Tests.{shapeTest, tripleTest};
 ghost use Rattle.model.specs.Tables.Layout.{entityWidth, tablesOf, wordCount};
 ghost use Rattle.model.specs.Tables.WordAt.{entityWordAt};
 ghost use Rattle.model.specs.Tables.Words.{counts, deviceKind, entityCount, kinds, placeCount, places, triples};
-ghost use Rattle.state.specs.Passes.{countTest, entityBlank, ownTest, placeTest, tripleNew, unlike};
+ghost use Rattle.state.specs.Passes.{countTest, entityBlank, newAt, ownTest, placeTest, tripleNew, unlike};
 ghost use Rattle.tables.specs.Singles.{EntityIn};
 
 // Whether word f of entity e is zero.
@@ -97,12 +97,15 @@ fn place_other(t: &[u32], e: Entity, x: u32, j: u32) -> bool
     !(tables::place(t, e, j).0 == x)
 }
 
-// Whether none of the places before place i of entity e holds what place i holds.
+// Whether place i of entity e holds nothing, or what none of the places before it holds.
 fn place_new(t: &[u32], e: Entity, i: u32) -> bool
     requires { ⌜ EntityIn (now t) (e .0) × (i < placeCount) ⌝ }
-    ensures { λ r. ⌜ r ≡ unlike (places (tablesOf (now (t .entry))) (e .0)) i ⌝ }
+    ensures { λ r. ⌜ r ≡ newAt (places (tablesOf (now (t .entry))) (e .0)) i ⌝ }
 {
     let x = tables::place(t, e, i).0;
+    if x == 0 {
+        return true;
+    }
     let mut j: u32 = 0;
     while j < i {
         if !place_other(t, e, x, j) {
@@ -113,13 +116,17 @@ fn place_new(t: &[u32], e: Entity, i: u32) -> bool
     true
 }
 
-// Whether the first n places of entity e are distinct.
+// Whether the n places that entity e uses are distinct, where each is in order by itself. All eight are looked at, since a loop that always
+// ends at the same place has no end to be guessed; those not used are zero and pass.
 fn places_new(t: &[u32], e: Entity, n: u32) -> bool
-    requires { ⌜ EntityIn (now t) (e .0) × (n ≤ placeCount) ⌝ }
+    requires { ⌜ EntityIn (now t) (e .0) × (n ≤ placeCount) × (n ≡ counts (tablesOf (now t)) (e .0)) × (every placeCount (placeTest (tablesOf (now t)) (e .0)) ≡ true) ⌝ }
     ensures { λ r. ⌜ r ≡ every n (unlike (places (tablesOf (now (t .entry))) (e .0))) ⌝ }
 {
+    if n < 2 {
+        return true;
+    }
     let mut i: u32 = 0;
-    while i < n {
+    while i < 8 {
         if !place_new(t, e, i) {
             return false;
         }

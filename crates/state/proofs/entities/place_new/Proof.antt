@@ -9,7 +9,7 @@ use Rattle.laws.specs.Loops.{every-done, every-fails, every-more, every-none}
 use Rattle.model.specs.Tables.Layout.{tablesOf}
 use lib.Dec.{eqb}
 use Rattle.model.specs.Tables.Words.{places}
-use Rattle.state.specs.RowLaws.{unlike-of}
+use Rattle.state.specs.RowLaws.{new-of, new-zero}
 use Rattle.state.proofs.entities.place_new.Statement.{statement}
 use Rattle.state.proofs.entities.place_new.Tie as tie
 use Rattle.state.proofs.entities.place_new.Reads as reads
@@ -26,14 +26,17 @@ abbrev μ-loop : tie.MeasureT-loop
 place-requires : tie.Need-place-requires Inv-loop μ-loop
 place-requires c κs = search needs
 
+returns : tie.Need-returns Inv-loop μ-loop
+returns c = new-zero _ _ _ (c .before .place .ensures) (c .if1 .taken)
+
 loop-holds : tie.Need-loop-holds Inv-loop μ-loop
 loop-holds c = (omega arith, every-none _)
 
 place-other-requires : tie.Need-place-other-requires Inv-loop μ-loop
 place-other-requires c κs = search needs
 
-returns : tie.Need-returns Inv-loop μ-loop
-returns c = unlike-of _ _ _ (c .before .before .before .before .place .ensures) _ (every-fails _ _ _ (c .before .before .loop-test .taken) (sym (c .before .place-other .ensures) ∙ not-true _ (c .if1 .taken)))
+returns-2 : tie.Need-returns-2 Inv-loop μ-loop
+returns-2 c = new-of _ _ _ (c .before .before .before .before .before .place .ensures) (c .before .before .before .before .if1 .left) _ (every-fails _ _ _ (c .before .before .loop-test .taken) (sym (c .before .place-other .ensures) ∙ not-true _ (c .if2 .taken)))
 
 add-j : tie.Need-add-j Inv-loop μ-loop
 add-j c = omega arith
@@ -42,10 +45,10 @@ loop-less : tie.Need-loop-less Inv-loop μ-loop
 loop-less c = omega arith
 
 loop-again : tie.Need-loop-again Inv-loop μ-loop
-loop-again c = (omega arith, every-more _ _ (c .before .before .before .loop .inv .1) (sym (c .before .place-other .ensures) ∙ not-false _ (c .if1 .left)))
+loop-again c = (omega arith, every-more _ _ (c .before .before .before .loop .inv .1) (sym (c .before .place-other .ensures) ∙ not-false _ (c .if2 .left)))
 
-returns-2 : tie.Need-returns-2 Inv-loop μ-loop
-returns-2 c = unlike-of _ _ _ (c .before .before .place .ensures) _ (every-done _ _ _ (c .before .loop .inv .1) (c .before .loop .inv .0) (omega arith))
+returns-3 : tie.Need-returns-3 Inv-loop μ-loop
+returns-3 c = new-of _ _ _ (c .before .before .before .place .ensures) (c .before .before .if1 .left) _ (every-done _ _ _ (c .before .loop .inv .1) (c .before .loop .inv .0) (omega arith))
 
 pub place-new-spec : {M : Type 1} → statement M
 place-new-spec =
@@ -54,10 +57,11 @@ place-new-spec =
     Inv-loop
     μ-loop
     place-requires
+    returns
     loop-holds
     place-other-requires
-    returns
+    returns-2
     add-j
     loop-less
     loop-again
-    returns-2)
+    returns-3)

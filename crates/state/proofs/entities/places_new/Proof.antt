@@ -7,8 +7,10 @@ use Rattle.model.specs.Basics.Tests.{every}
 use Prim.Native.Nat.{_-_, _≤_}
 use Rattle.laws.specs.Loops.{every-done, every-fails, every-more, every-none}
 use Rattle.model.specs.Tables.Layout.{tablesOf}
+use Rattle.model.specs.Tables.LayoutLaws.{bounded}
 use Rattle.model.specs.Tables.Words.{places}
-use Rattle.state.specs.Passes.{unlike}
+use Rattle.state.specs.UnlikeLaws.{places-unlike, unlike-few}
+use Rattle.state.specs.Passes.{newAt}
 use Rattle.state.proofs.entities.places_new.Statement.{statement}
 use Rattle.state.proofs.entities.places_new.Tie as tie
 use Rattle.state.proofs.entities.places_new.Reads as reads
@@ -16,10 +18,13 @@ use Rattle.state.proofs.entities.places_new.Lts as lts
 use Rattle.state.proofs.entities.place_new.Reads as place-new-reads
 
 abbrev Inv-loop : tie.InvT-loop
-Inv-loop t e n i₀ i = (i ≤ n) × (every i (unlike (places (tablesOf t) (e .0))) ≡ true)
+Inv-loop t e n i₀ i = (i ≤ 8) × (every i (newAt (places (tablesOf t) (e .0))) ≡ true)
 
 abbrev μ-loop : tie.MeasureT-loop
-μ-loop t e n i₀ i = n - i
+μ-loop t e n i₀ i = 8 - i
+
+returns : tie.Need-returns Inv-loop μ-loop
+returns c = unlike-few _ _ (c .if1 .taken)
 
 loop-holds : tie.Need-loop-holds Inv-loop μ-loop
 loop-holds c = (omega arith, every-none _)
@@ -27,8 +32,8 @@ loop-holds c = (omega arith, every-none _)
 place-new-requires : tie.Need-place-new-requires Inv-loop μ-loop
 place-new-requires c κs = search needs
 
-returns : tie.Need-returns Inv-loop μ-loop
-returns c = every-fails _ _ _ (c .before .before .loop-test .taken) (sym (c .before .place-new .ensures) ∙ not-true _ (c .if1 .taken))
+returns-2 : tie.Need-returns-2 Inv-loop μ-loop
+returns-2 c = every-fails 8 _ _ (c .before .before .loop-test .taken) (sym (c .before .place-new .ensures) ∙ not-true _ (c .if2 .taken)) ∙ sym (places-unlike _ (bounded _) _ _ (c .before .before .before .before .before .before .pre .1) (c .before .before .before .before .before .before .pre .2) (c .before .before .before .before .before .before .pre .3))
 
 add-i : tie.Need-add-i Inv-loop μ-loop
 add-i c = omega arith
@@ -37,10 +42,10 @@ loop-less : tie.Need-loop-less Inv-loop μ-loop
 loop-less c = omega arith
 
 loop-again : tie.Need-loop-again Inv-loop μ-loop
-loop-again c = (omega arith, every-more _ _ (c .before .before .before .loop .inv .1) (sym (c .before .place-new .ensures) ∙ not-false _ (c .if1 .left)))
+loop-again c = (omega arith, every-more _ _ (c .before .before .before .loop .inv .1) (sym (c .before .place-new .ensures) ∙ not-false _ (c .if2 .left)))
 
-returns-2 : tie.Need-returns-2 Inv-loop μ-loop
-returns-2 c = every-done _ _ _ (c .before .loop .inv .1) (c .before .loop .inv .0) (omega arith)
+returns-3 : tie.Need-returns-3 Inv-loop μ-loop
+returns-3 c = every-done _ 8 _ (c .before .loop .inv .1) (c .before .loop .inv .0) (omega arith) ∙ sym (places-unlike _ (bounded _) _ _ (c .before .before .before .before .pre .1) (c .before .before .before .before .pre .2) (c .before .before .before .before .pre .3))
 
 pub places-new-spec : {M : Type 1} → statement M
 places-new-spec =
@@ -48,10 +53,11 @@ places-new-spec =
     (tie.spec
     Inv-loop
     μ-loop
+    returns
     loop-holds
     place-new-requires
-    returns
+    returns-2
     add-i
     loop-less
     loop-again
-    returns-2)
+    returns-3)

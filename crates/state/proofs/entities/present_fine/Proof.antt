@@ -1,6 +1,6 @@
 use native.Mathlib.Omega.{arith}
 use borrow.Author.Tests.{not-false, not-true}
-use mathlib.Core.Path.{ap}
+use mathlib.Core.Path.{_∙_, ap, sym}
 use Prim.Native.Nat.{ℕ}
 use lib.Dec.{eqb}
 use Rattle.model.specs.Tables.LayoutLaws.{bounded}
@@ -64,7 +64,7 @@ returns-3 : tie.Need-returns-3
 returns-3 c = own-places _ (bounded _) _ _ _ _ _ _ _ _ (c .before .before .before .before .before .before .before .before .before .before .before .before .before .before .pre .1) (c .before .before .before .before .before .before .before .before .before .before .before .before .before .before .pre .2) (c .before .before .before .before .before .before .before .before .before .before .before .before .type-of .ensures) (c .before .before .before .before .before .before .before .before .before .before .before .level .ensures) (c .before .before .before .before .before .before .before .before .before .before .mark .ensures) (c .before .before .before .before .before .before .before .before .before .value .ensures) (c .before .before .before .before .before .before .before .before .releaser .ensures) (c .before .before .before .before .before .before .before .maximum .ensures) _ (c .before .before .before .before .before .before .shape-fine .ensures) (not-false _ (c .before .before .before .before .before .if1 .left)) _ (c .before .before .before .before .count .ensures) _ (c .before .before .before .count-fine .ensures) (not-false _ (c .before .before .if2 .left)) _ (c .before .places-fine .ensures) (not-true _ (c .if3 .taken))
 
 places-new-requires : tie.Need-places-new-requires
-places-new-requires c κs = (c .before .before .before .before .before .before .before .before .before .before .before .before .before .before .pre .0, own-room _ (bounded _) _ _ _ _ _ _ _ _ (c .before .before .before .before .before .before .before .before .before .before .before .before .before .before .pre .1) (c .before .before .before .before .before .before .before .before .before .before .before .before .before .before .pre .2) (c .before .before .before .before .before .before .before .before .before .before .before .before .type-of .ensures) (c .before .before .before .before .before .before .before .before .before .before .before .level .ensures) (c .before .before .before .before .before .before .before .before .before .before .mark .ensures) (c .before .before .before .before .before .before .before .before .before .value .ensures) (c .before .before .before .before .before .before .before .before .releaser .ensures) (c .before .before .before .before .before .before .before .maximum .ensures) _ (c .before .before .before .before .before .before .shape-fine .ensures) (not-false _ (c .before .before .before .before .before .if1 .left)) _ (c .before .before .before .before .count .ensures) _ (c .before .before .before .count-fine .ensures) (not-false _ (c .before .before .if2 .left)))
+places-new-requires c κs = (c .before .before .before .before .before .before .before .before .before .before .before .before .before .before .pre .0, own-room _ (bounded _) _ _ _ _ _ _ _ _ (c .before .before .before .before .before .before .before .before .before .before .before .before .before .before .pre .1) (c .before .before .before .before .before .before .before .before .before .before .before .before .before .before .pre .2) (c .before .before .before .before .before .before .before .before .before .before .before .before .type-of .ensures) (c .before .before .before .before .before .before .before .before .before .before .before .level .ensures) (c .before .before .before .before .before .before .before .before .before .before .mark .ensures) (c .before .before .before .before .before .before .before .before .before .value .ensures) (c .before .before .before .before .before .before .before .before .releaser .ensures) (c .before .before .before .before .before .before .before .maximum .ensures) _ (c .before .before .before .before .before .before .shape-fine .ensures) (not-false _ (c .before .before .before .before .before .if1 .left)) _ (c .before .before .before .before .count .ensures) _ (c .before .before .before .count-fine .ensures) (not-false _ (c .before .before .if2 .left)), c .before .before .before .before .count .ensures, sym (c .before .places-fine .ensures) ∙ not-false _ (c .if3 .left))
 
 returns-4 : tie.Need-returns-4
 returns-4 c = own-unlike _ (bounded _) _ _ _ _ _ _ _ _ (c .before .before .before .before .before .before .before .before .before .before .before .before .before .before .before .before .pre .1) (c .before .before .before .before .before .before .before .before .before .before .before .before .before .before .before .before .pre .2) (c .before .before .before .before .before .before .before .before .before .before .before .before .before .before .type-of .ensures) (c .before .before .before .before .before .before .before .before .before .before .before .before .before .level .ensures) (c .before .before .before .before .before .before .before .before .before .before .before .before .mark .ensures) (c .before .before .before .before .before .before .before .before .before .before .before .value .ensures) (c .before .before .before .before .before .before .before .before .before .before .releaser .ensures) (c .before .before .before .before .before .before .before .before .before .maximum .ensures) _ (c .before .before .before .before .before .before .before .before .shape-fine .ensures) (not-false _ (c .before .before .before .before .before .before .before .if1 .left)) _ (c .before .before .before .before .before .before .count .ensures) _ (c .before .before .before .before .before .count-fine .ensures) (not-false _ (c .before .before .before .before .if2 .left)) _ (c .before .before .before .places-fine .ensures) (not-false _ (c .before .before .if3 .left)) _ (c .before .places-new .ensures) (not-true _ (c .if4 .taken))
