@@ -24,7 +24,7 @@ pub fn refuse(t: &mut [u32], q: &[u32], u: User, op: u32, n: u32) -> u32
     let h = tables::held(t, u);
     let m = one_more(tables::missed(t, u));
     tables::set_missed(t, u, m);
-    if h != 0 {
+    if 0 < h {
         return n;
     }
     tables::set_held_op(t, u, op);

@@ -1,4 +1,5 @@
 use mathlib.Core.Path.{_∙_, sym}
+use native.Mathlib.Omega.{arith}
 use Rattle.ladder.specs.NoticeLaws.{notice-kept, notice-new, refused-stepped}
 use Rattle.model.specs.Tables.Words.{held, missed}
 use borrow.Author.Needs.{needs}
@@ -29,7 +30,7 @@ same-length : tie.Need-same-length
 same-length c = search needs
 
 returns : tie.Need-returns
-returns c = refused-stepped _ _ _ _ _ _ (c .before .before .before .before .before .before .before .before .before .before .before .before .pre) (c .before .before .before .set-missed .ensures ∙ notice-kept _ _ _ _ _ (c .before .before .before .before .before .one-more .ensures ∙ rw (c .before .before .before .before .before .before .missed .ensures)) (λ z. c .if1 .taken (c .before .before .before .before .before .before .before .before .held .ensures ∙ z)))
+returns c = refused-stepped _ _ _ _ _ _ (c .before .before .before .before .before .before .before .before .before .before .before .before .pre) (c .before .before .before .set-missed .ensures ∙ notice-kept _ _ _ _ _ (c .before .before .before .before .before .one-more .ensures ∙ rw (c .before .before .before .before .before .before .missed .ensures)) (λ z. omega (arith, c .if1 .taken, c .before .before .before .before .before .before .before .before .held .ensures ∙ z)))
 
 set-held-op-requires : tie.Need-set-held-op-requires
 set-held-op-requires c κs = search needs
@@ -41,7 +42,7 @@ same-length-2 : tie.Need-same-length-2
 same-length-2 c = search needs
 
 returns-2 : tie.Need-returns-2
-returns-2 c = refused-stepped _ _ _ _ _ _ (c .before .before .before .before .before .before .before .before .before .before .before .before .before .before .before .before .before .before .before .before .pre) (c .before .before .set-held .ensures ∙ rw (c .before .before .before .before .before .before .set-held-op .ensures, c .before .before .before .before .before .before .before .before .before .before .before .set-missed .ensures) (notice-new _ _ _ _ _ (c .before .before .before .before .before .before .before .before .before .before .before .before .before .one-more .ensures ∙ rw (c .before .before .before .before .before .before .before .before .before .before .before .before .before .before .missed .ensures)) (sym (c .before .before .before .before .before .before .before .before .before .before .before .before .before .before .before .before .held .ensures) ∙ c .before .before .before .before .before .before .before .before .if1 .left)))
+returns-2 c = refused-stepped _ _ _ _ _ _ (c .before .before .before .before .before .before .before .before .before .before .before .before .before .before .before .before .before .before .before .before .pre) (c .before .before .set-held .ensures ∙ rw (c .before .before .before .before .before .before .set-held-op .ensures, c .before .before .before .before .before .before .before .before .before .before .before .set-missed .ensures) (notice-new _ _ _ _ _ (c .before .before .before .before .before .before .before .before .before .before .before .before .before .one-more .ensures ∙ rw (c .before .before .before .before .before .before .before .before .before .before .before .before .before .before .missed .ensures)) (omega (arith, c .before .before .before .before .before .before .before .before .before .before .before .before .before .before .before .before .held .ensures, c .before .before .before .before .before .before .before .before .if1 .left))))
 
 pub refuse-spec : {M : Type 1} → statement M
 refuse-spec =
