@@ -1,4 +1,5 @@
--- The searches: for the container that an entity is in, for a screen that shows it, for an absent number; and the way up.
+-- The searches: for an entity in the places of another, for the container that it is in, for a screen that shows it, for an absent number;
+-- and the way up.
 use mathlib.Core.Bool.{Bool, _&&_, false, not, true}
 use mathlib.Core.Logic.{_≢_}
 use mathlib.Core.Path.{_∙_, _≡_, ap, refl, sym}
@@ -6,7 +7,7 @@ use Prim.Native.Nat.{_+_, _<_, _≤_, suc, zero, ℕ}
 use native.Mathlib.Numerals.{add-one}
 use native.Mathlib.Omega.{arith}
 use lib.Dec.{eqb, ltb}
-use Rattle.laws.specs.Bools.{clash}
+use Rattle.laws.specs.Bools.{clash, not-no, not-yes}
 use Rattle.laws.specs.Loops.{each-fails, each-more, every-done, none-more, seek-here, seek-none}
 use Rattle.model.specs.Basics.Choice.{Below, Same, below, it, other, over, pick, same, under}
 use Rattle.model.specs.Basics.Tests.{every, imp}
@@ -14,9 +15,35 @@ use Rattle.model.specs.Effect.Places.{vacant}
 use Rattle.model.specs.Request.Conditions.{onScreen}
 use Rattle.model.specs.State.Check.{inTest, parent, spotOf}
 use Rattle.model.specs.State.Climb.{climb}
+use Rattle.model.specs.State.WellFormed.{WellFormed}
 use Rattle.model.specs.Tables.Rows.{seek}
-use Rattle.model.specs.Tables.Words.{Tables, containerKind, counts, deviceKind, entityCount, kinds, places}
+use Rattle.model.specs.Tables.Words.{Tables, containerKind, counts, deviceKind, entityCount, kinds, placeCount, places}
 use Rattle.op_places.specs.Standing.{Unheld, hides, parentIn, standing}
+use Rattle.rows.specs.SweepLaws.{sweep-used}
+
+-- ---- an entity that e stands in
+
+-- In well-formed tables, where unused places are 0 and e is not.
+module _ (d : Tables) (w : WellFormed d) (k v e : ℕ) (p : 1 ≤ e) (b : Bool) (h : b ≡ ltb (seek e (places d v) placeCount) placeCount) where
+  stands : standing d k e v ≡ (eqb (kinds d v) k && b)
+  stands = let f = w .entities v .filled .packed in
+      ap (λ (x : Bool). eqb (kinds d v) k && x) (sym (h ∙ sweep-used e (places d v) (counts d v) placeCount p (f .room) (f .rest)))
+
+  -- it is in no place
+  pub stands-nowhere : not b ≡ true → false ≡ standing d k e v
+  stands-nowhere z = sym (stands ∙ go (eqb (kinds d v) k) b (not-yes b z))
+    where
+      go : (a c : Bool) → c ≡ false → (a && c) ≡ false
+      go true c q = q
+      go false c q = refl
+
+  -- it is in one, and the kind decides
+  pub stands-there : not b ≡ false → (x : ℕ) → x ≡ kinds d v → eqb x k ≡ standing d k e v
+  stands-there z x q = sym (stands ∙ go (eqb (kinds d v) k) b (not-no b z) ∙ ap (λ (y : ℕ). eqb y k) (sym q))
+    where
+      go : (a c : Bool) → c ≡ true → (a && c) ≡ a
+      go true c r = r
+      go false c r = refl
 
 -- ---- the container that e is in
 

@@ -1,7 +1,7 @@
 // What stands where: the container that it is in, the screens that show it, and what lies in what.
 use levels::Entity;
 ghost use mathlib.Core.Path.{_≡_};
-ghost use Prim.Native.Nat.{suc};
+ghost use Prim.Native.Nat.{_≤_, suc};
 ghost use lib.ListN.{length};
 ghost use Rattle.model.specs.Effect.Places.{vacant};
 ghost use Rattle.model.specs.Request.Conditions.{onScreen};
@@ -10,24 +10,23 @@ ghost use Rattle.model.specs.State.WellFormed.{WellFormed};
 ghost use Rattle.model.specs.Tables.Layout.{tablesOf, wordCount};
 ghost use Rattle.model.specs.Tables.Words.{entityCount};
 ghost use Rattle.op_places.specs.Standing.{parentIn, standing};
-ghost use Rattle.reference.specs.Ways.{Ranged};
 ghost use Rattle.tables.specs.Singles.{EntityIn};
 
-// Whether entity v is of kind k and e stands in one of its places.
+// Whether entity v is of kind k and e stands in one of its places. The kind is asked last, of the few that e stands in: kinds come in
+// no order, and a branch on each would be guessed wrong too often.
 fn stands_in(t: &[u32], k: u32, v: Entity, e: Entity) -> bool
-    requires { ⌜ EntityIn (now t) (v .0) × Ranged (tablesOf (now t)) ⌝ }
+    requires { ⌜ EntityIn (now t) (v .0) × WellFormed (tablesOf (now t)) × (1 ≤ e .0) ⌝ }
     ensures { λ r. ⌜ r ≡ standing (tablesOf (now (t .entry))) k (e .0) (v .0) ⌝ }
 {
-    if tables::kind(t, v) != k {
+    if !rows::holds(t, v, e) {
         return false;
     }
-    let n = tables::count(t, v);
-    rows::place_of(t, v, e, n) < n
+    tables::kind(t, v) == k
 }
 
 // The lowest container that entity e stands in, or entity 0.
 pub fn holder(t: &[u32], e: Entity) -> Entity
-    requires { ⌜ (length (now t) ≡ wordCount) × Ranged (tablesOf (now t)) ⌝ }
+    requires { ⌜ (length (now t) ≡ wordCount) × WellFormed (tablesOf (now t)) × (1 ≤ e .0) ⌝ }
     ensures { λ r. ⌜ r .0 ≡ parentIn (tablesOf (now (t .entry))) (e .0) ⌝ }
 {
     let mut i: u32 = 0;
@@ -42,7 +41,7 @@ pub fn holder(t: &[u32], e: Entity) -> Entity
 
 // Whether some device shows entity e.
 pub fn on_screen(t: &[u32], e: Entity) -> bool
-    requires { ⌜ (length (now t) ≡ wordCount) × Ranged (tablesOf (now t)) ⌝ }
+    requires { ⌜ (length (now t) ≡ wordCount) × WellFormed (tablesOf (now t)) × (1 ≤ e .0) ⌝ }
     ensures { λ r. ⌜ r ≡ onScreen (tablesOf (now (t .entry))) (e .0) ⌝ }
 {
     let mut i: u32 = 0;
@@ -72,7 +71,7 @@ pub fn vacant(t: &[u32]) -> u32
 
 // Whether c is e or lies in it, by going up from c.
 fn inside(t: &[u32], c: Entity, e: Entity) -> bool
-    requires { ⌜ (length (now t) ≡ wordCount) × Ranged (tablesOf (now t)) ⌝ }
+    requires { ⌜ (length (now t) ≡ wordCount) × WellFormed (tablesOf (now t)) × (1 ≤ c .0) ⌝ }
     ensures { λ r. ⌜ r ≡ climb (parentIn (tablesOf (now (t .entry)))) (suc entityCount) (c .0) (e .0) ⌝ }
 {
     let mut y = c;
@@ -92,7 +91,7 @@ fn inside(t: &[u32], c: Entity, e: Entity) -> bool
 
 // Whether c is e or lies in it: what holds nothing has nothing in it.
 pub fn is_inside(t: &[u32], c: Entity, e: Entity) -> bool
-    requires { ⌜ EntityIn (now t) (e .0) × WellFormed (tablesOf (now t)) ⌝ }
+    requires { ⌜ EntityIn (now t) (e .0) × WellFormed (tablesOf (now t)) × (1 ≤ c .0) ⌝ }
     ensures { λ r. ⌜ r ≡ climb (parentIn (tablesOf (now (t .entry)))) (suc entityCount) (c .0) (e .0) ⌝ }
 {
     if tables::count(t, e) == 0 {

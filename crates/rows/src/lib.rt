@@ -2,6 +2,7 @@
 use levels::Entity;
 ghost use mathlib.Core.Path.{_≡_};
 ghost use Prim.Native.Nat.{_<_, _≤_};
+ghost use lib.Dec.{ltb};
 ghost use Rattle.model.specs.Tables.Edits.{onEntity, row};
 ghost use Rattle.model.specs.Tables.Layout.{tablesOf};
 ghost use Rattle.model.specs.Tables.Rows.{close, seek};
@@ -21,6 +22,20 @@ pub fn place_of(t: &[u32], v: Entity, e: Entity, n: u32) -> u32
         i += 1;
     }
     n
+}
+
+// Whether entity e stands in one of the eight places of v. All are compared, wherever it stands: that is faster than a branch at each.
+pub fn holds(t: &[u32], v: Entity, e: Entity) -> bool
+    requires { ⌜ EntityIn (now t) (v .0) ⌝ }
+    ensures { λ r. ⌜ r ≡ ltb (seek (e .0) (places (tablesOf (now (t .entry))) (v .0)) placeCount) placeCount ⌝ }
+{
+    let mut found = false;
+    let mut i: u32 = 0;
+    while i < 8 {
+        found = (tables::place(t, v, i).0 == e.0) | found;
+        i += 1;
+    }
+    found
 }
 
 // The place of x among the triples of entity e, or eight.

@@ -1,4 +1,3 @@
-use Rattle.reference.specs.WayLaws.{wellFormed-ranged}
 use Rattle.op_places.specs.DeleteLaws.{delete-forbidden, delete-kind, deleted}
 use borrow.Author.Needs.{needs}
 use Rattle.op_places.proofs.delete.Statement.{statement}
@@ -30,7 +29,7 @@ count-requires : tie.Need-count-requires
 count-requires c κs = search needs
 
 on-screen-requires : tie.Need-on-screen-requires
-on-screen-requires c κs = (search needs, wellFormed-ranged _ (c .before .before .before .before .before .before .before .before .pre .0 .climbed .ready .good .0))
+on-screen-requires c κs = (search needs, c .before .before .before .before .before .before .before .before .pre .0 .climbed .ready .good .0, c .before .before .before .before .before .before .before .before .pre .1 .low)
 
 type-of-requires : tie.Need-type-of-requires
 type-of-requires c κs = search needs
@@ -45,7 +44,7 @@ returns-2 : tie.Need-returns-2
 returns-2 c = search needs
 
 holder-requires : tie.Need-holder-requires
-holder-requires c κs = (search needs, wellFormed-ranged _ (c .before .before .before .before .before .before .before .before .before .before .before .before .before .before .pre .0 .climbed .ready .good .0))
+holder-requires c κs = (search needs, c .before .before .before .before .before .before .before .before .before .before .before .before .before .before .pre .0 .climbed .ready .good .0, c .before .before .before .before .before .before .before .before .before .before .before .before .before .before .pre .1 .low)
 
 leave-requires : tie.Need-leave-requires
 leave-requires c κs = search needs

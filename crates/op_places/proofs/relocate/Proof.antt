@@ -1,6 +1,5 @@
 use mathlib.Core.Path.{_∙_}
 use Rattle.op_places.specs.MoveLaws.{move-above, move-full, move-inside, move-kinds, move-room, move-unshown, moved}
-use Rattle.reference.specs.WayLaws.{wellFormed-ranged}
 use borrow.Author.Needs.{needs}
 use Rattle.op_places.proofs.relocate.Statement.{statement}
 use Rattle.op_places.proofs.relocate.Tie as tie
@@ -51,7 +50,7 @@ returns-2 : tie.Need-returns-2
 returns-2 c = search needs
 
 holder-requires : tie.Need-holder-requires
-holder-requires c κs = (search needs, wellFormed-ranged _ (c .before .before .before .before .before .before .before .before .before .before .before .before .before .before .pre .0 .climbed .ready .good .0))
+holder-requires c κs = (search needs, c .before .before .before .before .before .before .before .before .before .before .before .before .before .before .pre .0 .climbed .ready .good .0, c .before .before .before .before .before .before .before .before .before .before .before .before .before .before .pre .1 .low)
 
 count-requires : tie.Need-count-requires
 count-requires c κs = search needs
@@ -66,7 +65,7 @@ returns-3 : tie.Need-returns-3
 returns-3 c = search needs
 
 is-inside-requires : tie.Need-is-inside-requires
-is-inside-requires c κs = (search needs, c .before .before .before .before .before .before .before .before .before .before .before .before .before .before .before .before .before .before .before .before .before .pre .0 .climbed .ready .good .0)
+is-inside-requires c κs = (search needs, c .before .before .before .before .before .before .before .before .before .before .before .before .before .before .before .before .before .before .before .before .before .pre .0 .climbed .ready .good .0, c .before .before .before .before .before .before .before .before .before .before .before .before .before .before .before .before .before .before .before .before .before .pre .2 .low)
 
 refuse-requires-4 : tie.Need-refuse-requires-4
 refuse-requires-4 c κs = move-inside _ _ _ _ _ (c .before .before .before .before .before .before .before .before .before .before .before .before .before .before .before .before .before .before .before .before .before .before .before .before .pre .0) (c .before .before .before .before .before .before .before .before .before .before .before .before .before .before .before .before .before .before .before .before .before .before .before .before .pre .1) (c .before .before .before .before .before .before .before .before .before .before .before .before .before .before .before .before .before .before .before .before .before .before .before .before .pre .2) _ _ (c .before .before .before .before .before .before .before .before .before .before .before .before .before .before .before .before .before .before .before .before .is-entity .ensures) (c .before .before .before .before .before .before .before .before .before .before .before .before .before .before .before .before .before .before .is-container .ensures) (c .before .before .before .before .before .before .before .before .before .before .before .before .before .before .before .before .before .if1 .left) _ _ _ (c .before .before .before .before .before .before .before .before .before .before .before .before .before .before .before .level .ensures) (c .before .before .before .before .before .before .before .before .before .before .before .before .before .level2 .ensures) (c .before .before .before .before .before .before .before .before .before .before .before .before .at-most .ensures) (c .before .before .before .before .before .before .before .before .before .before .before .if2 .left) _ _ (c .before .before .before .before .before .before .before .before .before .holder .ensures) (c .before .before .before .before .before .count .ensures) (c .before .before .before .before .if3 .left) _ (c .before .before .is-inside .ensures) (c .before .if4 .taken)

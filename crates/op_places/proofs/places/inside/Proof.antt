@@ -13,22 +13,22 @@ use Rattle.op_places.proofs.places.inside.Lts as lts
 use Rattle.op_places.proofs.places.holder.Reads as holder-reads
 
 abbrev Inv-loop : tie.InvT-loop
-Inv-loop t e y₀ i₀ y i = (i ≤ 65) × (climb (parentIn (tablesOf t)) (65 - i) (y .0) (e .0) ≡ climb (parentIn (tablesOf t)) 65 (y₀ .0) (e .0))
+Inv-loop t e y₀ i₀ y i = (i ≤ 65) × (1 ≤ y .0) × (climb (parentIn (tablesOf t)) (65 - i) (y .0) (e .0) ≡ climb (parentIn (tablesOf t)) 65 (y₀ .0) (e .0))
 
 abbrev μ-loop : tie.MeasureT-loop
 μ-loop t e y₀ i₀ y i = 65 - i
 
 loop-holds : tie.Need-loop-holds Inv-loop μ-loop
-loop-holds c = (omega arith, refl)
+loop-holds c = (omega arith, search needs, refl)
 
 returns : tie.Need-returns Inv-loop μ-loop
-returns c = climb-met (parentIn (tablesOf (c .before .before .before .before .before .before .args .t .now))) _ (65 - c .before .before .before .before .loop .i) _ (omega arith) (c .if1 .taken) ∙ c .before .before .before .before .loop .inv .1
+returns c = climb-met (parentIn (tablesOf (c .before .before .before .before .before .before .args .t .now))) _ (65 - c .before .before .before .before .loop .i) _ (omega arith) (c .if1 .taken) ∙ c .before .before .before .before .loop .inv .2
 
 holder-requires : tie.Need-holder-requires Inv-loop μ-loop
 holder-requires c κs = search needs
 
 returns-2 : tie.Need-returns-2 Inv-loop μ-loop
-returns-2 c = climb-top (parentIn (tablesOf (c .before .before .before .before .before .before .before .before .before .args .t .now))) _ (65 - c .before .before .before .before .before .before .before .loop .i) _ (c .before .before .before .if1 .left) (sym (c .before .before .holder .ensures) ∙ c .if2 .taken) ∙ c .before .before .before .before .before .before .before .loop .inv .1
+returns-2 c = climb-top (parentIn (tablesOf (c .before .before .before .before .before .before .before .before .before .args .t .now))) _ (65 - c .before .before .before .before .before .before .before .loop .i) _ (c .before .before .before .if1 .left) (sym (c .before .before .holder .ensures) ∙ c .if2 .taken) ∙ c .before .before .before .before .before .before .before .loop .inv .2
 
 add-i : tie.Need-add-i Inv-loop μ-loop
 add-i c = omega arith
@@ -37,10 +37,10 @@ loop-less : tie.Need-loop-less Inv-loop μ-loop
 loop-less c = omega arith
 
 loop-again : tie.Need-loop-again Inv-loop μ-loop
-loop-again c = (omega arith, climb-on (parentIn (tablesOf (c .before .before .before .before .before .before .before .before .before .args .t .now))) _ _ _ _ _ (omega arith) (c .before .before .holder .ensures) (c .before .before .before .if1 .left) (c .if2 .left) ∙ c .before .before .before .before .before .before .before .loop .inv .1)
+loop-again c = (omega arith, omega (arith, c .if2 .left), climb-on (parentIn (tablesOf (c .before .before .before .before .before .before .before .before .before .args .t .now))) _ _ _ _ _ (omega arith) (c .before .before .holder .ensures) (c .before .before .before .if1 .left) (c .if2 .left) ∙ c .before .before .before .before .before .before .before .loop .inv .2)
 
 returns-3 : tie.Need-returns-3 Inv-loop μ-loop
-returns-3 c = climb-end (parentIn (tablesOf (c .before .before .before .args .t .now))) _ (65 - c .before .loop .i) _ (omega arith) ∙ c .before .loop .inv .1
+returns-3 c = climb-end (parentIn (tablesOf (c .before .before .before .args .t .now))) _ (65 - c .before .loop .i) _ (omega arith) ∙ c .before .loop .inv .2
 
 pub inside-spec : {M : Type 1} → statement M
 inside-spec =

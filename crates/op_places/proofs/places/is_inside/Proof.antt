@@ -1,6 +1,5 @@
 use Rattle.model.specs.Tables.Layout.{tablesOf}
 use Rattle.op_places.specs.HolderLaws.{inside-empty}
-use Rattle.reference.specs.WayLaws.{wellFormed-ranged}
 use borrow.Author.Needs.{needs}
 use Rattle.op_places.proofs.places.is_inside.Statement.{statement}
 use Rattle.op_places.proofs.places.is_inside.Tie as tie
@@ -16,7 +15,7 @@ returns : tie.Need-returns
 returns c = inside-empty (tablesOf (c .before .before .before .before .before .args .t .now)) (c .before .before .before .before .before .pre .1) _ _ _ (c .before .before .before .count .ensures) (c .before .before .if1 .taken)
 
 inside-requires : tie.Need-inside-requires
-inside-requires c κs = (search needs, wellFormed-ranged _ (c .before .before .before .pre .1))
+inside-requires c κs = search needs
 
 returns-2 : tie.Need-returns-2
 returns-2 c = search needs
