@@ -54,7 +54,7 @@ fn weigh(shut: bool, used: u32, shown: bool) -> u32
     used * 2 + bit(shown)
 }
 
-// The verdict on entity e. The way on is shut where e is marked and the clearance is not at least its level.
+// The verdict on entity e. A mark shuts the way on to whoever has no clearance for the level of e.
 fn judge(t: &[u32], u: User, clearance: Level, screen: Level, e: Entity) -> u32
     requires { ⌜ Asker (now t) (u .0) (clearance .0) (screen .0) × (1 ≤ e .0) × (e .0 ≤ entityCount) ⌝ }
     ensures { λ r. ⌜ r ≡ verdict (tablesOf (now (t .entry))) (u .0) (e .0) ⌝ }
