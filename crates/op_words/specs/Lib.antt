@@ -2,6 +2,7 @@
 pub mod Trial
 pub mod Rungs
 pub mod TrialLaws
+pub mod ReachLaws
 pub mod RungLaws
 pub mod EntityLaws
 pub mod DeviceLaws

@@ -40,7 +40,7 @@ pub fn device_level(t: &mut [u32], q: &[u32], u: User, e: Entity) -> u32
     {
         return ladder::refusal::refuse(t, q, u, 18, 12);
     }
-    if !crate::trial::try_level(t, e, a) {
+    if !crate::trial::try_device_level(t, e, a) {
         return ladder::refusal::refuse(t, q, u, 18, 13);
     }
     0

@@ -1,5 +1,7 @@
 use borrow.Author.Tests.{not-false, not-true}
-use mathlib.Core.Path.{_∙_, refl}
+use mathlib.Core.Path.{_∙_, refl, sym}
+use Rattle.model.specs.Basics.TestLaws.{is-true}
+use Rattle.model.specs.Request.ConditionLaws.{device-agrees}
 use Rattle.op_words.specs.DeviceLaws.{device-level-10, device-level-12, device-level-13, device-level-done}
 use borrow.Author.Needs.{needs}
 use Rattle.op_words.proofs.devices.device_level.Statement.{statement}
@@ -10,7 +12,7 @@ use Rattle.ladder.proofs.kinds.has_role.Reads as has-role-reads
 use Rattle.ladder.proofs.kinds.is_device.Reads as is-device-reads
 use Rattle.ladder.proofs.refusal.refuse.Reads as refuse-reads
 use Rattle.levels.proofs.lower.Reads as lower-reads
-use Rattle.op_words.proofs.trial.try_level.Reads as try-level-reads
+use Rattle.op_words.proofs.trial.try_device_level.Reads as try-device-level-reads
 use Rattle.tables.proofs.device.Reads as device-reads
 use Rattle.tables.proofs.level.Reads as level-reads
 
@@ -50,23 +52,23 @@ same-length-2 c = search needs
 returns-2 : tie.Need-returns-2
 returns-2 c = search needs
 
-try-level-requires : tie.Need-try-level-requires
-try-level-requires c κs = search needs
+try-device-level-requires : tie.Need-try-device-level-requires
+try-device-level-requires c κs = ((c .before .before .before .before .before .before .before .before .before .before .before .before .before .before .before .before .before .pre .0 .climbed .ready .whole, c .before .before .before .before .before .before .before .before .before .before .before .before .before .before .before .before .before .pre .1 .low, c .before .before .before .before .before .before .before .before .before .before .before .before .before .before .before .before .before .pre .1 .high), c .before .before .before .before .before .before .before .before .before .before .before .before .before .before .before .before .before .pre .0 .climbed .ready .good, device-agrees _ _ .to (is-true _ (sym (c .before .before .before .before .before .before .before .before .before .before .before .before .before .is-device .ensures) ∙ not-false _ (c .before .before .before .before .before .before .before .before .before .before .before .before .if1 .left))))
 
 refuse-requires-3 : tie.Need-refuse-requires-3
-refuse-requires-3 c κs = rw (c .before .before .before .before .try-level .ensures .back (not-true _ (c .before .if3 .taken))) (device-level-13 _ _ _ _ (c .before .before .before .before .before .before .before .before .before .before .before .before .before .before .before .before .before .before .before .before .before .before .pre .0) (c .before .before .before .before .before .before .before .before .before .before .before .before .before .before .before .before .before .before .before .before .before .before .pre .1) _ (c .before .before .before .before .before .before .before .before .before .before .before .before .before .before .before .before .before .before .is-device .ensures) (not-false _ (c .before .before .before .before .before .before .before .before .before .before .before .before .before .before .before .before .before .if1 .left)) _ refl _ (c .before .before .before .before .before .before .before .before .before .before .before .before .before .before .device .ensures) _ _ (c .before .before .before .before .before .before .before .before .before .lower .ensures ∙ rw (c .before .before .before .before .before .before .before .before .before .before .level .ensures)) (c .before .before .before .before .before .before .before .has-role .ensures) (c .before .before .before .before .before .before .if2 .left) _ (c .before .before .before .before .try-level .ensures .secure) (not-true _ (c .before .if3 .taken)))
+refuse-requires-3 c κs = rw (c .before .before .before .before .try-device-level .ensures .back (not-true _ (c .before .if3 .taken))) (device-level-13 _ _ _ _ (c .before .before .before .before .before .before .before .before .before .before .before .before .before .before .before .before .before .before .before .before .before .before .pre .0) (c .before .before .before .before .before .before .before .before .before .before .before .before .before .before .before .before .before .before .before .before .before .before .pre .1) _ (c .before .before .before .before .before .before .before .before .before .before .before .before .before .before .before .before .before .before .is-device .ensures) (not-false _ (c .before .before .before .before .before .before .before .before .before .before .before .before .before .before .before .before .before .if1 .left)) _ refl _ (c .before .before .before .before .before .before .before .before .before .before .before .before .before .before .device .ensures) _ _ (c .before .before .before .before .before .before .before .before .before .lower .ensures ∙ rw (c .before .before .before .before .before .before .before .before .before .before .level .ensures)) (c .before .before .before .before .before .before .before .has-role .ensures) (c .before .before .before .before .before .before .if2 .left) _ (c .before .before .before .before .try-device-level .ensures .secure) (not-true _ (c .before .if3 .taken)))
 
 same-length-3 : tie.Need-same-length-3
 same-length-3 c = search needs
 
 returns-3 : tie.Need-returns-3
-returns-3 c = rw (c .before .before .before .before .before .before .before .try-level .ensures .back (not-true _ (c .before .before .before .before .if3 .taken))) at (c .before .before .refuse3 .ensures)
+returns-3 c = rw (c .before .before .before .before .before .before .before .try-device-level .ensures .back (not-true _ (c .before .before .before .before .if3 .taken))) at (c .before .before .refuse3 .ensures)
 
 same-length-4 : tie.Need-same-length-4
 same-length-4 c = search needs
 
 returns-4 : tie.Need-returns-4
-returns-4 c = device-level-done _ _ _ _ (c .before .before .before .before .before .before .before .before .before .before .before .before .before .before .before .before .before .before .before .before .before .pre .0) (c .before .before .before .before .before .before .before .before .before .before .before .before .before .before .before .before .before .before .before .before .before .pre .1) _ (c .before .before .before .before .before .before .before .before .before .before .before .before .before .before .before .before .before .is-device .ensures) (not-false _ (c .before .before .before .before .before .before .before .before .before .before .before .before .before .before .before .before .if1 .left)) _ refl _ (c .before .before .before .before .before .before .before .before .before .before .before .before .before .device .ensures) _ _ (c .before .before .before .before .before .before .before .before .lower .ensures ∙ rw (c .before .before .before .before .before .before .before .before .before .level .ensures)) (c .before .before .before .before .before .before .has-role .ensures) (c .before .before .before .before .before .if2 .left) _ (c .before .before .before .try-level .ensures .secure) (not-false _ (c .if3 .left)) _ (c .before .before .before .try-level .ensures .kept (not-false _ (c .if3 .left)))
+returns-4 c = device-level-done _ _ _ _ (c .before .before .before .before .before .before .before .before .before .before .before .before .before .before .before .before .before .before .before .before .before .pre .0) (c .before .before .before .before .before .before .before .before .before .before .before .before .before .before .before .before .before .before .before .before .before .pre .1) _ (c .before .before .before .before .before .before .before .before .before .before .before .before .before .before .before .before .before .is-device .ensures) (not-false _ (c .before .before .before .before .before .before .before .before .before .before .before .before .before .before .before .before .if1 .left)) _ refl _ (c .before .before .before .before .before .before .before .before .before .before .before .before .before .device .ensures) _ _ (c .before .before .before .before .before .before .before .before .lower .ensures ∙ rw (c .before .before .before .before .before .before .before .before .before .level .ensures)) (c .before .before .before .before .before .before .has-role .ensures) (c .before .before .before .before .before .if2 .left) _ (c .before .before .before .try-device-level .ensures .secure) (not-false _ (c .if3 .left)) _ (c .before .before .before .try-device-level .ensures .kept (not-false _ (c .if3 .left)))
 
 pub device-level-spec : {M : Type 1} → statement M
 device-level-spec =
@@ -84,7 +86,7 @@ device-level-spec =
     refuse-requires-2
     same-length-2
     returns-2
-    try-level-requires
+    try-device-level-requires
     refuse-requires-3
     same-length-3
     returns-3

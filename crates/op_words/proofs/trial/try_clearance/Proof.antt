@@ -1,48 +1,63 @@
-use mathlib.Core.Path.{_∙_}
-use Rattle.model.specs.Tables.Words.{clearance}
-use Rattle.op_words.specs.TrialLaws.{user-back, tried-back, tried-kept}
+use mathlib.Core.Path.{_∙_, refl, sym}
+use native.Mathlib.Omega.{arith}
+use borrow.Author.Tests.{not-false, not-true}
+use Rattle.op_words.specs.ReachLaws.{clearance-off, clearance-on, device-there}
+use Rattle.op_words.specs.TrialLaws.{tried-left, tried-set}
 use borrow.Author.Needs.{needs}
 use Rattle.op_words.proofs.trial.try_clearance.Statement.{statement}
 use Rattle.op_words.proofs.trial.try_clearance.Tie as tie
 use Rattle.op_words.proofs.trial.try_clearance.Reads as reads
 use Rattle.op_words.proofs.trial.try_clearance.Lts as lts
-use Rattle.state.proofs.is_secure.Reads as is-secure-reads
-use Rattle.tables.proofs.clearance.Reads as clearance-reads
+use Rattle.op_words.proofs.trial.all_at_most.Reads as all-at-most-reads
+use Rattle.tables.proofs.count.Reads as count-reads
+use Rattle.tables.proofs.device.Reads as device-reads
 use Rattle.tables.proofs.set_clearance.Reads as set-clearance-reads
 
-clearance-requires : tie.Need-clearance-requires
-clearance-requires c κs = search needs
+device-requires : tie.Need-device-requires
+device-requires c κs = search needs
 
 set-clearance-requires : tie.Need-set-clearance-requires
 set-clearance-requires c κs = search needs
-
-is-secure-requires : tie.Need-is-secure-requires
-is-secure-requires c κs = search needs
 
 same-length : tie.Need-same-length
 same-length c = search needs
 
 returns : tie.Need-returns
-returns c = tried-kept _ _ _ _ (c .before .is-secure .ensures) (c .if1 .taken) (c .before .before .before .before .before .set-clearance .ensures)
+returns c = tried-set _ _ _ (clearance-off _ (c .before .before .before .before .before .before .before .before .before .pre .1) _ _ (c .before .before .before .before .before .before .before .before .before .pre .0 .1) (c .before .before .before .before .before .before .before .before .before .pre .0 .2) _ (c .before .before .before .before .before .before .device .ensures) (c .before .before .before .before .if1 .taken)) (c .before .before .set-clearance .ensures)
 
-set-clearance-requires-2 : tie.Need-set-clearance-requires-2
-set-clearance-requires-2 c κs = search needs
+count-requires : tie.Need-count-requires
+count-requires c κs = let r = device-there _ (c .before .before .before .before .before .before .pre .1 .0) _ (λ q. c .before .if1 .left (c .before .before .before .device .ensures ∙ q)) in (c .before .before .before .before .before .before .pre .0 .0, omega (arith, c .before .before .before .device .ensures, r .0), omega (arith, c .before .before .before .device .ensures, r .1))
+
+all-at-most-requires : tie.Need-all-at-most-requires
+all-at-most-requires c κs = let r = device-there _ (c .before .before .before .before .before .before .before .pre .1 .0) _ (λ q. c .before .before .if1 .left (c .before .before .before .before .device .ensures ∙ q)) in ((c .before .before .before .before .before .before .before .pre .0 .0, omega (arith, c .before .before .before .before .device .ensures, r .0), omega (arith, c .before .before .before .before .device .ensures, r .1)), c .before .before .before .before .before .before .before .pre .1 .0, c .count .ensures)
 
 same-length-2 : tie.Need-same-length-2
 same-length-2 c = search needs
 
 returns-2 : tie.Need-returns-2
-returns-2 c = tried-back _ _ _ _ _ (c .before .before .before .before .before .is-secure .ensures) (c .before .before .before .before .if1 .left) (c .before .before .before .before .before .before .before .before .before .set-clearance .ensures) (user-back _ _ _ _ clearance _ _ (c .before .before .before .before .before .before .before .before .before .before .before .before .before .before .pre .0) (c .before .before .set-clearance2 .kept .0 ∙ c .before .before .before .before .before .before .before .before .before .set-clearance .kept .0 ∙ c .before .before .before .before .before .before .before .before .before .before .before .before .before .before .pre .0) (c .before .before .before .before .before .before .before .before .before .before .before .clearance .ensures) (c .before .before .before .before .before .before .before .before .before .set-clearance .ensures) (c .before .before .set-clearance2 .ensures))
+returns-2 c = tried-left _ _ _ (sym (not-true _ (c .if2 .taken)) ∙ clearance-on _ (c .before .before .before .before .before .before .before .before .before .pre .1) _ _ (c .before .before .before .before .before .before .before .before .before .pre .0 .1) (c .before .before .before .before .before .before .before .before .before .pre .0 .2) _ _ _ (c .before .before .before .before .before .before .device .ensures) (c .before .before .before .before .if1 .left) (c .before .before .count .ensures) (c .before .all-at-most .ensures)) refl
+
+set-clearance-requires-2 : tie.Need-set-clearance-requires-2
+set-clearance-requires-2 c κs = search needs
+
+same-length-3 : tie.Need-same-length-3
+same-length-3 c = search needs
+
+returns-3 : tie.Need-returns-3
+returns-3 c = tried-set _ _ _ (sym (not-false _ (c .before .before .before .before .if2 .left)) ∙ clearance-on _ (c .before .before .before .before .before .before .before .before .before .before .before .before .before .pre .1) _ _ (c .before .before .before .before .before .before .before .before .before .before .before .before .before .pre .0 .1) (c .before .before .before .before .before .before .before .before .before .before .before .before .before .pre .0 .2) _ _ _ (c .before .before .before .before .before .before .before .before .before .before .device .ensures) (c .before .before .before .before .before .before .before .before .if1 .left) (c .before .before .before .before .before .before .count .ensures) (c .before .before .before .before .before .all-at-most .ensures)) (c .before .before .set-clearance2 .ensures)
 
 pub try-clearance-spec : {M : Type 1} → statement M
 try-clearance-spec =
     tie.close
     (tie.spec
-    clearance-requires
+    device-requires
     set-clearance-requires
-    is-secure-requires
     same-length
     returns
-    set-clearance-requires-2
+    count-requires
+    all-at-most-requires
     same-length-2
-    returns-2)
+    returns-2
+    set-clearance-requires-2
+    same-length-3
+    returns-3)

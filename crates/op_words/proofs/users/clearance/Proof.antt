@@ -45,7 +45,7 @@ shared-slice-read-t6 : tie.Need-shared-slice-read-t6
 shared-slice-read-t6 c = search needs
 
 try-clearance-requires : tie.Need-try-clearance-requires
-try-clearance-requires c κs = let z = arguments-in toClearance _ _ _ (c .before .before .before .before .before .before .before .before .before .before .before .pre) in (c .before .before .before .before .before .before .before .before .before .before .before .pre .climbed .ready .whole, z .0 .0, z .0 .1)
+try-clearance-requires c κs = let z = arguments-in toClearance _ _ _ (c .before .before .before .before .before .before .before .before .before .before .before .pre) in ((c .before .before .before .before .before .before .before .before .before .before .before .pre .climbed .ready .whole, z .0 .0, z .0 .1), c .before .before .before .before .before .before .before .before .before .before .before .pre .climbed .ready .good)
 
 refuse-requires-3 : tie.Need-refuse-requires-3
 refuse-requires-3 c κs = rw (c .before .before .before .before .try-clearance .ensures .back (not-true _ (c .before .if3 .taken))) (clearance-13 _ _ _ (c .before .before .before .before .before .before .before .before .before .before .before .before .before .before .before .before .pre) _ _ refl (c .before .before .before .before .before .before .before .before .before .before .before .present .ensures) (ne-eqb _ _ (c .before .before .before .before .before .before .before .before .before .before .if1 .left)) _ (c .before .before .before .before .before .before .before .before .has-role .ensures) (not-false _ (c .before .before .before .before .before .before .before .if2 .left)) _ refl _ (c .before .before .before .before .try-clearance .ensures .secure) (not-true _ (c .before .if3 .taken)))

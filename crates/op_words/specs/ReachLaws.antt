@@ -1,0 +1,180 @@
+-- What a new clearance, or a new level of a device, can make insecure: of tables that were good, the record that it is set in alone.
+use mathlib.Core.Bool.{Bool, _&&_, and-comm, and-true, false, not, true}
+use mathlib.Core.Logic.{_≢_}
+use mathlib.Core.Path.{_∙_, _≡_, ap, ap₂, refl, subst, sym}
+use Prim.Native.Nat.{_<_, _≤_, pred, suc, ℕ}
+use native.Mathlib.Omega.{arith}
+use lib.Dec.{T, eqb, ltb}
+use borrow.Author.Tests.{eq-eqb}
+use Rattle.laws.specs.Loops.{every-of}
+use Rattle.model.specs.Basics.Agree.{every-at}
+use Rattle.model.specs.Basics.Choice.{Below, Same, below, it, other, over, pick, same, under}
+use Rattle.model.specs.Basics.TestLaws.{T-l, T-r, equal-bools, every-same, holds-true}
+use Rattle.model.specs.Basics.Tests.{every, imp}
+use Rattle.model.specs.Effect.Words.{setClearance, setLevel}
+use Rattle.model.specs.Level.{atMost, roleCount, subset}
+use Rattle.model.specs.State.AgreeSecure.{secure-agrees}
+use Rattle.model.specs.State.Check.{ceilingTest, containedTest, labelledTest, rolesTest, secureTest, seenTest}
+use Rattle.model.specs.State.ParentLaws.{row-room}
+use Rattle.model.specs.State.Secure.{Good, labelled}
+use Rattle.model.specs.State.WellFormed.{WellFormed}
+use Rattle.model.specs.Tables.EditLaws.{elsewhere}
+use Rattle.model.specs.Tables.Words.{Tables, authorised, clearance, counts, current, deviceKind, devices, entityCount, kinds, level, maximum}
+use Rattle.model.specs.Tables.Words.{placeCount, places, sums, userCount}
+use Rattle.op_words.specs.Trial.{placeAtMost}
+use Rattle.state.specs.Passes.{capped, entitySecure, placeSecure, userSecure}
+use Rattle.state.specs.SecureLaws.{capped-within, entity-secure, secure-passes, user-off, user-on}
+
+-- ---- one record among many
+
+-- where all numbers from 1 to n passed, and the test has changed at e alone, e decides
+every-one : (n : ℕ) (p q : ℕ → Bool) (e : ℕ) → 1 ≤ e → e ≤ n → T (every n (λ i. q (suc i))) → ((x : ℕ) → x ≢ e → p x ≡ q x)
+    → every n (λ i. p (suc i)) ≡ p e
+every-one n p q e low high old rest = equal-bools (every n (λ i. p (suc i))) (p e)
+    (λ t. let s : suc (pred e) ≡ e = omega arith in subst (λ (x : ℕ). T (p x)) s (every-at n (λ i. p (suc i)) t (pred e) (omega arith)))
+    (λ t. every-of n (λ i. p (suc i)) (λ i h. go i h t (eqb (suc i) e) (same (suc i) e)))
+  where
+    go : (i : ℕ) → i < n → T (p e) → (b : Bool) → Same (suc i) e b → T (p (suc i))
+    go i h t true (it z) = subst (λ (x : ℕ). T (p x)) (sym z) t
+    go i h t false (other z) = subst T (sym (rest (suc i) z)) (every-at n (λ i. q (suc i)) old i h)
+
+-- what is asked of places in use may differ beyond them
+imp-same : (i n : ℕ) (a b : Bool) → (i < n → a ≡ b) → imp (ltb i n) a ≡ imp (ltb i n) b
+unfolding imp
+imp-same i n a b f = go (ltb i n) (below i n)
+  where
+    go : (c : Bool) → Below i n c → imp c a ≡ imp c b
+    go true (under h) = f h
+    go false (over h) = refl
+
+-- the word that was set
+here : (e a b : ℕ) → pick (eqb e e) a b ≡ a
+here e a b = rw (eq-eqb e e refl)
+
+module _ (d : Tables) (g : Good d) where
+  -- good tables pass both passes of the check
+  both-pass : T (every entityCount (λ e. entitySecure d (suc e)) && every userCount (λ u. userSecure d (suc u)))
+  both-pass = subst T (sym (secure-passes d)) (secure-agrees d (g .0) .from (g .1))
+
+  entities-pass : T (every entityCount (λ e. entitySecure d (suc e)))
+  entities-pass = T-l (every entityCount (λ e. entitySecure d (suc e))) (every userCount (λ u. userSecure d (suc u))) both-pass
+
+  users-pass : T (every userCount (λ u. userSecure d (suc u)))
+  users-pass = T-r (every entityCount (λ e. entitySecure d (suc e))) (every userCount (λ u. userSecure d (suc u))) both-pass
+
+  -- ---- a clearance
+
+  module _ (u a : ℕ) where
+    -- entities do not ask for it
+    clearance-entity : (e : ℕ) → entitySecure (setClearance u a d) e ≡ entitySecure d e
+    unfolding entitySecure containedTest labelledTest ceilingTest
+    clearance-entity e = refl
+
+    -- nor do other users
+    clearance-other : (x : ℕ) → x ≢ u → userSecure (setClearance u a d) x ≡ userSecure d x
+    unfolding userSecure seenTest rolesTest
+    clearance-other x n = rw (elsewhere x u a (d .user x clearance) n)
+
+    -- so the user whose it is decides
+    clearance-own : 1 ≤ u → u ≤ userCount → secureTest (setClearance u a d) ≡ userSecure (setClearance u a d) u
+    clearance-own low high = sym (secure-passes (setClearance u a d)) ∙ ap₂ _&&_
+        (every-same entityCount (λ e. entitySecure (setClearance u a d) (suc e)) (λ e. entitySecure d (suc e)) (λ e h. clearance-entity (suc e))
+        ∙ holds-true (every entityCount (λ e. entitySecure d (suc e))) entities-pass)
+        (every-one userCount (userSecure (setClearance u a d)) (userSecure d) u low high users-pass clearance-other)
+
+  -- ---- the level of a device
+
+  module _ (e a : ℕ) (k : kinds d e ≡ deviceKind) where
+    -- a device stands in no place
+    held-level : (x i : ℕ) → i < counts d x → setLevel e a d .entity (places d x i) level ≡ d .entity (places d x i) level
+    held-level x i h = elsewhere (places d x i) e a (d .entity (places d x i) level)
+        (λ q. let z = g .0 .links .contents x (places d x i) (i, h, refl) in absurd (omega (arith, rw q at z .1, k)))
+
+    -- so what stands in the places of x is as much at most m as before
+    held-same : (x m : ℕ) → every placeCount (λ i. imp (ltb i (counts d x)) (atMost (setLevel e a d .entity (places d x i) level) m))
+        ≡ every placeCount (λ i. imp (ltb i (counts d x)) (atMost (d .entity (places d x i) level) m))
+    held-same x m = every-same placeCount (λ i. imp (ltb i (counts d x)) (atMost (setLevel e a d .entity (places d x i) level) m))
+        (λ i. imp (ltb i (counts d x)) (atMost (d .entity (places d x i) level) m))
+        (λ i h. imp-same i (counts d x) (atMost (setLevel e a d .entity (places d x i) level) m) (atMost (d .entity (places d x i) level) m)
+        (λ l. ap (λ (y : ℕ). atMost y m) (held-level x i l)))
+
+    -- users ask for the levels of what stands in places
+    level-user : (x : ℕ) → userSecure (setLevel e a d) x ≡ userSecure d x
+    unfolding userSecure seenTest rolesTest
+    level-user x = ap (λ (b : Bool). imp (not (eqb (devices d x) 0)) b && rolesTest d x) (held-same (devices d x) (d .user x clearance))
+
+    -- other entities for those and for their own
+    level-other : (x : ℕ) → x ≢ e → entitySecure (setLevel e a d) x ≡ entitySecure d x
+    unfolding entitySecure containedTest labelledTest ceilingTest
+    level-other x n = rw (elsewhere x e a (d .entity x level) n)
+        (ap (λ (b : Bool). b && (labelledTest d x && ceilingTest d x)) (held-same x (d .entity x level)))
+
+    -- so the device whose it is decides
+    level-own : 1 ≤ e → e ≤ entityCount → secureTest (setLevel e a d) ≡ entitySecure (setLevel e a d) e
+    level-own low high = sym (secure-passes (setLevel e a d)) ∙ ap₂ _&&_
+        (every-one entityCount (entitySecure (setLevel e a d)) (entitySecure d) e low high entities-pass level-other)
+        (every-same userCount (λ u. userSecure (setLevel e a d) (suc u)) (λ u. userSecure d (suc u)) (λ u h. level-user (suc u))
+        ∙ holds-true (every userCount (λ u. userSecure d (suc u))) users-pass)
+        ∙ and-true (entitySecure (setLevel e a d) e)
+
+-- ---- what is asked of that record
+
+-- who is on is on an entity
+pub device-there : (d : Tables) → WellFormed d → (u : ℕ) → devices d u ≢ 0 → (1 ≤ devices d u) × (devices d u ≤ entityCount)
+device-there d w u n = let k = w .links .deviceIs u n in w .entityNumbers (devices d u) (λ q. omega (arith, k))
+
+module _ (d : Tables) (g : Good d) where
+  -- no entity uses more than eight places
+  used : (v : ℕ) → counts d v ≡ capped (counts d v)
+  used v = capped-within (counts d v) (row-room d (g .0) v)
+
+  module _ (u a : ℕ) (low : 1 ≤ u) (high : u ≤ userCount) where
+    -- everybody's roles are authorised
+    roles-kept : true ≡ subset roleCount (d .user u current) (d .user u authorised)
+    roles-kept = sym (holds-true (subset roleCount (d .user u current) (d .user u authorised)) (g .1 .roles u))
+
+    -- a user who is on nothing may have any clearance
+    pub clearance-off : (v : ℕ) → v ≡ devices d u → v ≡ 0 → true ≡ secureTest (setClearance u a d)
+    clearance-off v ve z = user-off (setClearance u a d) u (d .user u current) (d .user u authorised) true refl refl roles-kept refl v ve
+        (omega (arith, z)) ∙ sym (clearance-own d g u a low high)
+
+    -- else all that the device v shows, n entities, is at most that
+    pub clearance-on : (v n : ℕ) (b : Bool) → v ≡ devices d u → v ≢ 0 → n ≡ counts d v → b ≡ every n (placeAtMost d v a)
+        → b ≡ secureTest (setClearance u a d)
+    unfolding placeAtMost
+    clearance-on v n b ve z ne be = user-on (setClearance u a d) u (d .user u current) (d .user u authorised) true refl refl roles-kept refl v ve
+        (omega (arith, z)) b a (counts d v) n (sym (here u a (d .user u clearance))) refl (ne ∙ used v) be ∙ sym (clearance-own d g u a low high)
+
+  module _ (e a : ℕ) (k : kinds d e ≡ deviceKind) where
+    -- what a device shows with its value has its label already
+    place-device : (i : ℕ) → i < counts d e → placeAtMost d e a i ≡ placeSecure (setLevel e a d) e i
+    unfolding placeSecure placeAtMost imp
+    place-device i h = rw (
+      held-level d g e a k e i h,
+      here e a (d .entity e level),
+      eq-eqb (kinds d e) deviceKind k,
+      holds-true (labelled (sums d e i)) (g .1 .valueLabelled e i k h),
+    ) (sym (and-true (atMost (d .entity (places d e i) level) a)))
+
+    ceiling-device : atMost a (d .entity e maximum) ≡ imp (eqb (kinds d e) deviceKind) (atMost (setLevel e a d .entity e level) (d .entity e maximum))
+    unfolding imp
+    ceiling-device = rw (eq-eqb (kinds d e) deviceKind k, here e a (d .entity e level))
+
+    -- all that a device shows is at most its level, and that at most its maximum
+    device-level-is : 1 ≤ e → e ≤ entityCount → (every (counts d e) (placeAtMost d e a) && atMost a (d .entity e maximum)) ≡ secureTest (setLevel e a d)
+    device-level-is low high = ap₂ _&&_ (every-same (counts d e) (placeAtMost d e a) (placeSecure (setLevel e a d) e) place-device
+        ∙ ap (λ (n : ℕ). every n (placeSecure (setLevel e a d) e)) (used e)) ceiling-device
+        ∙ entity-secure (setLevel e a d) e ∙ sym (level-own d g e a k low high)
+
+    -- x is its maximum
+    module _ (low : 1 ≤ e) (high : e ≤ entityCount) (x : ℕ) (xe : x ≡ d .entity e maximum) (m : Bool) (me : m ≡ atMost a x) where
+      from-maximum : (m && every (counts d e) (placeAtMost d e a)) ≡ secureTest (setLevel e a d)
+      from-maximum = rw (me, xe) (and-comm (atMost a (d .entity e maximum)) (every (counts d e) (placeAtMost d e a)) ∙ device-level-is low high)
+
+      -- the level is above it
+      pub device-above : m ≡ false → false ≡ secureTest (setLevel e a d)
+      device-above z = rw z at from-maximum
+
+      -- it is not, and all that is shown, n entities, is left
+      pub device-shows : m ≡ true → (n : ℕ) (b : Bool) → n ≡ counts d e → b ≡ every n (placeAtMost d e a) → b ≡ secureTest (setLevel e a d)
+      device-shows z n b ne be = be ∙ rw ne (rw z at from-maximum)
