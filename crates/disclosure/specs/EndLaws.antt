@@ -2,18 +2,18 @@
 use mathlib.Core.List.{List, [], _++_, _∷_}
 use mathlib.Core.Logic.{_≢_}
 use mathlib.Core.Path.{_∙_, _≡_, ap, refl, subst, sym}
-use Prim.Native.Nat.{_*_, _/_, _<_, _≤_, ℕ}
+use Prim.Native.Nat.{_*_, _<_, _≤_, ℕ}
 use native.Mathlib.Nat.{zero-add}
 use native.Mathlib.Omega.{arith}
 use lib.ListN.{drop, length}
 use lib.Seq.{sets, sets-eq}
-use Rattle.disclosure.specs.EntryLaws.{entries-length, entriesOf-whole}
+use Rattle.disclosure.specs.EntryLaws.{entries-length}
 use Rattle.disclosure.specs.VerdictLaws.{judged-found}
 use Rattle.disclosure.specs.Verdicts.{Judged}
-use Rattle.disclosure.specs.Visited.{Visited, entriesOf, followed}
+use Rattle.disclosure.specs.Visited.{Fits, followed}
 use Rattle.model.specs.List.AdmittedLaws.{barred-admitted}
-use Rattle.model.specs.List.Listing.{Lists, barred, entries, entryWords}
-use Rattle.model.specs.List.ListingLaws.{found-bound, lists-found, lists-refused, lists-short, lists-written}
+use Rattle.model.specs.List.Listing.{Lists, barred, entries}
+use Rattle.model.specs.List.ListingLaws.{lists-found, lists-refused, lists-short, lists-written}
 use Rattle.model.specs.List.Ways.{found}
 use Rattle.model.specs.Tables.Layout.{tablesOf}
 use Rattle.model.specs.Tables.Words.{entityCount}
@@ -34,33 +34,27 @@ module _ (t : List ℕ) (u : ℕ) (v : List ℕ) (b : barred t u ≡ 0) (j : Jud
   same-list : followed t v entityCount ≡ found (tablesOf t) u
   same-list = judged-found t u v (barred-admitted t u b) j
 
-  module _ (l x : List ℕ) (n : ℕ) (y : Visited [] l 0 (followed t v entityCount) n x) where
-    need-is : n ≡ entryWords * length (found (tablesOf t) u)
-    need-is = omega (arith, y .reach, ap length same-list)
-
-    count-is : length (found (tablesOf t) u) ≡ n / 5
-    count-is = omega (arith, need-is)
-
-    -- the count is a word
-    pub need-bound : n / 5 ≤ 37440
-    need-bound = omega (arith, need-is, found-bound t u b)
+  module _ (n : ℕ) (y : n ≡ length (followed t v entityCount)) where
+    count-is : length (found (tablesOf t) u) ≡ n
+    count-is = sym (y ∙ ap length same-list)
 
     -- there is nothing to list, and any room is enough
     pub end-none : (room : List ℕ) → n ≡ 0 → Lists t u room 0 0 room
     unfolding entries
-    end-none room z = lists-found t u room [] b (empty (found (tablesOf t) u) (omega (arith, need-is))) (omega arith)
+    end-none room z = lists-found t u room [] b (empty (found (tablesOf t) u) (count-is ∙ z)) (omega arith)
 
     -- the room is too short
-    pub end-short : (room : List ℕ) → length room < n → Lists t u room 17 (n / 5) room
-    end-short room h = subst (λ (m : ℕ). Lists t u room 17 m room) count-is (lists-short t u room b (omega (arith, need-is)))
+    pub end-short : (room : List ℕ) → length room < n * 5 → Lists t u room 17 n room
+    end-short room h = subst (λ (m : ℕ). Lists t u room 17 m room) count-is (lists-short t u room b (omega (arith, count-is)))
+
+    -- the room suffices
+    pub end-fits : (room : List ℕ) → n * 5 ≤ length room → Fits room 0 (followed t v entityCount)
+    end-fits room h = omega (arith, y)
 
     -- the walk over the room has written the entries
-    pub end-written : (room s : List ℕ) (m : ℕ) → n ≤ length room → Visited [] room 0 (followed t v entityCount) m s → Lists t u room 0 (n / 5) s
-    end-written room s m h z = subst (λ (k : ℕ). Lists t u room 0 k s) count-is (lists-written t u room s b (omega (arith, need-is)) put)
+    pub end-written : (room s : List ℕ) → n * 5 ≤ length room → s ≡ sets room 0 (entries (followed t v entityCount)) → Lists t u room 0 n s
+    end-written room s h z = subst (λ (k : ℕ). Lists t u room 0 k s) count-is (lists-written t u room s b (omega (arith, count-is)) put)
       where
-        e : entriesOf [] (followed t v entityCount) ≡ entries (found (tablesOf t) u)
-        e = entriesOf-whole (followed t v entityCount) ∙ ap entries same-list
-
         put : s ≡ entries (found (tablesOf t) u) ++ drop (length (entries (found (tablesOf t) u))) room
-        put = z .wrote (omega (arith, z .reach, need-is, ap length same-list)) ∙ ap (sets room 0) e
-            ∙ stored-front (entries (found (tablesOf t) u)) room (omega (arith, entries-length (found (tablesOf t) u), need-is))
+        put = z ∙ ap (λ (l : List (List ℕ)). sets room 0 (entries l)) same-list
+            ∙ stored-front (entries (found (tablesOf t) u)) room (omega (arith, entries-length (found (tablesOf t) u), count-is))

@@ -1,17 +1,15 @@
--- What a visit says of the room: how far its entries reach, and what is written where they all fit.
+-- What a visit writes into the room, which has space for it, and how far its entries reach.
 use mathlib.Core.List.{List, _++_, map}
 use mathlib.Core.Path.{_≡_}
-use Prim.Native.Nat.{_*_, _+_, _-_, _≤_, pred, ℕ}
+use Prim.Native.Nat.{_*_, _+_, _≤_, pred, ℕ}
 use lib.ListN.{getD, length}
 use lib.Seq.{sets}
-use Rattle.disclosure.specs.Verdicts.{Guided, leads, listed}
+use Rattle.disclosure.specs.Verdicts.{leads, listed}
 use Rattle.model.specs.List.Listing.{entries, entryWords}
-use Rattle.model.specs.List.Reach.{mostEntries}
 use Rattle.model.specs.List.Walk.{through, visit, walk}
 use Rattle.model.specs.Request.Reference.{standing}
 use Rattle.model.specs.Request.Words.{nameCount}
 use Rattle.model.specs.Tables.Layout.{tablesOf}
-use Rattle.model.specs.Tables.Words.{entityCount}
 
 -- the continuations from e by at most k names, in the tables t, as the verdicts v tell
 abbrev pub under : List ℕ → List ℕ → ℕ → ℕ → List (List ℕ)
@@ -34,23 +32,11 @@ pub record Padded (ns : List ℕ) (n : ℕ) : Type 0 where
   pub four : length ns ≡ nameCount
   pub zeros : (k : ℕ) → n ≤ k → getD ns k 0 ≡ 0
 
--- no list takes more words, 187,200, and no count of them wraps
-abbrev pub mostWords : ℕ
-mostWords = entryWords * mostEntries
+-- the room has space for the entries of l from word i on
+abbrev pub Fits : List ℕ → ℕ → List (List ℕ) → Type 0
+Fits room i l = i + entryWords * length l ≤ length room
 
-abbrev pub Fits : ℕ → List (List ℕ) → Type 0
-Fits i l = i + entryWords * length l ≤ mostWords
-
--- The first names, all but the last `left` of four, have led to the entity e.
-pub record Arrived (t v : List ℕ) (e left : ℕ) (names : List ℕ) : Type 0 where
-  pub guided : Guided t v
-  pub low : 1 ≤ e
-  pub high : e ≤ entityCount
-  pub few : left ≤ pred nameCount
-  pub padded : Padded names (nameCount - left)
-
--- The entries of l, each begun by pre, reach from word i of the room to word n; where that is within the room, r is the room
--- with their words, and where it is not, nothing is said of r.
+-- The entries of l, each begun by pre, reach from word i of the room to word n, and r is the room with their words.
 pub record Visited (pre room : List ℕ) (i : ℕ) (l : List (List ℕ)) (n : ℕ) (r : List ℕ) : Type 0 where
   pub reach : n ≡ i + entryWords * length l
-  pub wrote : n ≤ length room → r ≡ sets room i (entriesOf pre l)
+  pub wrote : r ≡ sets room i (entriesOf pre l)

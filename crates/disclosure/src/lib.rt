@@ -1,10 +1,11 @@
-// The disclosure list: the refusals that it may give, then the verdicts on the entities, then one walk that counts and, where the room
-// suffices, the same walk again that writes.
+// The disclosure list: the refusals that it may give, then the verdicts on the entities, then how many entries there are and, where the room
+// suffices for them, the walk that writes them.
 use levels::User;
 ghost use mathlib.Core.Path.{_≡_};
 ghost use Rattle.disclosure.specs.Contract.{Listing};
 ghost use Rattle.model.specs.List.Listing.{barred};
 
+mod tally;
 mod verdicts;
 mod walk;
 
@@ -37,29 +38,29 @@ fn admit(t: &[u32], user: u32) -> u32
     0
 }
 
-// The list of a user who was let in: 17 and nothing written where the room is too short. A list without entries is not walked a second time.
+// The list of a user who was let in: 17 and nothing written where the room is too short. Where there are no entries nothing is walked.
 fn disclose(t: &[u32], u: User, room: &mut [u32]) -> Listed
     requires { ⌜ barred (now t) (u .0) ≡ 0 ⌝ }
     ensures { λ r. ⌜ Listing (now (t .entry)) (u .0) (now (room .entry)) r (now (room .exit)) ⌝ }
 {
     let mut v = [0u32; 65];
     verdicts::judge_all(t, u, &mut v);
-    let mut none = [0u32; 1];
-    let need = walk::visit_all(t, &v, &mut none);
-    if need == 0 {
+    let mut b = [0u32; 257];
+    let n = tally::tally_all(t, &v, &mut b);
+    if n == 0 {
         return Listed {
             answer: 0,
             count: 0,
         };
     }
-    let n = (need / 5) as u32;
+    let need = n as usize * 5;
     if room.len() < need {
         return Listed {
             answer: 17,
             count: n,
         };
     }
-    walk::visit_all(t, &v, room);
+    walk::visit_all(t, &v, &b, room);
     Listed {
         answer: 0,
         count: n,

@@ -1,13 +1,14 @@
 use native.Mathlib.Omega.{arith}
 use native.Mathlib.Nat.{pos-of-ne-zero}
-use mathlib.Core.Path.{_∙_, _≡_, refl}
+use mathlib.Core.Path.{_∙_, refl}
 use Prim.Native.Nat.{_+_, _-_, _≤_}
-use lib.ListN.{length, take}
+use lib.ListN.{take}
 use borrow.Author.Needs.{needs}
 use Rattle.disclosure.specs.EntryLaws.{padded-more}
+use Rattle.disclosure.specs.TallyLaws.{tally-nothing}
 use Rattle.disclosure.specs.VerdictLaws.{guided-next, guided-place}
 use Rattle.disclosure.specs.Verdicts.{leads, listed}
-use Rattle.disclosure.specs.VisitLaws.{entity-last, entity-more, here-room, places-done, places-none, places-room, places-turn, turn-room}
+use Rattle.disclosure.specs.VisitLaws.{entity-last, entity-more, here-room, places-done, places-none, places-room, places-skip, places-turn, turn-room, visited-length}
 use Rattle.disclosure.specs.Visited.{Visited, inside}
 use Prim.Native.Nat.{ℕ, _<_}
 use borrow.Fn.Kinds.{In}
@@ -23,34 +24,34 @@ use Rattle.tables.proofs.place.Reads as place-reads
 use Rattle.disclosure.proofs.walk.+visit_entity+visit_places.{statement}
 use Rattle.disclosure.proofs.walk.+visit_entity+visit_places.Tie.{close}
 
-abbrev μ-visit-entity : Measures 3 visit-entity-kinds.ps ℕ
-μ-visit-entity κs a = a .1 .1 .1 .0 + a .1 .1 .1 .0 + 1
+abbrev μ-visit-entity : Measures 4 visit-entity-kinds.ps ℕ
+μ-visit-entity κs a = a .1 .1 .1 .1 .0 + a .1 .1 .1 .1 .0 + 1
 
-abbrev μ-visit-places : Measures 3 visit-places-kinds.ps ℕ
-μ-visit-places κs a = a .1 .1 .1 .1 .0 + a .1 .1 .1 .1 .0
+abbrev μ-visit-places : Measures 4 visit-places-kinds.ps ℕ
+μ-visit-places κs a = a .1 .1 .1 .1 .1 .0 + a .1 .1 .1 .1 .1 .0
 
-abbrev visit-entity-at : ℕ → In 3 visit-entity-kinds.ps
+abbrev visit-entity-at : ℕ → In 4 visit-entity-kinds.ps
 visit-entity-at t =
-    and 3 visit-entity-kinds.ps (is 3 visit-entity-kinds.ps μ-visit-entity t) visit-entity.Pre
+    and 4 visit-entity-kinds.ps (is 4 visit-entity-kinds.ps μ-visit-entity t) visit-entity.Pre
 
-abbrev visit-entity-below : ℕ → In 3 visit-entity-kinds.ps
+abbrev visit-entity-below : ℕ → In 4 visit-entity-kinds.ps
 visit-entity-below t =
     and
-    3
+    4
     visit-entity-kinds.ps
-    (falls 3 visit-entity-kinds.ps _<_ μ-visit-entity t)
+    (falls 4 visit-entity-kinds.ps _<_ μ-visit-entity t)
     visit-entity.Pre
 
-abbrev visit-places-at : ℕ → In 3 visit-places-kinds.ps
+abbrev visit-places-at : ℕ → In 4 visit-places-kinds.ps
 visit-places-at t =
-    and 3 visit-places-kinds.ps (is 3 visit-places-kinds.ps μ-visit-places t) visit-places.Pre
+    and 4 visit-places-kinds.ps (is 4 visit-places-kinds.ps μ-visit-places t) visit-places.Pre
 
-abbrev visit-places-below : ℕ → In 3 visit-places-kinds.ps
+abbrev visit-places-below : ℕ → In 4 visit-places-kinds.ps
 visit-places-below t =
     and
-    3
+    4
     visit-places-kinds.ps
-    (falls 3 visit-places-kinds.ps _<_ μ-visit-places t)
+    (falls 4 visit-places-kinds.ps _<_ μ-visit-places t)
     visit-places.Pre
 
 abbrev visit-entity-calls : ℕ → visit-entity-lts.Claims
@@ -70,7 +71,7 @@ visit-entity-element-copy-out-w t c = omega (arith, c .before .before .before .p
 
 visit-entity-visit-here-requires : (t : ℕ) → visit-entity-lts.Need-visit-here-requires (visit-entity-calls t) (visit-entity-at t) visit-entity.Post
 unfolding listed
-visit-entity-visit-here-requires t c κs = (c .before .before .before .before .before .pre .1 .0 .few, c .before .before .before .before .before .pre .1 .0 .padded, here-room (c .before .before .before .before .before .args .t .now) (c .before .before .before .before .before .args .v .now) (c .before .before .before .before .before .args .left) (c .before .before .before .before .before .args .e .0) _ _ refl (c .before .before .before .before .before .pre .1 .1))
+visit-entity-visit-here-requires t c κs = (c .before .before .before .before .before .pre .1 .0 .few, c .before .before .before .before .before .pre .1 .0 .padded, here-room (c .before .before .before .before .before .args .t .now) (c .before .before .before .before .before .args .v .now) (c .before .before .before .before .before .args .left) (c .before .before .before .before .before .args .e .0) _ (c .before .before .before .before .before .args .room .now) _ refl (c .before .before .before .before .before .pre .1 .1))
 
 visit-entity-same-length : (t : ℕ) → visit-entity-lts.Need-same-length (visit-entity-calls t) (visit-entity-at t) visit-entity.Post
 visit-entity-same-length t c = c .before .before .before .visit-here .kept .1 .1 .1 .0
@@ -84,56 +85,83 @@ unfolding leads listed
 visit-entity-visit-places-requires t c κs = (omega (arith, c .before .before .before .before .before .before .before .before .before .before .pre .0), (c .before .before .before .before .before .before .before .before .before .before .pre .1 .0, pos-of-ne-zero (c .before .if1 .left), refl, places-room (c .before .before .before .before .before .before .before .before .before .before .args .t .now) (c .before .before .before .before .before .before .before .before .before .before .args .v .now) (c .before .before .before .before .before .before .before .before .before .before .args .left) (c .before .before .before .before .before .before .before .before .before .before .args .e .0) _ _ (c .before .if1 .left) refl refl _ _ _ _ _ (c .before .before .before .before .visit-here .ensures) (c .before .before .before .before .before .before .before .before .before .before .pre .1 .1)))
 
 visit-entity-same-length-2 : (t : ℕ) → visit-entity-lts.Need-same-length-2 (visit-entity-calls t) (visit-entity-at t) visit-entity.Post
-visit-entity-same-length-2 t c = c .before .before .visit-places .kept .1 .1 .1 .1 .1 .1 .0 ∙ c .before .before .before .before .before .before .before .visit-here .kept .1 .1 .1 .0
+visit-entity-same-length-2 t c = c .before .before .visit-places .kept .1 .1 .1 .1 .1 .1 .1 .0 ∙ c .before .before .before .before .before .before .before .visit-here .kept .1 .1 .1 .0
 
 visit-entity-returns-2 : (t : ℕ) → visit-entity-lts.Need-returns-2 (visit-entity-calls t) (visit-entity-at t) visit-entity.Post
 unfolding leads listed
-visit-entity-returns-2 t c = entity-more (c .before .before .before .before .before .before .before .before .before .before .before .before .before .args .t .now) (c .before .before .before .before .before .before .before .before .before .before .before .before .before .args .v .now) (c .before .before .before .before .before .before .before .before .before .before .before .before .before .args .left) (c .before .before .before .before .before .before .before .before .before .before .before .before .before .args .e .0) _ _ (c .before .before .before .before .if1 .left) refl refl _ _ _ _ _ _ _ (c .before .before .before .before .before .before .before .visit-here .kept .1 .1 .1 .0) (c .before .before .before .before .before .before .before .visit-here .ensures) (c .before .before .visit-places .ensures)
+visit-entity-returns-2 t c = entity-more (c .before .before .before .before .before .before .before .before .before .before .before .before .before .args .t .now) (c .before .before .before .before .before .before .before .before .before .before .before .before .before .args .v .now) (c .before .before .before .before .before .before .before .before .before .before .before .before .before .args .left) (c .before .before .before .before .before .before .before .before .before .before .before .before .before .args .e .0) _ _ (c .before .before .before .before .if1 .left) refl refl _ _ _ _ _ _ _ (c .before .before .before .before .before .before .before .visit-here .ensures) (c .before .before .visit-places .ensures)
 
 abbrev visit-places-Inv-loop : visit-places-lts.InvT-loop
-visit-places-Inv-loop t v e n left names room₀ at i₀ p₀ room i p = (p ≤ n) × (length room ≡ length room₀) × Visited (take (4 - left) names) room₀ at (inside t v (left - 1) (e .0) p) i room
+visit-places-Inv-loop t v b e n left names room₀ at i₀ p₀ room i p = (p ≤ n) × Visited (take (4 - left) names) room₀ at (inside t v (left - 1) (e .0) p) i room
 
 abbrev visit-places-μ-loop : visit-places-lts.MeasureT-loop
-visit-places-μ-loop t v e n left names room₀ at i₀ p₀ room i p = n - p
+visit-places-μ-loop t v b e n left names room₀ at i₀ p₀ room i p = n - p
 
 visit-places-loop-holds : (t : ℕ) → visit-places-lts.Need-loop-holds (visit-places-calls t) (visit-places-at t) visit-places.Post visit-places-Inv-loop visit-places-μ-loop
-visit-places-loop-holds t c = (omega arith, refl, places-none (c .before .before .args .t .now) (c .before .before .args .v .now) (c .before .before .args .left - 1) (c .before .before .args .e .0) _ _ _)
+visit-places-loop-holds t c = (omega arith, places-none (c .before .before .args .t .now) (c .before .before .args .v .now) (c .before .before .args .left - 1) (c .before .before .args .e .0) _ _ _)
 
 visit-places-place-requires : (t : ℕ) → visit-places-lts.Need-place-requires (visit-places-calls t) (visit-places-at t) visit-places.Post visit-places-Inv-loop visit-places-μ-loop
 visit-places-place-requires t c κs = ((c .before .before .before .before .pre .1 .0 .guided .whole, c .before .before .before .before .pre .1 .0 .low, c .before .before .before .before .pre .1 .0 .high), guided-place _ _ (c .before .before .before .before .pre .1 .0 .guided) _ _ _ (c .before .before .before .before .pre .1 .2) (c .loop-test .taken))
+
+visit-places-sub-if1 : (t : ℕ) → visit-places-lts.Need-sub-if1 (visit-places-calls t) (visit-places-at t) visit-places.Post visit-places-Inv-loop visit-places-μ-loop
+visit-places-sub-if1 t c = omega (arith, c .before .before .before .before .before .pre .1 .1)
+
+visit-places-mul-if1 : (t : ℕ) → visit-places-lts.Need-mul-if1 (visit-places-calls t) (visit-places-at t) visit-places.Post visit-places-Inv-loop visit-places-μ-loop
+visit-places-mul-if1 t c = omega (arith, c .before .before .before .before .before .pre .1 .0 .few)
+
+visit-places-cast-if1 : (t : ℕ) → visit-places-lts.Need-cast-if1 (visit-places-calls t) (visit-places-at t) visit-places.Post visit-places-Inv-loop visit-places-μ-loop
+visit-places-cast-if1 t c = search needs
+
+visit-places-add-if1 : (t : ℕ) → visit-places-lts.Need-add-if1 (visit-places-calls t) (visit-places-at t) visit-places.Post visit-places-Inv-loop visit-places-μ-loop
+visit-places-add-if1 t c = omega (arith, c .before .before .before .before .before .before .pre .1 .0 .few, guided-next _ _ (c .before .before .before .before .before .before .pre .1 .0 .guided) _ _ _ (c .before .before .before .before .before .before .pre .1 .2) (c .before .before .loop-test .taken) _ (c .before .place .ensures))
+
+visit-places-mul-if1-2 : (t : ℕ) → visit-places-lts.Need-mul-if1-2 (visit-places-calls t) (visit-places-at t) visit-places.Post visit-places-Inv-loop visit-places-μ-loop
+visit-places-mul-if1-2 t c = omega (arith, c .before .before .before .before .before .before .pre .1 .0 .few, guided-next _ _ (c .before .before .before .before .before .before .pre .1 .0 .guided) _ _ _ (c .before .before .before .before .before .before .pre .1 .2) (c .before .before .loop-test .taken) _ (c .before .place .ensures))
+
+visit-places-element-copy-out-if1 : (t : ℕ) → visit-places-lts.Need-element-copy-out-if1 (visit-places-calls t) (visit-places-at t) visit-places.Post visit-places-Inv-loop visit-places-μ-loop
+visit-places-element-copy-out-if1 t c = omega (arith, c .before .before .before .before .before .before .pre .1 .0 .few, guided-next _ _ (c .before .before .before .before .before .before .pre .1 .0 .guided) _ _ _ (c .before .before .before .before .before .before .pre .1 .2) (c .before .before .loop-test .taken) _ (c .before .place .ensures))
+
+visit-places-add-p : (t : ℕ) → visit-places-lts.Need-add-p (visit-places-calls t) (visit-places-at t) visit-places.Post visit-places-Inv-loop visit-places-μ-loop
+visit-places-add-p t c = omega (arith, c .before .before .before .before .loop-test .taken)
+
+visit-places-loop-less : (t : ℕ) → visit-places-lts.Need-loop-less (visit-places-calls t) (visit-places-at t) visit-places.Post visit-places-Inv-loop visit-places-μ-loop
+visit-places-loop-less t c = omega (arith, c .before .before .before .before .loop-test .taken)
+
+visit-places-loop-again : (t : ℕ) → visit-places-lts.Need-loop-again (visit-places-calls t) (visit-places-at t) visit-places.Post visit-places-Inv-loop visit-places-μ-loop
+visit-places-loop-again t c = let g = guided-next _ _ (c .before .before .before .before .before .before .before .before .pre .1 .0 .guided) _ _ _ (c .before .before .before .before .before .before .before .before .pre .1 .2) (c .before .before .before .before .loop-test .taken) _ (c .before .before .before .place .ensures) in (omega (arith, c .before .before .before .before .loop-test .taken), places-skip (c .before .before .before .before .before .before .before .before .args .t .now) (c .before .before .before .before .before .before .before .before .args .v .now) (c .before .before .before .before .before .before .before .before .args .left - 1) (c .before .before .before .before .before .before .before .before .args .e .0) _ _ (c .before .before .before .place .ensures) _ _ _ _ _ (tally-nothing (c .before .before .before .before .before .before .before .before .args .t .now) (c .before .before .before .before .before .before .before .before .args .v .now) (c .before .before .before .before .before .before .before .before .args .b .now) _ (c .before .before .before .before .before .before .before .before .pre .1 .0 .tallied) (c .before .before .before .before .before .before .before .before .args .left - 1) _ (omega (arith, c .before .before .before .before .before .before .before .before .pre .1 .0 .few)) (omega arith) (g .0) (g .1) (c .if1 .taken)) (c .before .before .before .before .before .loop .inv .1))
 
 visit-places-add-longer : (t : ℕ) → visit-places-lts.Need-add-longer (visit-places-calls t) (visit-places-at t) visit-places.Post visit-places-Inv-loop visit-places-μ-loop
 visit-places-add-longer t c = omega arith
 
 visit-places-sub-longer : (t : ℕ) → visit-places-lts.Need-sub-longer (visit-places-calls t) (visit-places-at t) visit-places.Post visit-places-Inv-loop visit-places-μ-loop
-visit-places-sub-longer t c = omega (arith, c .before .before .before .before .before .pre .1 .0 .few)
+visit-places-sub-longer t c = omega (arith, c .before .before .before .before .before .before .before .before .pre .1 .0 .few)
 
 visit-places-mul-longer : (t : ℕ) → visit-places-lts.Need-mul-longer (visit-places-calls t) (visit-places-at t) visit-places.Post visit-places-Inv-loop visit-places-μ-loop
 visit-places-mul-longer t c = omega arith
 
 visit-places-array-write-longer : (t : ℕ) → visit-places-lts.Need-array-write-longer (visit-places-calls t) (visit-places-at t) visit-places.Post visit-places-Inv-loop visit-places-μ-loop
-visit-places-array-write-longer t c = omega (arith, c .before .before .before .before .before .pre .1 .1, c .before .before .before .before .before .pre .1 .0 .few)
+visit-places-array-write-longer t c = omega (arith, c .before .before .before .before .before .before .before .before .pre .1 .1, c .before .before .before .before .before .before .before .before .pre .1 .0 .few)
 
 visit-places-sub-visit-entity : (t : ℕ) → visit-places-lts.Need-sub-visit-entity (visit-places-calls t) (visit-places-at t) visit-places.Post visit-places-Inv-loop visit-places-μ-loop
-visit-places-sub-visit-entity t c = omega (arith, c .before .before .before .before .before .pre .1 .1)
+visit-places-sub-visit-entity t c = omega (arith, c .before .before .before .before .before .before .before .before .pre .1 .1)
 
 visit-places-visit-entity-requires : (t : ℕ) → visit-places-lts.Need-visit-entity-requires (visit-places-calls t) (visit-places-at t) visit-places.Post visit-places-Inv-loop visit-places-μ-loop
-visit-places-visit-entity-requires t c κs = let g = guided-next _ _ (c .before .before .before .before .before .before .pre .1 .0 .guided) _ _ _ (c .before .before .before .before .before .before .pre .1 .2) (c .before .before .loop-test .taken) _ (c .before .place .ensures) in (omega (arith, c .before .before .before .before .before .before .pre .0, c .before .before .before .before .before .before .pre .1 .1), (record { guided = c .before .before .before .before .before .before .pre .1 .0 .guided; low = g .0; high = g .1; few = omega (arith, c .before .before .before .before .before .before .pre .1 .0 .few); padded = padded-more _ _ _ _ (omega (arith, c .before .before .before .before .before .before .pre .1 .1, c .before .before .before .before .before .before .pre .1 .0 .few)) (c .before .before .before .before .before .before .pre .1 .0 .padded) }, turn-room (c .before .before .before .before .before .before .args .t .now) (c .before .before .before .before .before .before .args .v .now) (c .before .before .before .before .before .before .args .left - 1) (c .before .before .before .before .before .before .args .e .0) _ _ (c .before .place .ensures) _ _ _ _ _ _ (c .before .before .loop-test .taken) (c .before .before .before .loop .inv .2) (c .before .before .before .before .before .before .pre .1 .3)))
+visit-places-visit-entity-requires t c κs = let g = guided-next _ _ (c .before .before .before .before .before .before .before .before .before .pre .1 .0 .guided) _ _ _ (c .before .before .before .before .before .before .before .before .before .pre .1 .2) (c .before .before .before .before .before .loop-test .taken) _ (c .before .before .before .before .place .ensures) in (omega (arith, c .before .before .before .before .before .before .before .before .before .pre .0, c .before .before .before .before .before .before .before .before .before .pre .1 .1), (record { guided = c .before .before .before .before .before .before .before .before .before .pre .1 .0 .guided; tallied = c .before .before .before .before .before .before .before .before .before .pre .1 .0 .tallied; low = g .0; high = g .1; few = omega (arith, c .before .before .before .before .before .before .before .before .before .pre .1 .0 .few); padded = padded-more _ _ _ _ (omega (arith, c .before .before .before .before .before .before .before .before .before .pre .1 .1, c .before .before .before .before .before .before .before .before .before .pre .1 .0 .few)) (c .before .before .before .before .before .before .before .before .before .pre .1 .0 .padded) }, turn-room (c .before .before .before .before .before .before .before .before .before .args .t .now) (c .before .before .before .before .before .before .before .before .before .args .v .now) (c .before .before .before .before .before .before .before .before .before .args .left - 1) (c .before .before .before .before .before .before .before .before .before .args .e .0) _ _ (c .before .before .before .before .place .ensures) _ _ _ _ _ _ (c .before .before .before .before .before .loop-test .taken) (c .before .before .before .before .before .before .loop .inv .1) (c .before .before .before .before .before .before .before .before .before .pre .1 .3)))
 
-visit-places-add-p : (t : ℕ) → visit-places-lts.Need-add-p (visit-places-calls t) (visit-places-at t) visit-places.Post visit-places-Inv-loop visit-places-μ-loop
-visit-places-add-p t c = omega arith
+visit-places-add-p-2 : (t : ℕ) → visit-places-lts.Need-add-p-2 (visit-places-calls t) (visit-places-at t) visit-places.Post visit-places-Inv-loop visit-places-μ-loop
+visit-places-add-p-2 t c = omega (arith, c .before .before .before .before .before .before .before .before .loop-test .taken)
 
-visit-places-loop-less : (t : ℕ) → visit-places-lts.Need-loop-less (visit-places-calls t) (visit-places-at t) visit-places.Post visit-places-Inv-loop visit-places-μ-loop
-visit-places-loop-less t c = omega (arith, c .before .before .before .before .before .loop-test .taken)
+visit-places-loop-less-2 : (t : ℕ) → visit-places-lts.Need-loop-less-2 (visit-places-calls t) (visit-places-at t) visit-places.Post visit-places-Inv-loop visit-places-μ-loop
+visit-places-loop-less-2 t c = omega (arith, c .before .before .before .before .before .before .before .before .loop-test .taken)
 
-visit-places-loop-again : (t : ℕ) → visit-places-lts.Need-loop-again (visit-places-calls t) (visit-places-at t) visit-places.Post visit-places-Inv-loop visit-places-μ-loop
-visit-places-loop-again t c = (omega arith, c .before .before .visit-entity .kept .1 .1 .1 .1 .1 .0 ∙ c .before .before .before .before .before .before .loop .inv .1, places-turn (c .before .before .before .before .before .before .before .before .before .args .t .now) (c .before .before .before .before .before .before .before .before .before .args .v .now) (c .before .before .before .before .before .before .before .before .before .args .left - 1) (c .before .before .before .before .before .before .before .before .before .args .e .0) _ _ (c .before .before .before .before .place .ensures) _ _ (4 - (c .before .before .before .before .before .before .before .before .before .args .left - 1)) _ _ _ _ _ _ (c .before .before .before .before .before .before .before .before .before .pre .1 .0 .padded) (omega (arith, c .before .before .before .before .before .before .before .before .before .pre .1 .1, c .before .before .before .before .before .before .before .before .before .pre .1 .0 .few)) (omega (arith, c .before .before .before .before .before .before .before .before .before .pre .1 .1, c .before .before .before .before .before .before .before .before .before .pre .1 .0 .few)) (c .before .before .before .before .before .before .loop .inv .1) (c .before .before .before .before .before .before .loop .inv .2) (c .before .before .visit-entity .ensures))
+visit-places-loop-again-2 : (t : ℕ) → visit-places-lts.Need-loop-again-2 (visit-places-calls t) (visit-places-at t) visit-places.Post visit-places-Inv-loop visit-places-μ-loop
+visit-places-loop-again-2 t c = (omega arith, places-turn (c .before .before .before .before .before .before .before .before .before .before .before .before .args .t .now) (c .before .before .before .before .before .before .before .before .before .before .before .before .args .v .now) (c .before .before .before .before .before .before .before .before .before .before .before .before .args .left - 1) (c .before .before .before .before .before .before .before .before .before .before .before .before .args .e .0) _ _ (c .before .before .before .before .before .before .before .place .ensures) _ _ (4 - (c .before .before .before .before .before .before .before .before .before .before .before .before .args .left - 1)) _ _ _ _ _ _ (c .before .before .before .before .before .before .before .before .before .before .before .before .pre .1 .0 .padded) (omega (arith, c .before .before .before .before .before .before .before .before .before .before .before .before .pre .1 .1, c .before .before .before .before .before .before .before .before .before .before .before .before .pre .1 .0 .few)) (omega (arith, c .before .before .before .before .before .before .before .before .before .before .before .before .pre .1 .1, c .before .before .before .before .before .before .before .before .before .before .before .before .pre .1 .0 .few)) (c .before .before .before .before .before .before .before .before .before .loop .inv .1) (c .before .before .visit-entity .ensures))
 
 visit-places-same-length : (t : ℕ) → visit-places-lts.Need-same-length (visit-places-calls t) (visit-places-at t) visit-places.Post visit-places-Inv-loop visit-places-μ-loop
-visit-places-same-length t c = c .before .loop .inv .1
+visit-places-same-length t c = visited-length _ _ _ _ _ _ (c .before .loop .inv .1)
 
 visit-places-returns : (t : ℕ) → visit-places-lts.Need-returns (visit-places-calls t) (visit-places-at t) visit-places.Post visit-places-Inv-loop visit-places-μ-loop
-visit-places-returns t c = places-done (c .before .before .before .before .args .t .now) (c .before .before .before .before .args .v .now) (c .before .before .before .before .args .left - 1) (c .before .before .before .before .args .e .0) _ _ _ _ _ _ _ (omega arith) (c .before .loop .inv .2)
+visit-places-returns t c = places-done (c .before .before .before .before .args .t .now) (c .before .before .before .before .args .v .now) (c .before .before .before .before .args .left - 1) (c .before .before .before .before .args .e .0) _ _ _ _ _ _ _ (omega arith) (c .before .loop .inv .1)
 
 pub +visit-entity+visit-places-spec : {M : Type 1} → statement M
 +visit-entity+visit-places-spec = close μ-visit-entity μ-visit-places (λ t. visit-entity-lts.spec (visit-entity-calls t)
@@ -156,14 +184,23 @@ pub +visit-entity+visit-places-spec : {M : Type 1} → statement M
     visit-places-μ-loop
     (visit-places-loop-holds t)
     (visit-places-place-requires t)
+    (visit-places-sub-if1 t)
+    (visit-places-mul-if1 t)
+    (visit-places-cast-if1 t)
+    (visit-places-add-if1 t)
+    (visit-places-mul-if1-2 t)
+    (visit-places-element-copy-out-if1 t)
+    (visit-places-add-p t)
+    (visit-places-loop-less t)
+    (visit-places-loop-again t)
     (visit-places-add-longer t)
     (visit-places-sub-longer t)
     (visit-places-mul-longer t)
     (visit-places-array-write-longer t)
     (visit-places-sub-visit-entity t)
     (visit-places-visit-entity-requires t)
-    (visit-places-add-p t)
-    (visit-places-loop-less t)
-    (visit-places-loop-again t)
+    (visit-places-add-p-2 t)
+    (visit-places-loop-less-2 t)
+    (visit-places-loop-again-2 t)
     (visit-places-same-length t)
     (visit-places-returns t)

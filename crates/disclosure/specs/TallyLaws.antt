@@ -1,0 +1,145 @@
+-- A tally counts what a walk lists.
+use mathlib.Core.Bool.{Bool, false, true}
+use mathlib.Core.List.{List, _∷_, map}
+use mathlib.Core.Logic.{_≢_}
+use mathlib.Core.Path.{_∙_, _≡_, ap, refl, sym}
+use Prim.Native.Nat.{_%_, _*_, _+_, _-_, _<_, _≤_, suc, zero, ℕ}
+use native.Mathlib.Omega.{arith}
+use lib.Dec.{eqb}
+use lib.ListN.{getD, length, length-append, length-map, length-set, set}
+use lib.Seq.{getD-set-other, getD-set-same}
+use Rattle.disclosure.specs.Tallied.{Tallied, tallyWords}
+use Rattle.disclosure.specs.Verdicts.{Guided, leads, listed}
+use Rattle.disclosure.specs.VisitLaws.{followed-more, inside-more, visit-last, visit-more}
+use Rattle.disclosure.specs.Visited.{followed, inside, under}
+use Rattle.model.specs.Basics.Choice.{Same, it, other, same}
+use Rattle.model.specs.List.BoundLaws.{through-grows, visit-bound, walk-bound}
+use Rattle.model.specs.List.Reach.{reach}
+use Rattle.model.specs.List.Walk.{here, through, visit}
+use Rattle.model.specs.Request.Reference.{standing}
+use Rattle.model.specs.Tables.Layout.{tablesOf}
+use Rattle.model.specs.Tables.Words.{entityCount, placeCount, places}
+
+-- ---- no tally wraps
+
+-- where each name finds no less, all of them find no less
+through-least : (n : ℕ) (f g : ℕ → List (List ℕ)) → ((p : ℕ) → length (f p) ≤ length (g p)) → length (through n f) ≤ length (through n g)
+unfolding through
+through-least zero f g h = omega arith
+through-least (suc n) f g h = simp (length-append, length-map) (omega (arith, through-least n f g h, h (suc n)))
+
+module _ (t v : List ℕ) where
+  -- one name more finds no less
+  under-grows : (k e : ℕ) → length (under t v k e) ≤ length (under t v (suc k) e)
+  unfolding visit
+  under-grows zero e = omega (arith, length-append (here (listed v e)) (through (leads v e) (λ p. under t v zero (standing (tablesOf t) e p))))
+  under-grows (suc k) e = omega (
+    arith,
+    length-append (here (listed v e)) (through (leads v e) (λ p. under t v k (standing (tablesOf t) e p))),
+    length-append (here (listed v e)) (through (leads v e) (λ p. under t v (suc k) (standing (tablesOf t) e p))),
+    through-least (leads v e) (λ p. under t v k (standing (tablesOf t) e p)) (λ p. under t v (suc k) (standing (tablesOf t) e p)) (λ p. under-grows k (standing (tablesOf t) e p)),
+  )
+
+  inside-under : (k e : ℕ) → length (inside t v k e (leads v e)) ≤ length (under t v (suc k) e)
+  unfolding visit
+  inside-under k e = omega (arith, length-append (here (listed v e)) (through (leads v e) (λ p. under t v k (standing (tablesOf t) e p))))
+
+  module _ (g : Guided t v) where
+    few : (e : ℕ) → leads v e ≤ placeCount
+    few e = omega (arith, g .used e, g .ranged .room e)
+
+    -- at most 585 by three names, so by fewer
+    under-most : (e : ℕ) → length (under t v 3 e) ≤ reach 3
+    under-most e = visit-bound (leads v) (standing (tablesOf t)) (listed v) few e
+
+    pub under-few : (k e : ℕ) → k ≤ 3 → length (under t v k e) ≤ reach 3
+    under-few zero e h = omega (arith, under-grows 0 e, under-grows 1 e, under-grows 2 e, under-most e)
+    under-few (suc zero) e h = omega (arith, under-grows 1 e, under-grows 2 e, under-most e)
+    under-few (suc (suc zero)) e h = omega (arith, under-grows 2 e, under-most e)
+    under-few (suc (suc (suc zero))) e h = under-most e
+    under-few (suc (suc (suc (suc k)))) e h = absurd (omega arith)
+
+    pub inside-few : (k e p : ℕ) → k ≤ 2 → p ≤ leads v e → length (inside t v k e p) ≤ reach 3
+    inside-few k e p h l =
+        omega (arith, through-grows p (leads v e) (λ j. under t v k (standing (tablesOf t) e j)) l, under-few (suc k) e (omega arith), inside-under k e)
+
+    pub followed-few : (n : ℕ) → length (followed t v n) ≤ n * reach 3
+    followed-few n = walk-bound (leads v) (standing (tablesOf t)) (listed v) few n
+
+  -- ---- what one entity has
+
+  -- the last bit of a verdict counts the entity itself
+  bit-here : (e : ℕ) → getD v e 0 % 2 ≡ length (here (listed v e))
+  unfolding listed
+  bit-here e = go (getD v e 0 % 2) (omega arith)
+    where
+      go : (x : ℕ) → x < 2 → x ≡ length (here (eqb x 1))
+      go zero h = refl
+      go (suc zero) h = refl
+      go (suc (suc x)) h = absurd (omega arith)
+
+  pub tally-last : (k e : ℕ) → k ≡ 0 → getD v e 0 % 2 ≡ length (under t v k e)
+  tally-last k e z = bit-here e ∙ ap length (sym (visit-last t v k e z))
+
+  pub tally-more : (k e s : ℕ) → k ≢ 0 → s ≡ length (inside t v (k - 1) e (leads v e)) → getD v e 0 % 2 + s ≡ length (under t v k e)
+  tally-more k e s z h =
+      omega (arith, bit-here e, ap length (visit-more t v k e z), length-append (here (listed v e)) (inside t v (k - 1) e (leads v e)))
+
+  -- ---- rows of tallies
+
+  module _ (b : List ℕ) where
+    pub tallied-none : length b ≡ 257 → Tallied t v 0 b
+    tallied-none h = record { size = h; told = λ k e low high l. absurd (omega arith) }
+
+    pub tallied-less : (m n : ℕ) → m ≤ n → Tallied t v n b → Tallied t v m b
+    tallied-less m n h y = record { size = y .size; told = λ k e low high l. y .told k e low high (omega arith) }
+
+    -- the next word of a row
+    pub tallied-more : (k i x : ℕ) → k ≤ 3 → i < entityCount → Tallied t v (k * entityCount + i) b → x ≡ length (under t v k (i + 1))
+        → Tallied t v (k * entityCount + (i + 1)) (set b (k * entityCount + (i + 1)) x)
+    tallied-more k i x few l y h = record {
+      size = length-set b (k * entityCount + (i + 1)) x ∙ y .size;
+      told = λ j c low high m. go j c low high m (eqb (j * entityCount + c) (k * entityCount + (i + 1))) (same (j * entityCount + c) (k * entityCount + (i + 1)));
+    }
+      where
+        go : (j c : ℕ) → 1 ≤ c → c ≤ entityCount → j * entityCount + c ≤ k * entityCount + (i + 1) → (s : Bool) → Same (j * entityCount + c) (k * entityCount + (i + 1)) s
+            → getD (set b (k * entityCount + (i + 1)) x) (j * entityCount + c) 0 ≡ length (under t v j c)
+        go j c low high m true (it w) =
+            let row : k ≡ j = omega arith in
+            let at : i + 1 ≡ c = omega arith in
+            let room : k * entityCount + (i + 1) < length b = omega (arith, y .size) in
+            rw w (getD-set-same b (k * entityCount + (i + 1)) x 0 room ∙ h) ∙ ap (λ (r : ℕ). length (under t v r (i + 1))) row ∙ ap (λ (r : ℕ). length (under t v j r)) at
+        go j c low high m false (other w) = getD-set-other b (k * entityCount + (i + 1)) (j * entityCount + c) x 0 w ∙ y .told j c low high (omega arith)
+
+    module _ (n : ℕ) (y : Tallied t v n b) where
+      -- one place more
+      pub tally-place : (k e p c s : ℕ) → 1 ≤ c → c ≤ entityCount → (k + 1) * entityCount ≤ n → c ≡ places (tablesOf t) e p → s ≡ length (inside t v k e p)
+          → s + getD b (k * entityCount + c) 0 ≡ length (inside t v k e (p + 1))
+      tally-place k e p c s low high l z h = omega (
+        arith,
+        y .told k c low high (omega arith),
+        ap (λ (d : ℕ). length (under t v k d)) z,
+        ap length (inside-more t v k e p),
+        length-append (inside t v k e p) (map (λ r. (p + 1) ∷ r) (under t v k (places (tablesOf t) e p))),
+        length-map (under t v k (places (tablesOf t) e p)) (λ r. (p + 1) ∷ r),
+      )
+
+      -- the last row tells what each entity begins
+      pub last-row : (p : ℕ) → p < entityCount → tallyWords ≤ n → getD b (193 + p) 0 ≡ length (under t v 3 (p + 1))
+      last-row p h l =
+          let at : 193 + p ≡ 3 * entityCount + (p + 1) = omega arith in
+          ap (λ (i : ℕ). getD b i 0) at ∙ y .told 3 (p + 1) (omega arith) (omega arith) (omega arith)
+
+      -- one entity more
+      pub tally-entity : (p s : ℕ) → p < entityCount → tallyWords ≤ n → s ≡ length (followed t v p) → s + getD b (193 + p) 0 ≡ length (followed t v (p + 1))
+      tally-entity p s h l q = omega (
+        arith,
+        last-row p h l,
+        ap length (followed-more t v p),
+        length-append (followed t v p) (map (λ r. (p + 1) ∷ r) (under t v 3 (p + 1))),
+        length-map (under t v 3 (p + 1)) (λ r. (p + 1) ∷ r),
+      )
+
+      -- nothing goes on from an entity with the tally 0
+      pub tally-nothing : (k e : ℕ) → k ≤ 3 → tallyWords ≤ n → 1 ≤ e → e ≤ entityCount → getD b (k * entityCount + e) 0 ≡ 0 → length (under t v k e) ≡ 0
+      tally-nothing k e h l low high z = sym (y .told k e low high (omega arith)) ∙ z
