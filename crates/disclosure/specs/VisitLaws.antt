@@ -107,6 +107,17 @@ module _ (t v : List ℕ) where
       → Visited pre l i (under t v k e) n r
   entity-last k e b pre l r i n z s h = visited-as pre l r i n (here b) (under t v k e) (ap here s ∙ sym (visit-last k e z)) h
 
+  -- no place leads on
+  pub entity-alone : (k e : ℕ) (b : Bool) (pre l r : List ℕ) (i n : ℕ) → leads v e ≡ 0 → b ≡ listed v e → Visited pre l i (here b) n r
+      → Visited pre l i (under t v k e) n r
+  unfolding through
+  entity-alone k e b pre l r i n z s h = visited-as pre l r i n (here b) (under t v k e) (ap here s ∙ sym (alone k)) h
+    where
+      alone : (k : ℕ) → under t v k e ≡ here (listed v e)
+      alone zero = visit-last zero e refl
+      alone (suc k) =
+          visit-more (suc k) e (λ q. omega arith) ∙ ap (λ (m : ℕ). here (listed v e) ++ inside t v (suc k - 1) e m) z ∙ append-nil (here (listed v e))
+
   pub here-room : (k e : ℕ) (b : Bool) (l : List ℕ) (i : ℕ) → b ≡ listed v e → Fits l i (under t v k e) → Fits l i (here b)
   here-room zero e b l i s h = let q : length (here b) ≡ length (under t v zero e) = ap (λ (x : Bool). length (here x)) s ∙ ap length (sym (visit-last zero e refl)) in omega arith
   here-room (suc k) e b l i s h =

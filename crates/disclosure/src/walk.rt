@@ -1,5 +1,6 @@
 // The walk: one function looks at an entity, the other goes through its places and hands each back to the first, as long as names are left.
-// It stores the entries one behind the other, in a room that has space for them all.
+// The verdicts v say what is listed and how many places lead on, the tallies b from where nothing can be listed. The entries are stored one
+// behind the other, in a room that has space for them all.
 use levels::Entity;
 ghost use mathlib.Core.Path.{_≡_};
 ghost use Prim.Native.Nat.{_+_, _-_, _<_, _≤_};
@@ -58,7 +59,8 @@ fn visit_entity(
     visit_places(t, v, b, e, w / 2, left, names, room, next)
 }
 
-// Visits the places of entity e that lead on, but for those from which nothing can be listed.
+// Visits the places of entity e that lead on, but for those from which nothing can be listed. What has no places that lead on is done with at
+// once: most visits are of that kind.
 fn visit_places(
     t: &[u32],
     v: &[u32; 65],
@@ -83,6 +85,12 @@ fn visit_places(
         }
         let mut longer = names;
         longer[4 - left] = p + 1;
+        let w = v[c.0 as usize];
+        if w < 2 {
+            i = visit_here(w % 2 == 1, left - 1, longer, room, i);
+            p += 1;
+            continue;
+        }
         i = visit_entity(t, v, b, c, left - 1, longer, room, i);
         p += 1;
     }

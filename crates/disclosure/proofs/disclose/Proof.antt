@@ -1,3 +1,4 @@
+use native.Mathlib.Omega.{arith}
 use mathlib.Core.Path.{refl}
 use Rattle.disclosure.specs.EndLaws.{end-fits, end-none, end-short, end-written}
 use Rattle.disclosure.specs.VerdictLaws.{judged-guided, judged-none}
@@ -18,7 +19,7 @@ tally-all-requires : tie.Need-tally-all-requires
 tally-all-requires c κs = (judged-guided _ _ _ (barred-admitted _ _ (c .before .before .before .before .before .before .pre)) (c .before .before .judge-all .ensures), refl)
 
 returns : tie.Need-returns
-returns c = end-none _ _ _ (c .before .before .before .before .before .before .before .before .pre) (c .before .before .before .before .judge-all .ensures) _ (c .before .tally-all .ensures .0) _ (c .if1 .taken)
+returns c = end-none _ _ _ (c .before .before .before .before .before .before .before .before .pre) (c .before .before .before .before .judge-all .ensures) _ (c .before .tally-all .ensures .0) _ (omega (arith, c .if1 .taken))
 
 cast-need : tie.Need-cast-need
 cast-need c = search needs
@@ -27,16 +28,16 @@ mul-need : tie.Need-mul-need
 mul-need c = search needs
 
 returns-2 : tie.Need-returns-2
-returns-2 c = end-short _ _ _ (c .before .before .before .before .before .before .before .before .before .pre) (c .before .before .before .before .before .judge-all .ensures) _ (c .before .before .tally-all .ensures .0) _ (c .if2 .taken)
+returns-2 c = end-short _ _ _ (c .before .before .before .before .before .before .before .before .before .pre) (c .before .before .before .before .before .judge-all .ensures) _ (c .before .before .tally-all .ensures .0) _ (omega (arith, c .if2 .taken))
 
 visit-all-requires : tie.Need-visit-all-requires
-visit-all-requires c κs = (judged-guided _ _ _ (barred-admitted _ _ (c .before .before .before .before .before .before .before .before .before .before .before .before .pre)) (c .before .before .before .before .before .before .before .before .judge-all .ensures), c .before .before .before .before .before .tally-all .ensures .1, end-fits _ _ _ (c .before .before .before .before .before .before .before .before .before .before .before .before .pre) (c .before .before .before .before .before .before .before .before .judge-all .ensures) _ (c .before .before .before .before .before .tally-all .ensures .0) (c .before .before .before .before .before .before .before .before .before .before .before .before .args .room .now) (c .before .before .before .if2 .left))
+visit-all-requires c κs = (judged-guided _ _ _ (barred-admitted _ _ (c .before .before .before .before .before .before .before .before .before .before .before .before .pre)) (c .before .before .before .before .before .before .before .before .judge-all .ensures), c .before .before .before .before .before .tally-all .ensures .1, end-fits _ _ _ (c .before .before .before .before .before .before .before .before .before .before .before .before .pre) (c .before .before .before .before .before .before .before .before .judge-all .ensures) _ (c .before .before .before .before .before .tally-all .ensures .0) (c .before .before .before .before .before .before .before .before .before .before .before .before .args .room .now) (omega (arith, c .before .before .before .if2 .left)))
 
 same-length : tie.Need-same-length
 same-length c = search needs
 
 returns-3 : tie.Need-returns-3
-returns-3 c = end-written _ _ _ (c .before .before .before .before .before .before .before .before .before .before .before .before .before .before .before .pre) (c .before .before .before .before .before .before .before .before .before .before .before .judge-all .ensures) _ (c .before .before .before .before .before .before .before .before .tally-all .ensures .0) _ _ (c .before .before .before .before .before .before .if2 .left) (c .before .before .visit-all .ensures)
+returns-3 c = end-written _ _ _ (c .before .before .before .before .before .before .before .before .before .before .before .before .before .before .before .pre) (c .before .before .before .before .before .before .before .before .before .before .before .judge-all .ensures) _ (c .before .before .before .before .before .before .before .before .tally-all .ensures .0) _ _ (omega (arith, c .before .before .before .before .before .before .if2 .left)) (c .before .before .visit-all .ensures)
 
 pub disclose-spec : {M : Type 1} → statement M
 disclose-spec =

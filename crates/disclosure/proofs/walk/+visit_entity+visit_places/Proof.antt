@@ -8,7 +8,7 @@ use Rattle.disclosure.specs.EntryLaws.{padded-more}
 use Rattle.disclosure.specs.TallyLaws.{tally-nothing}
 use Rattle.disclosure.specs.VerdictLaws.{guided-next, guided-place}
 use Rattle.disclosure.specs.Verdicts.{leads, listed}
-use Rattle.disclosure.specs.VisitLaws.{entity-last, entity-more, here-room, places-done, places-none, places-room, places-skip, places-turn, turn-room, visited-length}
+use Rattle.disclosure.specs.VisitLaws.{entity-alone, entity-last, entity-more, here-room, places-done, places-none, places-room, places-skip, places-turn, turn-room, visited-length}
 use Rattle.disclosure.specs.Visited.{Visited, inside}
 use Prim.Native.Nat.{ℕ, _<_}
 use borrow.Fn.Kinds.{In}
@@ -58,7 +58,7 @@ abbrev visit-entity-calls : ℕ → visit-entity-lts.Claims
 visit-entity-calls t = (visit-here-reads.Asked, visit-here-reads.Learnt, visit-places-below t, visit-places.Post)
 
 abbrev visit-places-calls : ℕ → visit-places-lts.Claims
-visit-places-calls t = (place-reads.Asked, place-reads.Learnt, visit-entity-below t, visit-entity.Post)
+visit-places-calls t = (place-reads.Asked, place-reads.Learnt, visit-here-reads.Asked, visit-here-reads.Learnt, visit-entity-below t, visit-entity.Post)
 
 visit-entity-cast-w : (t : ℕ) → visit-entity-lts.Need-cast-w (visit-entity-calls t) (visit-entity-at t) visit-entity.Post
 visit-entity-cast-w t c = search needs
@@ -142,20 +142,46 @@ visit-places-mul-longer t c = omega arith
 visit-places-array-write-longer : (t : ℕ) → visit-places-lts.Need-array-write-longer (visit-places-calls t) (visit-places-at t) visit-places.Post visit-places-Inv-loop visit-places-μ-loop
 visit-places-array-write-longer t c = omega (arith, c .before .before .before .before .before .before .before .before .pre .1 .1, c .before .before .before .before .before .before .before .before .pre .1 .0 .few)
 
-visit-places-sub-visit-entity : (t : ℕ) → visit-places-lts.Need-sub-visit-entity (visit-places-calls t) (visit-places-at t) visit-places.Post visit-places-Inv-loop visit-places-μ-loop
-visit-places-sub-visit-entity t c = omega (arith, c .before .before .before .before .before .before .before .before .pre .1 .1)
+visit-places-cast-w : (t : ℕ) → visit-places-lts.Need-cast-w (visit-places-calls t) (visit-places-at t) visit-places.Post visit-places-Inv-loop visit-places-μ-loop
+visit-places-cast-w t c = search needs
 
-visit-places-visit-entity-requires : (t : ℕ) → visit-places-lts.Need-visit-entity-requires (visit-places-calls t) (visit-places-at t) visit-places.Post visit-places-Inv-loop visit-places-μ-loop
-visit-places-visit-entity-requires t c κs = let g = guided-next _ _ (c .before .before .before .before .before .before .before .before .before .pre .1 .0 .guided) _ _ _ (c .before .before .before .before .before .before .before .before .before .pre .1 .2) (c .before .before .before .before .before .loop-test .taken) _ (c .before .before .before .before .place .ensures) in (omega (arith, c .before .before .before .before .before .before .before .before .before .pre .0, c .before .before .before .before .before .before .before .before .before .pre .1 .1), (record { guided = c .before .before .before .before .before .before .before .before .before .pre .1 .0 .guided; tallied = c .before .before .before .before .before .before .before .before .before .pre .1 .0 .tallied; low = g .0; high = g .1; few = omega (arith, c .before .before .before .before .before .before .before .before .before .pre .1 .0 .few); padded = padded-more _ _ _ _ (omega (arith, c .before .before .before .before .before .before .before .before .before .pre .1 .1, c .before .before .before .before .before .before .before .before .before .pre .1 .0 .few)) (c .before .before .before .before .before .before .before .before .before .pre .1 .0 .padded) }, turn-room (c .before .before .before .before .before .before .before .before .before .args .t .now) (c .before .before .before .before .before .before .before .before .before .args .v .now) (c .before .before .before .before .before .before .before .before .before .args .left - 1) (c .before .before .before .before .before .before .before .before .before .args .e .0) _ _ (c .before .before .before .before .place .ensures) _ _ _ _ _ _ (c .before .before .before .before .before .loop-test .taken) (c .before .before .before .before .before .before .loop .inv .1) (c .before .before .before .before .before .before .before .before .before .pre .1 .3)))
+visit-places-mul-w : (t : ℕ) → visit-places-lts.Need-mul-w (visit-places-calls t) (visit-places-at t) visit-places.Post visit-places-Inv-loop visit-places-μ-loop
+visit-places-mul-w t c = search needs
+
+visit-places-element-copy-out-w : (t : ℕ) → visit-places-lts.Need-element-copy-out-w (visit-places-calls t) (visit-places-at t) visit-places.Post visit-places-Inv-loop visit-places-μ-loop
+visit-places-element-copy-out-w t c = omega (arith, guided-next _ _ (c .before .before .before .before .before .before .before .before .before .pre .1 .0 .guided) _ _ _ (c .before .before .before .before .before .before .before .before .before .pre .1 .2) (c .before .before .before .before .before .loop-test .taken) _ (c .before .before .before .before .place .ensures))
+
+visit-places-sub-visit-here : (t : ℕ) → visit-places-lts.Need-sub-visit-here (visit-places-calls t) (visit-places-at t) visit-places.Post visit-places-Inv-loop visit-places-μ-loop
+visit-places-sub-visit-here t c = omega (arith, c .before .before .before .before .before .before .before .before .before .before .before .pre .1 .1)
+
+visit-places-visit-here-requires : (t : ℕ) → visit-places-lts.Need-visit-here-requires (visit-places-calls t) (visit-places-at t) visit-places.Post visit-places-Inv-loop visit-places-μ-loop
+unfolding listed
+visit-places-visit-here-requires t c κs = (omega (arith, c .before .before .before .before .before .before .before .before .before .before .before .before .pre .1 .0 .few), padded-more _ _ _ _ (omega (arith, c .before .before .before .before .before .before .before .before .before .before .before .before .pre .1 .1, c .before .before .before .before .before .before .before .before .before .before .before .before .pre .1 .0 .few)) (c .before .before .before .before .before .before .before .before .before .before .before .before .pre .1 .0 .padded), here-room (c .before .before .before .before .before .before .before .before .before .before .before .before .args .t .now) (c .before .before .before .before .before .before .before .before .before .before .before .before .args .v .now) (c .before .before .before .before .before .before .before .before .before .before .before .before .args .left - 1) (c .before .before .before .before .before .before .before .place .result .0) _ (c .before .before .before .before .before .before .before .before .before .loop .room) _ refl (turn-room (c .before .before .before .before .before .before .before .before .before .before .before .before .args .t .now) (c .before .before .before .before .before .before .before .before .before .before .before .before .args .v .now) (c .before .before .before .before .before .before .before .before .before .before .before .before .args .left - 1) (c .before .before .before .before .before .before .before .before .before .before .before .before .args .e .0) _ _ (c .before .before .before .before .before .before .before .place .ensures) _ _ _ _ _ _ (c .before .before .before .before .before .before .before .before .loop-test .taken) (c .before .before .before .before .before .before .before .before .before .loop .inv .1) (c .before .before .before .before .before .before .before .before .before .before .before .before .pre .1 .3)))
 
 visit-places-add-p-2 : (t : ℕ) → visit-places-lts.Need-add-p-2 (visit-places-calls t) (visit-places-at t) visit-places.Post visit-places-Inv-loop visit-places-μ-loop
-visit-places-add-p-2 t c = omega (arith, c .before .before .before .before .before .before .before .before .loop-test .taken)
+visit-places-add-p-2 t c = omega (arith, c .before .before .before .before .before .before .before .before .before .before .before .loop-test .taken)
 
 visit-places-loop-less-2 : (t : ℕ) → visit-places-lts.Need-loop-less-2 (visit-places-calls t) (visit-places-at t) visit-places.Post visit-places-Inv-loop visit-places-μ-loop
-visit-places-loop-less-2 t c = omega (arith, c .before .before .before .before .before .before .before .before .loop-test .taken)
+visit-places-loop-less-2 t c = omega (arith, c .before .before .before .before .before .before .before .before .before .before .before .loop-test .taken)
 
 visit-places-loop-again-2 : (t : ℕ) → visit-places-lts.Need-loop-again-2 (visit-places-calls t) (visit-places-at t) visit-places.Post visit-places-Inv-loop visit-places-μ-loop
-visit-places-loop-again-2 t c = (omega arith, places-turn (c .before .before .before .before .before .before .before .before .before .before .before .before .args .t .now) (c .before .before .before .before .before .before .before .before .before .before .before .before .args .v .now) (c .before .before .before .before .before .before .before .before .before .before .before .before .args .left - 1) (c .before .before .before .before .before .before .before .before .before .before .before .before .args .e .0) _ _ (c .before .before .before .before .before .before .before .place .ensures) _ _ (4 - (c .before .before .before .before .before .before .before .before .before .before .before .before .args .left - 1)) _ _ _ _ _ _ (c .before .before .before .before .before .before .before .before .before .before .before .before .pre .1 .0 .padded) (omega (arith, c .before .before .before .before .before .before .before .before .before .before .before .before .pre .1 .1, c .before .before .before .before .before .before .before .before .before .before .before .before .pre .1 .0 .few)) (omega (arith, c .before .before .before .before .before .before .before .before .before .before .before .before .pre .1 .1, c .before .before .before .before .before .before .before .before .before .before .before .before .pre .1 .0 .few)) (c .before .before .before .before .before .before .before .before .before .loop .inv .1) (c .before .before .visit-entity .ensures))
+unfolding leads listed
+visit-places-loop-again-2 t c = (omega arith, places-turn (c .before .before .before .before .before .before .before .before .before .before .before .before .before .before .before .args .t .now) (c .before .before .before .before .before .before .before .before .before .before .before .before .before .before .before .args .v .now) (c .before .before .before .before .before .before .before .before .before .before .before .before .before .before .before .args .left - 1) (c .before .before .before .before .before .before .before .before .before .before .before .before .before .before .before .args .e .0) _ _ (c .before .before .before .before .before .before .before .before .before .before .place .ensures) _ _ (4 - (c .before .before .before .before .before .before .before .before .before .before .before .before .before .before .before .args .left - 1)) _ _ _ _ _ _ (c .before .before .before .before .before .before .before .before .before .before .before .before .before .before .before .pre .1 .0 .padded) (omega (arith, c .before .before .before .before .before .before .before .before .before .before .before .before .before .before .before .pre .1 .1, c .before .before .before .before .before .before .before .before .before .before .before .before .before .before .before .pre .1 .0 .few)) (omega (arith, c .before .before .before .before .before .before .before .before .before .before .before .before .before .before .before .pre .1 .1, c .before .before .before .before .before .before .before .before .before .before .before .before .before .before .before .pre .1 .0 .few)) (c .before .before .before .before .before .before .before .before .before .before .before .before .loop .inv .1) (entity-alone (c .before .before .before .before .before .before .before .before .before .before .before .before .before .before .before .args .t .now) (c .before .before .before .before .before .before .before .before .before .before .before .before .before .before .before .args .v .now) (c .before .before .before .before .before .before .before .before .before .before .before .before .before .before .before .args .left - 1) (c .before .before .before .before .before .before .before .before .before .before .place .result .0) _ _ _ _ _ _ (omega (arith, c .before .before .before .before .if2 .taken)) refl (c .before .before .visit-here .ensures)))
+
+visit-places-sub-visit-entity : (t : ℕ) → visit-places-lts.Need-sub-visit-entity (visit-places-calls t) (visit-places-at t) visit-places.Post visit-places-Inv-loop visit-places-μ-loop
+visit-places-sub-visit-entity t c = omega (arith, c .before .before .before .before .before .before .before .before .before .before .before .pre .1 .1)
+
+visit-places-visit-entity-requires : (t : ℕ) → visit-places-lts.Need-visit-entity-requires (visit-places-calls t) (visit-places-at t) visit-places.Post visit-places-Inv-loop visit-places-μ-loop
+visit-places-visit-entity-requires t c κs = let g = guided-next _ _ (c .before .before .before .before .before .before .before .before .before .before .before .before .pre .1 .0 .guided) _ _ _ (c .before .before .before .before .before .before .before .before .before .before .before .before .pre .1 .2) (c .before .before .before .before .before .before .before .before .loop-test .taken) _ (c .before .before .before .before .before .before .before .place .ensures) in (omega (arith, c .before .before .before .before .before .before .before .before .before .before .before .before .pre .0, c .before .before .before .before .before .before .before .before .before .before .before .before .pre .1 .1), (record { guided = c .before .before .before .before .before .before .before .before .before .before .before .before .pre .1 .0 .guided; tallied = c .before .before .before .before .before .before .before .before .before .before .before .before .pre .1 .0 .tallied; low = g .0; high = g .1; few = omega (arith, c .before .before .before .before .before .before .before .before .before .before .before .before .pre .1 .0 .few); padded = padded-more _ _ _ _ (omega (arith, c .before .before .before .before .before .before .before .before .before .before .before .before .pre .1 .1, c .before .before .before .before .before .before .before .before .before .before .before .before .pre .1 .0 .few)) (c .before .before .before .before .before .before .before .before .before .before .before .before .pre .1 .0 .padded) }, turn-room (c .before .before .before .before .before .before .before .before .before .before .before .before .args .t .now) (c .before .before .before .before .before .before .before .before .before .before .before .before .args .v .now) (c .before .before .before .before .before .before .before .before .before .before .before .before .args .left - 1) (c .before .before .before .before .before .before .before .before .before .before .before .before .args .e .0) _ _ (c .before .before .before .before .before .before .before .place .ensures) _ _ _ _ _ _ (c .before .before .before .before .before .before .before .before .loop-test .taken) (c .before .before .before .before .before .before .before .before .before .loop .inv .1) (c .before .before .before .before .before .before .before .before .before .before .before .before .pre .1 .3)))
+
+visit-places-add-p-3 : (t : ℕ) → visit-places-lts.Need-add-p-3 (visit-places-calls t) (visit-places-at t) visit-places.Post visit-places-Inv-loop visit-places-μ-loop
+visit-places-add-p-3 t c = omega (arith, c .before .before .before .before .before .before .before .before .before .before .before .loop-test .taken)
+
+visit-places-loop-less-3 : (t : ℕ) → visit-places-lts.Need-loop-less-3 (visit-places-calls t) (visit-places-at t) visit-places.Post visit-places-Inv-loop visit-places-μ-loop
+visit-places-loop-less-3 t c = omega (arith, c .before .before .before .before .before .before .before .before .before .before .before .loop-test .taken)
+
+visit-places-loop-again-3 : (t : ℕ) → visit-places-lts.Need-loop-again-3 (visit-places-calls t) (visit-places-at t) visit-places.Post visit-places-Inv-loop visit-places-μ-loop
+visit-places-loop-again-3 t c = (omega arith, places-turn (c .before .before .before .before .before .before .before .before .before .before .before .before .before .before .before .args .t .now) (c .before .before .before .before .before .before .before .before .before .before .before .before .before .before .before .args .v .now) (c .before .before .before .before .before .before .before .before .before .before .before .before .before .before .before .args .left - 1) (c .before .before .before .before .before .before .before .before .before .before .before .before .before .before .before .args .e .0) _ _ (c .before .before .before .before .before .before .before .before .before .before .place .ensures) _ _ (4 - (c .before .before .before .before .before .before .before .before .before .before .before .before .before .before .before .args .left - 1)) _ _ _ _ _ _ (c .before .before .before .before .before .before .before .before .before .before .before .before .before .before .before .pre .1 .0 .padded) (omega (arith, c .before .before .before .before .before .before .before .before .before .before .before .before .before .before .before .pre .1 .1, c .before .before .before .before .before .before .before .before .before .before .before .before .before .before .before .pre .1 .0 .few)) (omega (arith, c .before .before .before .before .before .before .before .before .before .before .before .before .before .before .before .pre .1 .1, c .before .before .before .before .before .before .before .before .before .before .before .before .before .before .before .pre .1 .0 .few)) (c .before .before .before .before .before .before .before .before .before .before .before .before .loop .inv .1) (c .before .before .visit-entity .ensures))
 
 visit-places-same-length : (t : ℕ) → visit-places-lts.Need-same-length (visit-places-calls t) (visit-places-at t) visit-places.Post visit-places-Inv-loop visit-places-μ-loop
 visit-places-same-length t c = visited-length _ _ _ _ _ _ (c .before .loop .inv .1)
@@ -176,8 +202,7 @@ pub +visit-entity+visit-places-spec : {M : Type 1} → statement M
     (visit-entity-visit-places-requires t)
     (visit-entity-same-length-2 t)
     (visit-entity-returns-2 t))
-    λ t. visit-places-lts.spec
-    (place-reads.Asked, place-reads.Learnt, visit-entity-below t, visit-entity.Post)
+    λ t. visit-places-lts.spec (visit-places-calls t)
     (visit-places-at t)
     visit-places.Post
     visit-places-Inv-loop
@@ -197,10 +222,18 @@ pub +visit-entity+visit-places-spec : {M : Type 1} → statement M
     (visit-places-sub-longer t)
     (visit-places-mul-longer t)
     (visit-places-array-write-longer t)
-    (visit-places-sub-visit-entity t)
-    (visit-places-visit-entity-requires t)
+    (visit-places-cast-w t)
+    (visit-places-mul-w t)
+    (visit-places-element-copy-out-w t)
+    (visit-places-sub-visit-here t)
+    (visit-places-visit-here-requires t)
     (visit-places-add-p-2 t)
     (visit-places-loop-less-2 t)
     (visit-places-loop-again-2 t)
+    (visit-places-sub-visit-entity t)
+    (visit-places-visit-entity-requires t)
+    (visit-places-add-p-3 t)
+    (visit-places-loop-less-3 t)
+    (visit-places-loop-again-3 t)
     (visit-places-same-length t)
     (visit-places-returns t)
