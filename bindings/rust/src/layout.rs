@@ -25,6 +25,8 @@ pub(crate) const NAMES: usize = 4;
 pub(crate) const ROW: usize = 8;
 /// Bytes of a word.
 pub(crate) const WORD_BYTES: usize = 4;
+/// The count of a notice goes no higher [rule 3.21].
+pub(crate) const COUNT_MOST: u32 = 65_535;
 
 /// A user's words [rule 2.2].
 pub(crate) mod user {

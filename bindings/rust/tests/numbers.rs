@@ -1,7 +1,7 @@
 //! The types that are numbers: their ranges, their order, and tables as words and bytes.
 mod case;
 
-use case::{entity, level, s1, user};
+use case::user;
 use mms::{Entity, Kind, Level, Operation, Position, Refusal, Roles, Shown, Sort, Tables, Triple, Type, User, Who};
 use mms::{STATE_BYTES, TABLE_WORDS};
 
@@ -102,47 +102,4 @@ fn tables_are_words_and_bytes_and_back() {
     for size in [0, 16, TABLE_WORDS - 1, TABLE_WORDS + 1, STATE_BYTES] {
         assert_eq!(Tables::from_words(&vec![0; size]), Err(Refusal::BadLength));
     }
-}
-
-/// The readers must have an answer to any words.
-fn look_at_all(tables: &Tables) -> usize {
-    let users = User::all().map(|user| {
-        let read = (tables.notice(user), tables.clearance_of(user), tables.authorised_roles_of(user));
-        format!("{:?} {:?} {:?}", read, tables.current_roles_of(user), tables.device_of(user)).len()
-    });
-    let entities = Entity::all().map(|entity| {
-        let words = (tables.kind_of(entity), tables.type_of(entity), tables.level_of(entity), tables.is_marked(entity));
-        let others = (tables.value_of(entity), tables.releaser_of(entity), tables.maximum_of(entity));
-        let rows = (tables.contents_of(entity), tables.shown_on(entity), tables.triples_of(entity));
-        format!("{:?} {:?} {:?}", words, others, rows).len()
-    });
-    users.sum::<usize>() + entities.sum::<usize>() + format!("{:?}", tables).len()
-}
-
-#[test]
-fn any_words_can_be_looked_at() {
-    for word in [0, 1, 2, 3, 7, 8, 9, 18, 255, 65_793, u32::MAX] {
-        let mut tables = Tables::from_words(&[word; TABLE_WORDS]).expect("2,304 words");
-        assert!(look_at_all(&tables) > 0);
-        assert_eq!(tables.check().is_ok(), word == 0);
-        assert!(tables.list(user(1)).is_err());
-        let full = word >= 8;
-        assert_eq!(tables.put_inside(entity(1), entity(2)).is_err(), full);
-        assert_eq!(
-            tables.put_triple(entity(1), Triple::new(user(1), Operation::Show, Position::First)).is_ok(),
-            word == 0
-        );
-    }
-}
-
-#[test]
-fn absent_records_have_no_words() {
-    let tables = s1();
-    assert!(!tables.has_user(user(4)) && tables.has_user(user(3)));
-    assert_eq!((tables.clearance_of(user(4)), tables.device_of(user(3))), (None, None));
-    assert_eq!((tables.kind_of(entity(8)), tables.level_of(entity(8)), tables.value_of(entity(8))), (None, None, None));
-    assert_eq!((tables.maximum_of(entity(2)), tables.maximum_of(entity(4))), (Some(level(512)), None));
-    assert!(tables.is_marked(entity(4)) && !tables.is_marked(entity(7)));
-    assert_eq!(tables.contents_of(entity(4)), [entity(5), entity(6)]);
-    assert_eq!(tables.shown_on(entity(4)), []);
 }

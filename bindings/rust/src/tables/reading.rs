@@ -1,8 +1,13 @@
-//! Readers of the records' words. Each gives `None`, or nothing, where the record is absent or the word is out of its
-//! range, so that they can be used on any words.
+//! Readers of the records' words, which can be used on any words. Where a record is absent each gives `None`, false or
+//! nothing; so it does where a word is out of its range, and in a row it leaves that word out. Whether the words of a
+//! record fit together is for the check to say.
 use super::Tables;
-use crate::layout::{entity, user, ROW};
+use crate::layout::{entity, user, COUNT_MOST, ROW};
 use crate::{Entity, Kind, Level, Operation, Refusal, Roles, Shown, Triple, Type, User};
+use std::ops::RangeInclusive;
+
+/// The refusals that can be held [rule 3.19]: the others leave no notice.
+const CAN_BE_HELD: RangeInclusive<u32> = 5..=16;
 
 /// What is kept for a user about refused requests, until it is acknowledged [rule 8.2].
 #[derive(Clone, Copy, Debug, PartialEq, Eq, Hash)]
@@ -11,12 +16,12 @@ pub struct Notice {
     pub held: Refusal,
     /// The operation that was refused so; `None` where the request had no operation.
     pub operation: Option<Operation>,
-    /// How many refusals there were since, up to 65,535.
+    /// How many refusals there were since that acknowledgement, the one held among them: 1 to 65,535.
     pub count: u32,
 }
 
 impl Tables {
-    /// The user's notice; `None` where nothing is held.
+    /// The user's notice; `None` also where nothing is held.
     ///
     /// ```
     /// use mms::{Level, Notice, Operation, Refusal, Request, Roles, Tables, User};
@@ -35,12 +40,13 @@ impl Tables {
     /// }
     /// ```
     pub fn notice(&self, of: User) -> Option<Notice> {
-        let words = self.user_words(of);
-        Some(Notice {
-            held: Refusal::from_number(words[user::HELD], 0)?,
-            operation: Operation::from_number(words[user::HELD_OPERATION]),
-            count: words[user::COUNT],
-        })
+        let held = self.user_word(of, user::HELD).filter(|held| CAN_BE_HELD.contains(held))?;
+        let operation = match self.user_word(of, user::HELD_OPERATION)? {
+            0 => None,
+            number => Some(Operation::from_number(number)?),
+        };
+        let count = self.user_word(of, user::COUNT).filter(|count| (1..=COUNT_MOST).contains(count))?;
+        Some(Notice { held: Refusal::from_number(held, 0)?, operation, count })
     }
 
     /// Whether there is such a user.
@@ -119,7 +125,7 @@ impl Tables {
         }
     }
 
-    /// What the entity holds or, being a device, shows, in the order of its places.
+    /// What the entity holds or, being a device, shows, in the order of its places; nothing where it is an object.
     ///
     /// ```
     /// use mms::{Entity, Level, Tables};
@@ -140,6 +146,9 @@ impl Tables {
 
     /// What the device shows, and how much of each; nothing where the entity is no device.
     pub fn shown_on(&self, device: Entity) -> Vec<(Entity, Shown)> {
+        if self.kind_of(device) != Some(Kind::Device) {
+            return Vec::new();
+        }
         self.places(device)
             .filter_map(|(inside, sum)| Some((Entity::from_number(inside)?, Shown::from_number(sum)?)))
             .collect()
@@ -147,14 +156,23 @@ impl Tables {
 
     /// The entity's access triples, in their order.
     pub fn triples_of(&self, entity: Entity) -> Vec<Triple> {
-        self.entity_words(entity)[entity::TRIPLES..].iter().filter_map(|&word| Triple::from_word(word)).collect()
+        let words = (entity::TRIPLES..entity::TRIPLES + ROW).filter_map(|at| self.entity_word(entity, at));
+        words.filter_map(Triple::from_word).collect()
+    }
+
+    /// How many places are in use; 0 also where the entity can have none, and where the word is above eight.
+    fn used(&self, entity: Entity) -> usize {
+        let used = self.entity_words(entity)[entity::USED] as usize;
+        match self.kind_of(entity) {
+            Some(Kind::Container | Kind::Device) if used <= ROW => used,
+            _ => 0,
+        }
     }
 
     /// What stands in the places in use, and the shown sum of each.
     fn places(&self, entity: Entity) -> impl Iterator<Item = (u32, u32)> + '_ {
         let words = self.entity_words(entity);
-        let used = (words[entity::USED] as usize).min(ROW);
-        (0..used).map(move |place| (words[entity::CONTENTS + place], words[entity::SHOWN + place]))
+        (0..self.used(entity)).map(move |place| (words[entity::CONTENTS + place], words[entity::SHOWN + place]))
     }
 
     /// A word of a user who is present.
