@@ -11,12 +11,7 @@ fn compiler() -> String {
 
 fn main() {
     println!("cargo:rerun-if-changed=build.rs");
-    println!("cargo:rerun-if-env-changed=MMS_LIB_DIR");
-    let folder = match env::var_os("MMS_LIB_DIR") {
-        Some(folder) => PathBuf::from(folder),
-        None => PathBuf::from(env::var_os("CARGO_MANIFEST_DIR").expect("cargo names the crate's folder"))
-            .join("../target/bindings/lib"),
-    };
+    let folder = PathBuf::from(env::var_os("DEP_MMS_FOLDER").expect("the crate mms says where its archive lies"));
     let archive = folder.join("libadvance.a");
     assert!(archive.exists(), "{} is missing: bench/run builds it", archive.display());
     println!("cargo:rerun-if-changed={}", archive.display());
