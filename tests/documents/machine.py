@@ -19,7 +19,7 @@ S1 = "examples/state.words"
 PROGRAM_SECONDS = 120
 COMMAND_SECONDS = 3 * 3600
 
-C_FLAGS = ["-std=c99", "-Wall", "-Wextra", "-Werror", "-pedantic", "-O1"]
+C_FLAGS = ["-Wall", "-Wextra", "-Werror", "-pedantic", "-O1"]
 RUST_FLAGS = ["--edition", "2021", "-C", "debug-assertions=on", "-C", "overflow-checks=on"]
 
 
@@ -47,6 +47,7 @@ class Machine:
     def __init__(self):
         self.under = shlex.split(os.environ.get("UNDER", ""))
         self.cc = os.environ.get("CC", "gcc")
+        self.cxx = os.environ.get("CXX", "g++")
         self.cargo = os.environ.get("CARGO", "cargo")
         self.rustc = os.environ.get("RUSTC", "rustc")
         self.triple = os.environ.get("CARGO_BUILD_TARGET", "x86_64-unknown-linux-gnu")
@@ -82,10 +83,18 @@ class Machine:
 
     def c_program(self, text):
         """The program of a C source, linked with the archive."""
+        return self.compiled([self.cc, "-std=c99"], "example.c", text)
+
+    def cxx_program(self, text):
+        """The same source as C++."""
+        return self.compiled([self.cxx, "-std=c++11"], "example.cc", text)
+
+    def compiled(self, compiler, name, text):
+        """The program of a source of that name; a warning fails."""
         folder = self.fresh()
-        (folder / "example.c").write_text(text)
+        (folder / name).write_text(text)
         program = folder / "example"
-        run([self.cc, *C_FLAGS, f"-I{HEADERS}", str(folder / "example.c"), str(ARCHIVE), "-o", str(program)])
+        run([*compiler, *C_FLAGS, f"-I{HEADERS}", str(folder / name), str(ARCHIVE), "-o", str(program)])
         return program
 
     def rust_program(self, text, strict):

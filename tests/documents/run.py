@@ -2,8 +2,8 @@
 
     python3 -B tests/documents/run.py [FILES]
 
-Without FILES: README.md and docs/*.md, the documentation comments of the crate `mms`, the programs in bindings/examples and
-bindings/rust/examples, and then the documents in tests/documents/wrong, each of which must be refused. It prints one line for each
+Without FILES: README.md and docs/*.md, the documentation comments of the crate `mms`, the programs in bindings/examples (as C and as C++)
+and bindings/rust/examples, and then the documents in tests/documents/wrong, each of which must be refused. It prints one line for each
 example, and at the end `N examples, M wrong`. The status is 0 only if M is 0. `tests/documents/run` sets what is needed and calls this.
 
 How an example is written in a document. Code is fenced, never indented, and the word behind the backticks says what it is:
@@ -25,13 +25,14 @@ A link to a file or a heading that is not there is wrong, too.
 Documentation comments: a block without a word, or with `rust`, is a program or the body of one; it must end without a panic.
 
 Environment: UNDER   words with which x86-64 programs are started; none on x86-64
-             CC, CARGO, RUSTC   compilers for x86-64
+             CC, CXX, CARGO, RUSTC   compilers for x86-64
              DESK   another program, run as it is instead of target/bin/desk
 """
 
 import re
 import shutil
 import sys
+from pathlib import Path
 
 import links
 import markdown
@@ -40,9 +41,14 @@ from examples import RUNNERS, compare
 from machine import ROOT, TRY, Machine, Wrong
 
 # Documents that are worth nothing without examples.
-MUST_HAVE = ("README.md", "docs/GUIDE.md", "bindings/rust/src/lib.rs", "tests/documents/wrong/none.md")
+MUST_HAVE = ("README.md", "docs/GUIDE.md", "docs/LINKING.md", "bindings/rust/src/lib.rs", "tests/documents/wrong/none.md")
 # In the first line of a document that must be refused: what is to be said of it.
 EXPECTED = re.compile(r"(?:<!--|//) wrong: (.*?)(?: -->)?\n")
+# What a program that is an example as a whole is built as, by the end of its name. The header is for C and C++, so its programs are both.
+LANGUAGES = {
+    ".c": {"C": Machine.c_program, "C++": Machine.cxx_program},
+    ".rs": {"Rust": lambda machine, text: machine.rust_program(text, strict=True)},
+}
 
 
 class Tally:
@@ -114,28 +120,22 @@ def run_document(name, machine, tally):
         tally.tried(block.place, block.kind, lambda: RUNNERS[block.kind](block, machine))
 
 
-def written_by(name, machine):
-    """What a program that is an example as a whole writes."""
-    text = (ROOT / name).read_text()
-    program = machine.c_program(text) if name.endswith(".c") else machine.rust_program(text, strict=True)
-    return machine.start(program)
-
-
 def run_programs(names, machine, tally):
     """Each program must end well and write something, and those of one name in several languages must write the same."""
     first = {}
 
-    def attempt(name):
-        written = written_by(name, machine)
+    def attempt(name, build):
+        written = machine.start(build(machine, (ROOT / name).read_text()))
         if not written:
             raise Wrong("it wrote nothing")
-        stem = name.rpartition("/")[2].partition(".")[0]
+        stem = Path(name).stem
         if stem in first:
             compare(first[stem], written)
         first.setdefault(stem, written)
 
     for name in names:
-        tally.tried(name, "program", lambda: attempt(name))
+        for language, build in LANGUAGES[Path(name).suffix].items():
+            tally.tried(name, language, lambda: attempt(name, build))
 
 
 def run_wrong(machine, tally):

@@ -1,13 +1,31 @@
-//! The header for C gives the same names the same numbers.
-use mms::{Kind, Operation, Refusal, Shown, Sort, Type};
-use std::collections::HashMap;
+//! The header for C gives the same names the same numbers: each name that it has is compared, and none is left out.
+use mms::{Kind, Level, Operation, Refusal, Roles, Shown, Sort, Type, Who};
+use std::collections::{BTreeMap, BTreeSet};
 use std::fmt::Debug;
 
+// the crate's own file, whose positions are not public
+#[allow(dead_code)]
+#[path = "../src/layout.rs"]
+mod layout;
+
+type Numbers = BTreeMap<String, u32>;
+
+const HEADER: &str = include_str!("../../mms.h");
+/// What keeps the header from being read twice, the one name that is no number.
+const GUARD: &str = "MMS_H";
+
 /// The enumerators of the header, with their numbers.
-fn enumerators() -> HashMap<&'static str, u32> {
-    let pieces = include_str!("../../mms.h").split(|c: char| !(c.is_alphanumeric() || "_ =".contains(c)));
+fn enumerators() -> Numbers {
+    let pieces = HEADER.split(|c: char| !(c.is_alphanumeric() || "_ =".contains(c)));
     let pairs = pieces.filter_map(|piece| piece.split_once(" = "));
-    pairs.filter_map(|(name, number)| Some((name.trim(), number.trim().parse().ok()?))).collect()
+    let pairs = pairs.filter(|(name, _)| name.trim().starts_with("MMS_"));
+    pairs.map(|(name, number)| (name.trim().to_string(), number.trim().parse().expect(name))).collect()
+}
+
+/// Every name in capitals that the header speaks of.
+fn spoken_of() -> BTreeSet<&'static str> {
+    let words = HEADER.split(|c: char| !(c.is_alphanumeric() || c == '_'));
+    words.filter(|word| word.starts_with("MMS_") && *word != GUARD).collect()
 }
 
 /// The name of a variant as the header writes it: `NotSecure` is `NOT_SECURE`.
@@ -22,49 +40,100 @@ fn in_capitals(variant: impl Debug) -> String {
     name
 }
 
-#[test]
-fn refusals_and_operations_have_the_same_names_and_numbers() {
-    let header = enumerators();
-    let number =
-        |prefix: &str, variant: &dyn Debug| header.get((prefix.to_string() + &in_capitals(variant)).as_str()).copied();
-    for no in 1..=18 {
-        assert_eq!(number("MMS_", &Refusal::from_number(no, 1).expect("a refusal")), Some(no));
-    }
-    for one in Operation::ALL {
-        // in C, where all names are in one place, a level and a mark are things of the tables
-        let prefix = if matches!(one, Operation::Level | Operation::Mark) { "MMS_SET_" } else { "MMS_" };
-        assert_eq!(number(prefix, one), Some(one.number()));
-    }
-    for one in Kind::ALL {
-        assert_eq!(number("MMS_", one), Some(one.number()));
-    }
-    for one in Type::ALL {
-        assert_eq!(number("MMS_", one), Some(one.number()));
-    }
-    for one in Sort::ALL {
-        assert_eq!(number("MMS_SORT_", one), Some(one.number()));
-    }
+/// Each of these with its number, named as in the header behind the prefix.
+fn named<T: Copy + Debug>(prefix: &str, all: impl IntoIterator<Item = T>, number: impl Fn(T) -> u32) -> Numbers {
+    all.into_iter().map(|one| (prefix.to_string() + &in_capitals(one), number(one))).collect()
 }
 
-#[test]
-fn sizes_and_sums_are_the_same() {
-    let header = enumerators();
-    let same = [
+/// Refusals, and the names of what requests and records speak of.
+fn things() -> Numbers {
+    let refusals = (1..=18).map(|number| Refusal::from_number(number, 1).expect("a refusal"));
+    let mut numbers = named("MMS_", refusals, Refusal::number);
+    numbers.extend(named("MMS_", Kind::ALL.iter().copied(), Kind::number));
+    numbers.extend(named("MMS_", Type::ALL.iter().copied(), Type::number));
+    numbers.extend(named("MMS_SORT_", Sort::ALL.iter().copied(), Sort::number));
+    // in C, where all names are in one place, a level and a mark are things of the tables
+    let (set, others): (Vec<Operation>, Vec<Operation>) =
+        Operation::ALL.iter().partition(|one| matches!(one, Operation::Level | Operation::Mark));
+    numbers.extend(named("MMS_SET_", set, Operation::number));
+    numbers.extend(named("MMS_", others, Operation::number));
+    numbers
+}
+
+/// Sums, ranges and sizes.
+fn numbers_of_the_rules() -> Vec<(&'static str, u32)> {
+    let who = |role| Who::with_role(role).expect("one role").number();
+    vec![
         ("MMS_ACCEPTED", 0),
-        ("MMS_TABLE_WORDS", mms::TABLE_WORDS as u32),
-        ("MMS_STATE_BYTES", mms::STATE_BYTES as u32),
-        ("MMS_REQUEST_WORDS", mms::REQUEST_WORDS as u32),
-        ("MMS_ENTRY_WORDS", mms::ENTRY_WORDS as u32),
-        ("MMS_TEXT_MOST", mms::TEXT_MOST as u32),
-        ("MMS_LEVEL_MOST", mms::Level::HIGHEST.number()),
-        ("MMS_OFFICER", mms::Roles::OFFICER.number()),
-        ("MMS_DOWNGRADER", mms::Roles::DOWNGRADER.number()),
-        ("MMS_RELEASER", mms::Roles::RELEASER.number()),
+        ("MMS_ABSENT", 0),
+        ("MMS_OFFICER", Roles::OFFICER.number()),
+        ("MMS_DOWNGRADER", Roles::DOWNGRADER.number()),
+        ("MMS_RELEASER", Roles::RELEASER.number()),
+        ("MMS_WHO_OFFICER", who(Roles::OFFICER)),
+        ("MMS_WHO_DOWNGRADER", who(Roles::DOWNGRADER)),
+        ("MMS_WHO_RELEASER", who(Roles::RELEASER)),
+        ("MMS_WHO_MOST", Who::all().last().map_or(0, Who::number)),
         ("MMS_SHOWN_VALUE", Shown::VALUE.number()),
         ("MMS_SHOWN_LABEL", Shown::LABEL.number()),
         ("MMS_SHOWN_ID", Shown::ID.number()),
-    ];
-    for (name, number) in same {
-        assert_eq!(header.get(name), Some(&number), "{}", name);
-    }
+        ("MMS_LEVEL_MOST", Level::HIGHEST.number()),
+        ("MMS_ROLES_MOST", Roles::all().last().map_or(0, Roles::number)),
+        ("MMS_COUNT_MOST", layout::COUNT_MOST),
+    ]
+}
+
+/// Where the words stand, and how many there are.
+fn positions() -> Vec<(&'static str, usize)> {
+    use layout::{entity, request, user};
+    vec![
+        ("MMS_USERS", layout::USERS),
+        ("MMS_USER_WORDS", layout::USER_WORDS),
+        ("MMS_ENTITIES", layout::ENTITIES),
+        ("MMS_ENTITY_WORDS", layout::ENTITY_WORDS),
+        ("MMS_TABLE_WORDS", mms::TABLE_WORDS),
+        ("MMS_STATE_BYTES", mms::STATE_BYTES),
+        ("MMS_REQUEST_WORDS", mms::REQUEST_WORDS),
+        ("MMS_NAMES", layout::NAMES),
+        ("MMS_ENTRY_WORDS", mms::ENTRY_WORDS),
+        ("MMS_PLACES", layout::ROW),
+        ("MMS_TRIPLES", layout::ROW),
+        ("MMS_TEXT_MOST", mms::TEXT_MOST),
+        ("MMS_REQUEST_USER", request::USER),
+        ("MMS_REQUEST_OPERATION", request::OPERATION),
+        ("MMS_REQUEST_FIRST", request::FIRST),
+        ("MMS_REQUEST_SECOND", request::SECOND),
+        ("MMS_REQUEST_A", request::ARGUMENTS),
+        ("MMS_REQUEST_B", request::ARGUMENTS + 1),
+        ("MMS_REQUEST_C", request::ARGUMENTS + 2),
+        ("MMS_REQUEST_SPARE", request::SPARE),
+        ("MMS_USER_PRESENT", user::PRESENT),
+        ("MMS_USER_CLEARANCE", user::CLEARANCE),
+        ("MMS_USER_AUTHORISED", user::AUTHORISED),
+        ("MMS_USER_CURRENT", user::CURRENT),
+        ("MMS_USER_DEVICE", user::DEVICE),
+        ("MMS_USER_HELD", user::HELD),
+        ("MMS_USER_HELD_OPERATION", user::HELD_OPERATION),
+        ("MMS_USER_COUNT", user::COUNT),
+        ("MMS_USER_SPARE", user::COUNT + 1),
+        ("MMS_ENTITY_KIND", entity::KIND),
+        ("MMS_ENTITY_TYPE", entity::TYPE),
+        ("MMS_ENTITY_LEVEL", entity::LEVEL),
+        ("MMS_ENTITY_MARK", entity::MARK),
+        ("MMS_ENTITY_VALUE", entity::VALUE),
+        ("MMS_ENTITY_RELEASER", entity::RELEASER),
+        ("MMS_ENTITY_MAXIMUM", entity::MAXIMUM),
+        ("MMS_ENTITY_USED", entity::USED),
+        ("MMS_ENTITY_CONTENTS", entity::CONTENTS),
+        ("MMS_ENTITY_SHOWN", entity::SHOWN),
+        ("MMS_ENTITY_TRIPLES", entity::TRIPLES),
+    ]
+}
+
+#[test]
+fn every_name_of_the_header_has_its_number() {
+    let mut numbers = things();
+    numbers.extend(numbers_of_the_rules().into_iter().map(|(name, number)| (name.to_string(), number)));
+    numbers.extend(positions().into_iter().map(|(name, at)| (name.to_string(), at as u32)));
+    assert_eq!(enumerators(), numbers);
+    assert_eq!(spoken_of(), numbers.keys().map(String::as_str).collect());
 }
