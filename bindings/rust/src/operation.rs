@@ -19,7 +19,7 @@ named! {
         Create = 1 "create",
         /// An entity ceases to be.
         Delete = 2 "delete",
-        /// An entity leaves its container for the last place of another.
+        /// An entity leaves the container that it is in, if any, and is the last in a container, which may be the same.
         Move = 3 "move",
         /// An entity's value is set.
         Edit = 4 "edit",
@@ -80,9 +80,9 @@ named! {
 }
 
 named! {
-    /// How far a container is on its way out [rule 2.3].
+    /// Whether an entity is a message, and how far that is on its way out [rule 2.3]. Only a container can be one.
     Type, "a type, 0 to 2" {
-        /// No message, as objects and devices are none.
+        /// No message: an object, a device, or a container that only holds things.
         Plain = 0 "plain",
         /// A message that has not been released.
         Draft = 1 "draft",

@@ -38,7 +38,11 @@ impl Request {
         &self.words
     }
 
-    /// The request of a text of seven lines [rule 11.4]; a text that is none is refused with the line where it fails.
+    /// The request of a text of seven lines [rule 11.4].
+    ///
+    /// # Errors
+    ///
+    /// The first line that is bad or missing, 1 to 7, or 8 for bytes behind the last.
     ///
     /// ```
     /// use mms::Request;
@@ -60,8 +64,12 @@ impl Request {
         }
     }
 
-    /// The text of the request [rule 11.3]; refused with 5 where no text has these words: a length above four, a name
-    /// word behind its reference or word 15 not 0.
+    /// The text of the request [rule 11.3].
+    ///
+    /// # Errors
+    ///
+    /// [`Refusal::BadRequest`] where no text has these words: a length above four, a name word behind its reference or
+    /// word 15 not 0.
     ///
     /// ```
     /// use mms::{Refusal, Request, User};

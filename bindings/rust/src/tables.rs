@@ -49,7 +49,11 @@ impl Tables {
         Tables { words: Box::new([0; TABLE_WORDS]) }
     }
 
-    /// The tables of these words, whatever they are; refused with 1 where they are not 2,304.
+    /// The tables of these words, whatever they are.
+    ///
+    /// # Errors
+    ///
+    /// [`Refusal::BadLength`] where they are not 2,304.
     ///
     /// ```
     /// use mms::{Refusal, Tables};
@@ -70,8 +74,11 @@ impl Tables {
         Ok(tables)
     }
 
-    /// The tables of a state file: each word is four bytes, the lowest first [rule 12.1]; refused with 1 where they are
-    /// not 9,216.
+    /// The tables of a state file: each word is four bytes, the lowest first [rule 12.1].
+    ///
+    /// # Errors
+    ///
+    /// [`Refusal::BadLength`] where the bytes are not 9,216.
     ///
     /// ```
     /// use mms::{Refusal, Tables};
@@ -109,19 +116,31 @@ impl Tables {
         &mut self.words
     }
 
-    /// The state check [rule 8.5]: whether the tables are well-formed (else 2) and secure (else 3).
+    /// The state check [rule 8.5]: whether the tables are well-formed and secure.
+    ///
+    /// # Errors
+    ///
+    /// [`Refusal::NotWellFormed`] or, where they are well-formed, [`Refusal::NotSecure`].
     pub fn check(&self) -> Result<(), Refusal> {
         words::check(&self.words[..]).result().map(drop)
     }
 
-    /// One request [rules 6 to 8]. Accepted, it has its effect; refused with 5 to 16, it leaves the requester a notice;
-    /// refused with 2 to 4, it leaves everything as it was.
+    /// One request [rules 6 to 8]. Accepted, it has its effect.
+    ///
+    /// # Errors
+    ///
+    /// The lowest of refusals 2 to 16 that applies. With 5 to 16 it is counted in the requester's [notice](Notice), and
+    /// held there if none was; with 2 to 4 everything stays as it was.
     pub fn step(&mut self, request: &Request) -> Result<(), Refusal> {
         words::step(&mut self.words[..], request.as_words()).result().map(drop)
     }
 
     /// The disclosure list [rule 10]: every reference by which a show of value and label to this user would be
-    /// accepted, or refused for a full screen only. Refused with 2, 3, 4 or, where the user is logged off, 6.
+    /// accepted, or refused for a full screen only.
+    ///
+    /// # Errors
+    ///
+    /// Refusals 2 and 3 of the tables, 4 where the user is absent, and 6 where the user is logged off.
     ///
     /// ```
     /// use mms::{Entity, Level, Operation, Position, Roles, Tables, Triple, User};
@@ -149,8 +168,12 @@ impl Tables {
         Ok(room.chunks_exact(ENTRY_WORDS).map(entry).collect())
     }
 
-    /// The same list as entries of five words at the front of a room; gives how many there are, or is refused with 17
-    /// and the entries that there would have to be room for.
+    /// The same list as entries of five words at the front of a room; gives how many there are.
+    ///
+    /// # Errors
+    ///
+    /// As for [`list`](Tables::list), and [`Refusal::TooShort`] with the entries that there would have to be room for.
+    /// The room stays as it was.
     ///
     /// ```
     /// use mms::{Refusal, Tables, User};

@@ -9,30 +9,55 @@ use crate::{Level, Operation, Reference, Refusal, Roles, Shown, Sort, Triple, Us
 const NOTHING: [u32; 3] = [0; 3];
 const NONE: &Reference = &Reference::NONE;
 
+/// The requests of the twenty operations, each with the refusals that only it has. This is how they are used:
+///
+/// ```
+/// use mms::{Entity, Kind, Level, Operation, Position, Refusal, Request, Roles, Sort, Tables, Triple, Type, User, Who};
+///
+/// fn main() -> Result<(), Box<dyn std::error::Error>> {
+///     let (user, device) = (User::try_from(1)?, Entity::try_from(1)?);
+///     let (folder, outbox) = (Entity::try_from(2)?, Entity::try_from(3)?);
+///     let officers = Who::with_role(Roles::OFFICER).ok_or("not one role")?;
+///     let mut tables = Tables::empty();
+///     tables.put_device(device, Level::HIGHEST, Level::HIGHEST);
+///     tables.put_user(user, Level::HIGHEST, Roles::RELEASER | Roles::OFFICER);
+///     tables.put_on(user, device, Roles::OFFICER);
+///     tables.put_container(folder, Level::HIGHEST);
+///     tables.put_triple(folder, Triple::new(user, Operation::Create, Position::First))?;
+///     tables.put_triple(folder, Triple::new(officers, Operation::Grant, Position::First))?;
+///     tables.put_container(outbox, Level::LOWEST);
+///     tables.put_triple(outbox, Triple::new(user, Operation::Move, Position::Second))?;
+///
+///     // what is created has the lowest number that was absent, and the triples of its container
+///     tables.step(&Request::create(user, &folder.into(), Sort::Draft, Level::LOWEST))?;
+///     let draft = tables.contents_of(folder)[0];
+///     assert_eq!((draft.number(), tables.kind_of(draft)), (4, Some(Kind::Container)));
+///     assert_eq!(tables.triples_of(draft), tables.triples_of(folder));
+///
+///     let leave = |operation| Triple::new(user, operation, Position::First);
+///     tables.step(&Request::grant(user, &draft.into(), leave(Operation::Move)))?;
+///     tables.step(&Request::grant(user, &draft.into(), leave(Operation::Release)))?;
+///     assert_eq!(tables.triples_of(draft)[2..], [leave(Operation::Move), leave(Operation::Release)]);
+///
+///     tables.step(&Request::move_into(user, &"2.1".parse()?, &outbox.into()))?;
+///     assert_eq!((tables.contents_of(folder), tables.contents_of(outbox)), (vec![], vec![draft]));
+///
+///     // a role must be current; to be authorised is not enough
+///     let release = Request::release(user, &draft.into());
+///     assert_eq!(tables.step(&release), Err(Refusal::RoleMissing));
+///     tables.step(&Request::set_current_roles(user, user, Roles::RELEASER))?;
+///     tables.step(&release)?;
+///     assert_eq!((tables.type_of(draft), tables.releaser_of(draft)), (Some(Type::Released), Some(user)));
+///
+///     // and one cannot take on a role that one is not authorised for
+///     let downgrade = Request::set_current_roles(user, user, Roles::DOWNGRADER);
+///     assert_eq!(tables.step(&downgrade), Err(Refusal::LevelOrRoles));
+///     Ok(())
+/// }
+/// ```
 impl Request {
     /// 1: a new entity of this sort and level, last in the container [rule 6.1]. Its own refusals: 13 where the level
     /// is not at most the container's, 14 where there is no number or no place left.
-    ///
-    /// ```
-    /// use mms::{Entity, Kind, Level, Operation, Position, Request, Roles, Sort, Tables, Triple, User};
-    ///
-    /// fn main() -> Result<(), Box<dyn std::error::Error>> {
-    ///     let (user, device) = (User::try_from(1)?, Entity::try_from(1)?);
-    ///     let mut tables = Tables::empty();
-    ///     tables.put_device(device, Level::HIGHEST, Level::HIGHEST);
-    ///     tables.put_user(user, Level::HIGHEST, Roles::RELEASER | Roles::OFFICER);
-    ///     tables.put_on(user, device, Roles::OFFICER);
-    ///     let folder = Entity::try_from(2)?;
-    ///     tables.put_container(folder, Level::HIGHEST);
-    ///     tables.put_triple(folder, Triple::new(user, Operation::Create, Position::First))?;
-    ///
-    ///     tables.step(&Request::create(user, &folder.into(), Sort::Object, Level::LOWEST))?;
-    ///     let created = tables.contents_of(folder)[0];
-    ///     assert_eq!(created.number(), 3); // the lowest number that was absent
-    ///     assert_eq!(tables.kind_of(created), Some(Kind::Object));
-    ///     Ok(())
-    /// }
-    /// ```
     pub fn create(user: User, container: &Reference, sort: Sort, level: Level) -> Request {
         Request::made(user, Operation::Create, [container, NONE], [sort.number(), level.number(), 0])
     }
@@ -46,30 +71,6 @@ impl Request {
     /// 3: the entity leaves its container, and is the last in this one [rule 6.3]. Its own refusals: 13 where its level
     /// is not at most the container's, 14 where there is no place, 15 where the container is the entity or lies inside
     /// it.
-    ///
-    /// ```
-    /// use mms::{Entity, Level, Operation, Position, Request, Roles, Tables, Triple, User};
-    ///
-    /// fn main() -> Result<(), Box<dyn std::error::Error>> {
-    ///     let (user, device) = (User::try_from(1)?, Entity::try_from(1)?);
-    ///     let mut tables = Tables::empty();
-    ///     tables.put_device(device, Level::HIGHEST, Level::HIGHEST);
-    ///     tables.put_user(user, Level::HIGHEST, Roles::RELEASER | Roles::OFFICER);
-    ///     tables.put_on(user, device, Roles::OFFICER);
-    ///     let (from, to, object) = (Entity::try_from(2)?, Entity::try_from(3)?, Entity::try_from(4)?);
-    ///     tables.put_container(from, Level::LOWEST);
-    ///     tables.put_container(to, Level::LOWEST);
-    ///     tables.put_object(object, Level::LOWEST);
-    ///     tables.put_inside(object, from)?;
-    ///     tables.put_triple(object, Triple::new(user, Operation::Move, Position::First))?;
-    ///     tables.put_triple(to, Triple::new(user, Operation::Move, Position::Second))?;
-    ///
-    ///     tables.step(&Request::move_into(user, &"2.1".parse()?, &to.into()))?;
-    ///     assert_eq!(tables.contents_of(from), []);
-    ///     assert_eq!(tables.contents_of(to), [object]);
-    ///     Ok(())
-    /// }
-    /// ```
     pub fn move_into(user: User, entity: &Reference, container: &Reference) -> Request {
         Request::made(user, Operation::Move, [entity, container], NOTHING)
     }
@@ -97,29 +98,6 @@ impl Request {
     }
 
     /// 8: the entity or device has this triple [rule 6.8]. Its own refusal: 14 where it has eight others.
-    ///
-    /// ```
-    /// use mms::{Entity, Level, Operation, Position, Request, Roles, Tables, Triple, User, Who};
-    ///
-    /// fn main() -> Result<(), Box<dyn std::error::Error>> {
-    ///     let (user, device) = (User::try_from(1)?, Entity::try_from(1)?);
-    ///     let mut tables = Tables::empty();
-    ///     tables.put_device(device, Level::HIGHEST, Level::HIGHEST);
-    ///     tables.put_user(user, Level::HIGHEST, Roles::RELEASER | Roles::OFFICER);
-    ///     tables.put_on(user, device, Roles::OFFICER);
-    ///     let object = Entity::try_from(2)?;
-    ///     tables.put_object(object, Level::LOWEST);
-    ///     let officers = Who::with_role(Roles::OFFICER).ok_or("not one role")?;
-    ///     tables.put_triple(object, Triple::new(officers, Operation::Grant, Position::First))?;
-    ///
-    ///     let edit = Triple::new(user, Operation::Edit, Position::First);
-    ///     tables.step(&Request::grant(user, &object.into(), edit))?;
-    ///     assert_eq!(tables.triples_of(object)[1], edit);
-    ///     tables.step(&Request::edit(user, &object.into(), 40))?;
-    ///     assert_eq!(tables.value_of(object), Some(40));
-    ///     Ok(())
-    /// }
-    /// ```
     pub fn grant(user: User, any: &Reference, triple: Triple) -> Request {
         Request::made(user, Operation::Grant, [any, NONE], parts(triple))
     }
@@ -155,24 +133,6 @@ impl Request {
     /// 14: the user `of` has these current roles [rule 6.14]. Its own refusals: 11 where that user is absent, or is
     /// logged off and would have a role, 12 where it is another and the requester is no officer, 13 where it is not
     /// authorised for them.
-    ///
-    /// ```
-    /// use mms::{Entity, Level, Refusal, Request, Roles, Tables, User};
-    ///
-    /// fn main() -> Result<(), Box<dyn std::error::Error>> {
-    ///     let (user, device) = (User::try_from(1)?, Entity::try_from(1)?);
-    ///     let mut tables = Tables::empty();
-    ///     tables.put_device(device, Level::HIGHEST, Level::HIGHEST);
-    ///     tables.put_user(user, Level::HIGHEST, Roles::RELEASER | Roles::OFFICER);
-    ///     tables.put_on(user, device, Roles::OFFICER);
-    ///
-    ///     tables.step(&Request::set_current_roles(user, user, Roles::RELEASER))?;
-    ///     assert_eq!(tables.current_roles_of(user), Some(Roles::RELEASER));
-    ///     let other = Request::set_current_roles(user, user, Roles::DOWNGRADER);
-    ///     assert_eq!(tables.step(&other), Err(Refusal::LevelOrRoles)); // not authorised
-    ///     Ok(())
-    /// }
-    /// ```
     pub fn set_current_roles(user: User, of: User, roles: Roles) -> Request {
         Request::made(user, Operation::CurrentRoles, [NONE, NONE], [of.number(), roles.number(), 0])
     }
@@ -202,29 +162,6 @@ impl Request {
     }
 
     /// 19: the draft is released, by the requester [rule 6.19]. Its own refusal: 12 where the requester is no releaser.
-    ///
-    /// ```
-    /// use mms::{Entity, Level, Operation, Position, Refusal, Request, Roles, Tables, Triple, Type, User};
-    ///
-    /// fn main() -> Result<(), Box<dyn std::error::Error>> {
-    ///     let (user, device) = (User::try_from(1)?, Entity::try_from(1)?);
-    ///     let mut tables = Tables::empty();
-    ///     tables.put_device(device, Level::HIGHEST, Level::HIGHEST);
-    ///     tables.put_user(user, Level::HIGHEST, Roles::RELEASER | Roles::OFFICER);
-    ///     tables.put_on(user, device, Roles::OFFICER);
-    ///     let draft = Entity::try_from(2)?;
-    ///     tables.put_draft(draft, Level::LOWEST);
-    ///     tables.put_triple(draft, Triple::new(user, Operation::Release, Position::First))?;
-    ///
-    ///     let release = Request::release(user, &draft.into());
-    ///     assert_eq!(tables.step(&release), Err(Refusal::RoleMissing)); // authorised, but not current
-    ///     tables.step(&Request::set_current_roles(user, user, Roles::RELEASER))?;
-    ///     tables.step(&release)?;
-    ///     assert_eq!(tables.type_of(draft), Some(Type::Released));
-    ///     assert_eq!(tables.releaser_of(draft), Some(user));
-    ///     Ok(())
-    /// }
-    /// ```
     pub fn release(user: User, draft: &Reference) -> Request {
         Request::made(user, Operation::Release, [draft, NONE], NOTHING)
     }

@@ -66,7 +66,11 @@ impl Tables {
         self.entity_words_mut(container)[entity::MARK] = u32::from(marked);
     }
 
-    /// The entity is the last in the container; refused with 14 where eight places are in use.
+    /// The entity is the last in the container.
+    ///
+    /// # Errors
+    ///
+    /// [`Refusal::NoRoom`] where eight places are in use.
     ///
     /// ```
     /// use mms::{Entity, Level, Refusal, Tables};
@@ -93,7 +97,11 @@ impl Tables {
         Ok(())
     }
 
-    /// The entity has this triple behind its others; refused with 14 where there are eight.
+    /// The entity has this triple behind its others.
+    ///
+    /// # Errors
+    ///
+    /// [`Refusal::NoRoom`] where there are eight.
     pub fn put_triple(&mut self, entity: Entity, triple: Triple) -> Result<(), Refusal> {
         let mut triples = self.entity_words_mut(entity)[entity::TRIPLES..].iter_mut();
         *triples.find(|word| **word == 0).ok_or(Refusal::NoRoom)? = triple.word();
