@@ -6,6 +6,7 @@ use super::difference::Difference;
 use super::list_call::ListCalls;
 use super::lists::Lists;
 use super::Comparison;
+use crate::guarded;
 use generate::layout::{answer, asked, OPERATIONS, REQUEST_WORDS, TABLE_WORDS, USERS};
 use generate::{dice_for, Dice};
 
@@ -63,6 +64,7 @@ impl<'a> Run<'a> {
 
     /// Goes through one table, all of which follows from the seed and its number.
     pub fn table(&mut self, number: u64) -> Result<(), Difference> {
+        guarded::start_from(number);
         self.dice = dice_for(self.what.seed, number);
         self.list_dice = dice_for(self.what.seed, number ^ OF_LISTS);
         self.request = 0;

@@ -11,6 +11,7 @@ mod tally;
 use generate::layout::REQUEST_WORDS;
 use generate::{dice_for, Dice};
 
+use crate::guarded;
 use crate::outcome::{Out, Outcome};
 use crate::side::{ByHand, Side};
 use call::{Difference, Reading, Writing};
@@ -73,6 +74,7 @@ impl Drop for Round<'_> {
 impl Round<'_> {
     /// Ends at the first difference.
     fn compare(&mut self) -> Result<(), Difference> {
+        guarded::start_from(self.number);
         let words = match self.number {
             1 => cases::shortest(),
             2 => cases::longest(),
