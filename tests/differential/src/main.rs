@@ -11,7 +11,6 @@ use ordinary::{Right, Wrong, WRONG};
 use outcome::{Out, Outcome};
 use side::ByHand;
 use std::process::exit;
-use tables::Comparison;
 use wrong::Effort;
 
 /// What can be asked for.
@@ -85,18 +84,23 @@ impl Options {
     fn desk(&self) -> ByHand<'static> {
         self.wrong.map_or(&Right, |wrong| wrong.desk)
     }
+
+    /// What to give besides the numbers to have that desk again.
+    fn words(&self) -> String {
+        self.wrong.map_or(String::new(), |wrong| format!(" wrong={}", wrong.name))
+    }
 }
 
 /// Compares check, step and list.
 fn run_tables(seed: &str, steps: &str, rest: &[&str]) -> Result<Outcome, Unclear> {
     let options = options(rest, false)?;
-    let what = Comparison {
+    let what = tables::Comparison {
         seed: number(seed)?,
         steps: number(steps)?,
         only: options.table,
         stepping: options.desk(),
         listing: options.desk(),
-        options: options.wrong.map_or(String::new(), |wrong| format!(" wrong={}", wrong.name)),
+        options: options.words(),
         most_differences: MOST_DIFFERENCES,
     };
     Ok(tables::run(&what, Out::LOUD))
@@ -105,7 +109,13 @@ fn run_tables(seed: &str, steps: &str, rest: &[&str]) -> Result<Outcome, Unclear
 /// Compares the reader and the writer.
 fn run_texts(seed: &str, rounds: &str, rest: &[&str]) -> Result<Outcome, Unclear> {
     let options = options(rest, true)?;
-    Ok(texts::run(number(seed)?, number(rounds)?, options.desk(), Out::LOUD))
+    let what = texts::Comparison {
+        seed: number(seed)?,
+        rounds: number(rounds)?,
+        desk: options.desk(),
+        options: options.words(),
+    };
+    Ok(texts::run(&what, Out::LOUD))
 }
 
 /// Tries every wrong desk.

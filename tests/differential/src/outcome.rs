@@ -23,6 +23,12 @@ impl Out {
     }
 }
 
+/// What to type to run this program again with these words.
+pub fn again(words: Arguments) -> String {
+    let program = std::env::args().next().unwrap_or_else(|| "differential".to_string());
+    format!("{} {}", program, words)
+}
+
 /// What came of a run.
 #[derive(Clone, Debug, Default, PartialEq, Eq)]
 pub struct Outcome {

@@ -1,8 +1,7 @@
 //! Every wrong desk must be found out, and by a difference: what a wrong desk fails to reach is no proof against it.
 use crate::outcome::{Out, Outcome};
 use crate::side::ByHand;
-use crate::tables::{self, Comparison};
-use crate::texts;
+use crate::{tables, texts};
 use ordinary::{Right, Wrong, WRONG};
 
 /// How much is tried with each.
@@ -16,15 +15,21 @@ impl Effort {
     /// The first difference of two desks, one for the steps and one for the lists, with the proved one.
     fn of_tables(&self, stepping: ByHand, listing: ByHand) -> Option<String> {
         let Effort { seed, steps, .. } = *self;
-        let what =
-            Comparison { seed, steps, only: None, stepping, listing, options: String::new(), most_differences: 1 };
+        let (only, options) = (None, String::new());
+        let what = tables::Comparison { seed, steps, only, stepping, listing, options, most_differences: 1 };
         tables::run(&what, Out::QUIET).first
+    }
+
+    /// The first difference of a desk's reader and writer with the proved ones.
+    fn of_texts(&self, desk: ByHand) -> Option<String> {
+        let Effort { seed, rounds, .. } = *self;
+        texts::run(&texts::Comparison { seed, rounds, desk, options: String::new() }, Out::QUIET).first
     }
 
     /// Where a wrong desk is noticed first: each of its calls is tried alone, since a wrong list would hide a wrong step.
     fn noticed(&self, wrong: &Wrong) -> Vec<String> {
         let found = if wrong.text {
-            vec![texts::run(self.seed, self.rounds, wrong.desk, Out::QUIET).first]
+            vec![self.of_texts(wrong.desk)]
         } else {
             vec![self.of_tables(wrong.desk, &Right), self.of_tables(&Right, wrong.desk)]
         };

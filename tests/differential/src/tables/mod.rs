@@ -12,7 +12,7 @@ mod run;
 pub mod s1;
 mod samples;
 
-use crate::outcome::{Out, Outcome};
+use crate::outcome::{again, Out, Outcome};
 use crate::side::ByHand;
 use difference::Difference;
 use run::Run;
@@ -89,10 +89,8 @@ fn report(what: &Comparison, run: &Run, number: u64, difference: &Difference, ou
     for detail in &difference.details {
         out.line(format_args!("  {}", detail));
     }
-    out.line(format_args!(
-        "  again: differential tables {} {} table={}{}",
-        what.seed, what.steps, number, what.options
-    ));
+    let same = again(format_args!("tables {} {} table={}{}", what.seed, what.steps, number, what.options));
+    out.line(format_args!("  again: {}", same));
 }
 
 /// Writes what was reached; gives the number of things amiss.

@@ -12,7 +12,7 @@ use generate::layout::REQUEST_WORDS;
 use generate::{dice_for, Dice};
 
 use crate::guarded;
-use crate::outcome::{Out, Outcome};
+use crate::outcome::{again, Out, Outcome};
 use crate::side::{ByHand, Side};
 use call::{Difference, Reading, Writing};
 use tally::Tally;
@@ -28,19 +28,31 @@ const LENGTH_STRIDE: usize = 16;
 /// Differences after which a run is given up.
 const MOST_REPORTS: u64 = 5;
 
+/// What a run is asked for.
+pub struct Comparison<'a> {
+    pub seed: u64,
+    pub rounds: u64,
+    /// Who writes and reads, against the proved desk.
+    pub desk: ByHand<'a>,
+    /// What to give besides to run it again.
+    pub options: String,
+}
+
 /// Compares so many rounds, and says what was reached and what differed.
-pub fn run(seed: u64, rounds: u64, desk: ByHand, out: Out) -> Outcome {
+pub fn run(what: &Comparison, out: Out) -> Outcome {
     let mut outcome = Outcome::default();
     let mut tally = Tally::new();
     let mut done = 0;
-    let sides = [Side::Ordinary(desk), Side::Proved];
-    out.line(format_args!("texts: seed {}, {} rounds", seed, rounds));
-    while done < rounds && outcome.differences < MOST_REPORTS {
+    let sides = [Side::Ordinary(what.desk), Side::Proved];
+    let seed = what.seed;
+    out.line(format_args!("texts: seed {}, {} rounds{}", seed, what.rounds, what.options));
+    while done < what.rounds && outcome.differences < MOST_REPORTS {
         done += 1;
         let mut round = Round { seed, number: done, dice: dice_for(seed, done), sides, tally: &mut tally };
         if let Err(difference) = round.compare() {
             out.line(format_args!("difference in round {}: {}: {}", done, difference.place, difference.details));
-            out.line(format_args!("  again: differential texts {} {}, the last round", seed, done));
+            let same = again(format_args!("texts {} {}{}", seed, done, what.options));
+            out.line(format_args!("  again, in the last round: {}", same));
             outcome.first.get_or_insert_with(|| format!("round {}: {}", done, difference.place));
             outcome.differences += 1;
         }
