@@ -5,6 +5,8 @@ import subprocess
 STATE_BYTES = 9216
 LINES = 7  # in a request text
 REPORT_LINES = 3
+SCRIPTS = 1000  # with numbers below this each seed has its own
+SEEDS = 2**64  # a seed of the maker is below this
 ODD_BYTES = b"\n\r\0 .=+-09azAZ\x80\xff"
 LARGEST = b"4294967295"
 KEYS = (b"user", b"op", b"ref", b"ref2", b"a", b"b", b"c")
@@ -52,6 +54,7 @@ class Maker:
         self.seed = seed
 
     def dice(self):
+        """Dice for what is done to scripts; each time they are thrown alike."""
         return random.Random(self.seed)
 
     def s1(self):
@@ -60,8 +63,9 @@ class Maker:
 
     def script(self, number, requests):
         """Tables and requests to them."""
-        return self.make(str(1000 * (self.seed - 1) + number), str(requests))
+        return self.make(str((SCRIPTS * self.seed + number) % SEEDS), str(requests))
 
     def make(self, *words):
+        """What the maker gives for these words: the bytes of tables, and behind them a script."""
         made = subprocess.run([*self.differential, "script", *words], stdout=subprocess.PIPE, check=True).stdout
         return made[:STATE_BYTES], made[STATE_BYTES:]
