@@ -44,6 +44,22 @@ impl Side<'_> {
             Side::Proved => reply(words::list(tables, user, room)),
         }
     }
+
+    /// The text of a request.
+    pub fn write(self, request: &[u32], room: &mut [u8]) -> Reply {
+        match self {
+            Side::Ordinary(desk) => desk.write(request, room),
+            Side::Proved => reply(words::write(request, room)),
+        }
+    }
+
+    /// The words of a text.
+    pub fn read(self, text: &[u8], request: &mut [u32]) -> Reply {
+        match self {
+            Side::Ordinary(desk) => desk.read(text, request),
+            Side::Proved => reply(words::read(text, request)),
+        }
+    }
 }
 
 /// What the proved desk answered, as the other one puts it.

@@ -21,6 +21,9 @@ pub const MAX_COUNT: u32 = 65_535;
 pub const FIRST_ROLE: u32 = USERS + 1;
 pub const LAST_WHO: u32 = USERS + 8;
 
+/// The words of a user's notice, from what is held on.
+pub const NOTICE_WORDS: usize = user::COUNT + 1 - user::HELD;
+
 /// The words of a user.
 pub mod user {
     pub const PRESENT: usize = 0;

@@ -1,38 +1,9 @@
 //! One check or one step of both desks, and everything compared that either leaves [rules 8.1, 8.2, 8.5].
 use super::difference::Difference;
-use crate::guarded::Guarded;
+use super::lent::Lent;
 use crate::side::{ByHand, Side};
-use generate::layout::{answer, asked, user, user_base};
+use generate::layout::{answer, asked, user, user_base, NOTICE_WORDS};
 use ordinary::Reply;
-
-/// What is lent to one side.
-struct Lent<'a> {
-    side: Side<'a>,
-    tables: Guarded<u32>,
-    request: Guarded<u32>,
-    reply: Reply,
-}
-
-impl<'a> Lent<'a> {
-    /// Nothing is lent yet.
-    fn new(side: Side<'a>) -> Lent<'a> {
-        let nothing = Reply { answer: 0, number: 0 };
-        Lent { side, tables: Guarded::room(0), request: Guarded::room(0), reply: nothing }
-    }
-
-    /// Lends a copy of these tables for a check.
-    fn check(&mut self, tables: &[u32]) {
-        self.tables.hold(tables);
-        self.reply = self.side.check(self.tables.lent());
-    }
-
-    /// Lends copies of these for a step.
-    fn step(&mut self, tables: &[u32], request: &[u32]) {
-        self.tables.hold(tables);
-        self.request.hold(request);
-        self.reply = self.side.step(self.tables.lent(), self.request.lent());
-    }
-}
 
 /// Checks and steps of both desks, with what was lent for the last one.
 pub struct Calls<'a> {
@@ -89,7 +60,7 @@ impl<'a> Calls<'a> {
             Some("the answers differ")
         } else if answer > answer::LAST_OF_STEP || number != 0 {
             Some("an answer that no step gives")
-        } else if !ordinary.request.holds(request) || !proved.request.holds(request) {
+        } else if !ordinary.beside.holds(request) || !proved.beside.holds(request) {
             Some("the request or a word beside it was written to")
         } else if !ordinary.tables.guards_stand() || !proved.tables.guards_stand() {
             Some("a word beside the tables was written to")
@@ -117,7 +88,7 @@ fn leaves_what_it_may_not_touch(given: u32, before: &[u32], after: &[u32], reque
         answer::BAD_LENGTH..=answer::UNKNOWN_USER => before == after,
         _ => {
             let notice = user_base(request[asked::USER]) + user::HELD;
-            let behind = notice + 3;
+            let behind = notice + NOTICE_WORDS;
             before[..notice] == after[..notice] && before[behind..] == after[behind..]
         }
     }

@@ -1,33 +1,11 @@
 //! One list of both desks, in a room of any length, and everything compared that either leaves [rules 10.1 to 10.7].
 use super::difference::Difference;
+use super::lent::Lent;
 use crate::guarded::Guarded;
 use crate::side::{ByHand, Side};
 use generate::full::MOST_ENTRIES;
 use generate::layout::{answer, ENTITIES, ENTRY_WORDS, NAMES, PLACES};
 use ordinary::Reply;
-
-/// What is lent to one side.
-struct Lent<'a> {
-    side: Side<'a>,
-    tables: Guarded<u32>,
-    room: Guarded<u32>,
-    reply: Reply,
-}
-
-impl<'a> Lent<'a> {
-    /// Nothing is lent yet.
-    fn new(side: Side<'a>) -> Lent<'a> {
-        let nothing = Reply { answer: 0, number: 0 };
-        Lent { side, tables: Guarded::room(0), room: Guarded::room(0), reply: nothing }
-    }
-
-    /// Lends a copy of these tables and a fresh room for a list.
-    fn list(&mut self, tables: &[u32], user: u32, length: usize) {
-        self.tables.hold(tables);
-        self.room.empty(length);
-        self.reply = self.side.list(self.tables.lent(), user, self.room.lent());
-    }
-}
 
 /// Lists of both desks, with what was lent for the last one.
 pub struct ListCalls<'a> {
@@ -44,7 +22,7 @@ impl<'a> ListCalls<'a> {
     /// The entries of the last list, if it was answered 0.
     pub fn entries(&self) -> &[u32] {
         match self.proved.reply {
-            Reply { answer: answer::ACCEPTED, number } => &self.proved.room.words()[..number as usize * ENTRY_WORDS],
+            Reply { answer: answer::ACCEPTED, number } => &self.proved.beside.words()[..number as usize * ENTRY_WORDS],
             _ => &[],
         }
     }
@@ -66,14 +44,14 @@ impl<'a> ListCalls<'a> {
         let (ordinary, proved) = (&self.ordinary, &self.proved);
         if ordinary.reply != proved.reply {
             Some("the answers or the numbers differ")
-        } else if ordinary.room.words() != proved.room.words() {
+        } else if ordinary.beside.words() != proved.beside.words() {
             Some("the rooms differ")
-        } else if !ordinary.room.guards_stand() || !proved.room.guards_stand() {
+        } else if !ordinary.beside.guards_stand() || !proved.beside.guards_stand() {
             Some("a word beside the room was written to")
         } else if !ordinary.tables.holds(tables) || !proved.tables.holds(tables) {
             Some("the tables or a word beside them were written to")
         } else {
-            fault(proved.reply, &proved.room, length)
+            fault(proved.reply, &proved.beside, length)
         }
     }
 }

@@ -4,6 +4,7 @@ mod call;
 mod cells;
 mod corners;
 mod difference;
+mod lent;
 mod list_call;
 mod list_tally;
 mod lists;

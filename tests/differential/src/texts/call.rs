@@ -1,35 +1,11 @@
 //! One call to both desks, and whether each did what the slow texts say, and nothing else.
 
 use generate::layout::{answer, REQUEST_WORDS};
-use mms::words::{self, Answer};
 use ordinary::Reply;
 
 use super::slow;
 use crate::guarded::{Filler, Guarded};
 use crate::side::Side;
-
-impl Side<'_> {
-    /// The text of a request.
-    fn write(self, request: &[u32], room: &mut [u8]) -> Reply {
-        match self {
-            Side::Ordinary(desk) => desk.write(request, room),
-            Side::Proved => reply(words::write(request, room)),
-        }
-    }
-
-    /// The words of a text.
-    fn read(self, text: &[u8], request: &mut [u32]) -> Reply {
-        match self {
-            Side::Ordinary(desk) => desk.read(text, request),
-            Side::Proved => reply(words::read(text, request)),
-        }
-    }
-}
-
-/// What the proved desk answered, as the other one puts it.
-fn reply(Answer { no, number }: Answer) -> Reply {
-    Reply { answer: no, number }
-}
 
 /// What a desk was found to do otherwise.
 pub struct Difference {
