@@ -97,7 +97,7 @@ impl Cells {
 
     /// How many cells were reached that can be.
     pub fn reached(&self) -> u64 {
-        every_cell().filter(|&(row, given)| self.counts[row][given] > 0).count() as u64
+        every_cell().filter(|&(row, given)| can_be(row, given) && self.counts[row][given] > 0).count() as u64
     }
 
     /// Writes the table of counts; a dot stands where nothing can.

@@ -18,7 +18,7 @@ const DAMAGE_EVERY: u32 = 4;
 const LISTS_EVERY: u32 = 50;
 /// From one table to the next whose lists are compared with the steps.
 const WITH_STEPS_EVERY: u64 = 4;
-/// Lists have dice of their own, so that they change no request; those of a table number N are those of number -N.
+/// Lists have dice of their own, so that they change no request: those of table N are the dice of number 2^64 - 1 - N.
 const OF_LISTS: u64 = u64::MAX;
 
 /// Lengths of slices that are lent as tables.
