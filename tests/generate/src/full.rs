@@ -1,8 +1,8 @@
 //! Full tables: all 64 entities present, containers in containers to a depth of five and more, sixteen users on sixteen devices, eight shown
 //! on each, eight triples everywhere.
 use crate::layout::{
-    at_most, entity, entity_base, kind, operation, role, shown, triple, user, user_base, ENTITIES, FIRST_ROLE,
-    LAST_WHO, MAX_LEVEL, MAX_ROLES, PLACES, TABLE_WORDS, TRIPLES, USERS,
+    at_most, entity, entity_base, kind, operation, role, shown, triple, user, user_base, COMPARTMENT_BITS, ENTITIES,
+    FIRST_ROLE, LAST_WHO, MAX_LEVEL, MAX_ROLES, PLACES, TABLE_WORDS, TRIPLES, USERS,
 };
 use crate::view::entity_record;
 use crate::{levels, Dice};
@@ -23,6 +23,8 @@ const HOLDERS: usize = 8;
 /// In the fullest tables: a chain of three; the last of it holds the next eight, five of which hold all that come behind.
 const TRUNK: usize = 3;
 const FIRST_LEAF: usize = TRUNK + PLACES as usize;
+/// The levels of rank 2 start here, and those of rank 3 have this bit too.
+const RANK_2: u32 = 2 << COMPARTMENT_BITS;
 /// How often a holder is looked for.
 const TRIES: u32 = 20;
 
@@ -84,7 +86,7 @@ impl<'a> Full<'a> {
         if self.dice.chance(50) {
             MAX_LEVEL
         } else {
-            512 | (self.dice.word() & MAX_LEVEL)
+            RANK_2 | (self.dice.word() & MAX_LEVEL)
         }
     }
 
@@ -154,20 +156,42 @@ impl<'a> Full<'a> {
             _ => Some(self.inner[TRUNK + (made - FIRST_LEAF) / PLACES as usize]),
         }
     }
+
+    /// In the fullest tables, makes the next object or container, in its holder.
+    fn make_inner_of_fullest(&mut self, made: usize) {
+        let number = self.inner[made];
+        let holds = made < HOLDERS;
+        let record = self.entity(number);
+        record[entity::KIND] = if holds { kind::CONTAINER } else { kind::OBJECT };
+        record[entity::MARK] = u32::from(holds);
+        record[entity::LEVEL] = MAX_LEVEL;
+        if let Some(holder) = self.holder_in_fullest(made) {
+            self.put_into(holder, number);
+        }
+    }
+
+    /// In the fullest tables, logs a user on and shows every holder.
+    fn make_user_of_fullest(&mut self, number: u32) {
+        let device = self.log_on(number, MAX_LEVEL, role::OFFICER, MAX_LEVEL);
+        for i in 0..HOLDERS {
+            self.put_on_screen(device, self.inner[i]);
+        }
+    }
+
+    /// In the fullest tables, seven triples that are of no use to a list, and then the one that counts.
+    fn make_triples_of_fullest(&mut self, number: u32) {
+        let mut triples: Vec<u32> = (1..TRIPLES).map(|who| triple(who, operation::EDIT, 1)).collect();
+        triples.push(triple(FIRST_ROLE, operation::SHOW, 1));
+        self.entity(number)[entity::TRIPLES..][..triples.len()].copy_from_slice(&triples);
+    }
 }
 
 /// Levels, marks, places and triples as the dice fall: the lists are long.
 pub fn full(dice: &mut Dice) -> Vec<u32> {
     let mut full = Full::new(dice);
-    for made in 0..full.inner.len() {
-        full.make_inner(made);
-    }
-    for number in 1..=USERS {
-        full.make_user(number);
-    }
-    for number in 1..=ENTITIES {
-        full.make_triples(number);
-    }
+    (0..full.inner.len()).for_each(|made| full.make_inner(made));
+    (1..=USERS).for_each(|number| full.make_user(number));
+    (1..=ENTITIES).for_each(|number| full.make_triples(number));
     full.tables
 }
 
@@ -175,27 +199,8 @@ pub fn full(dice: &mut Dice) -> Vec<u32> {
 /// is counted with. All containers are marked, and nobody's clearance is too low for that. The triple that counts comes last.
 pub fn fullest(dice: &mut Dice) -> Vec<u32> {
     let mut full = Full::new(dice);
-    for made in 0..full.inner.len() {
-        let number = full.inner[made];
-        let holds = made < HOLDERS;
-        let record = full.entity(number);
-        record[entity::KIND] = if holds { kind::CONTAINER } else { kind::OBJECT };
-        record[entity::MARK] = u32::from(holds);
-        record[entity::LEVEL] = MAX_LEVEL;
-        if let Some(holder) = full.holder_in_fullest(made) {
-            full.put_into(holder, number);
-        }
-    }
-    for number in 1..=USERS {
-        let device = full.log_on(number, MAX_LEVEL, role::OFFICER, MAX_LEVEL);
-        for i in 0..HOLDERS {
-            full.put_on_screen(device, full.inner[i]);
-        }
-    }
-    for number in 1..=ENTITIES {
-        let mut triples: Vec<u32> = (1..TRIPLES).map(|who| triple(who, operation::EDIT, 1)).collect();
-        triples.push(triple(FIRST_ROLE, operation::SHOW, 1));
-        full.entity(number)[entity::TRIPLES..][..triples.len()].copy_from_slice(&triples);
-    }
+    (0..full.inner.len()).for_each(|made| full.make_inner_of_fullest(made));
+    (1..=USERS).for_each(|number| full.make_user_of_fullest(number));
+    (1..=ENTITIES).for_each(|number| full.make_triples_of_fullest(number));
     full.tables
 }

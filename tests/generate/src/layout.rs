@@ -15,11 +15,17 @@ pub const NAMES: u32 = 4;
 pub const ENTRY_WORDS: usize = 1 + NAMES as usize;
 pub const OPERATIONS: u32 = 20;
 pub const MAX_LEVEL: u32 = 1023;
+/// The bits of a level's compartments; its rank stands above them.
+pub const COMPARTMENT_BITS: u32 = 8;
+pub const COMPARTMENTS: u32 = (1 << COMPARTMENT_BITS) - 1;
 pub const MAX_ROLES: u32 = 255;
 pub const MAX_COUNT: u32 = 65_535;
 /// The first "who" of a triple that is a role.
 pub const FIRST_ROLE: u32 = USERS + 1;
 pub const LAST_WHO: u32 = USERS + 8;
+/// In the word of a triple, how far up its "who" and its operation stand.
+const WHO_SHIFT: u32 = 16;
+const OPERATION_SHIFT: u32 = 8;
 
 /// The words of a user's notice, from what is held on.
 pub const NOTICE_WORDS: usize = user::COUNT + 1 - user::HELD;
@@ -138,21 +144,42 @@ pub mod answer {
 }
 
 /// The first word of a user, who is numbered from 1.
-pub fn user_base(number: u32) -> usize {
+pub const fn user_base(number: u32) -> usize {
     (number as usize - 1) * USER_WORDS
 }
 
 /// The first word of an entity, which is numbered from 1.
-pub fn entity_base(number: u32) -> usize {
+pub const fn entity_base(number: u32) -> usize {
     FIRST_ENTITY_WORD + (number as usize - 1) * ENTITY_WORDS
 }
 
 /// An access triple as it stands in its word.
-pub fn triple(who: u32, operation: u32, position: u32) -> u32 {
-    who * 65_536 + operation * 256 + position
+pub const fn triple(who: u32, operation: u32, position: u32) -> u32 {
+    who << WHO_SHIFT | right(operation, position)
+}
+
+/// The word of a triple without its "who": for what it is, and not for whom.
+pub const fn right(operation: u32, position: u32) -> u32 {
+    operation << OPERATION_SHIFT | position
+}
+
+/// The "who" of a triple.
+pub const fn who_of(triple: u32) -> u32 {
+    triple >> WHO_SHIFT
+}
+
+/// A triple without its "who".
+pub const fn right_of(triple: u32) -> u32 {
+    triple & ((1 << WHO_SHIFT) - 1)
+}
+
+/// The "who", the operation and the position of a triple.
+pub const fn parts_of(triple: u32) -> [u32; 3] {
+    let right = right_of(triple);
+    [who_of(triple), right >> OPERATION_SHIFT, right & ((1 << OPERATION_SHIFT) - 1)]
 }
 
 /// Is a level at most another: its rank, and its compartments all among the other's?
 pub fn at_most(a: u32, b: u32) -> bool {
-    a >> 8 <= b >> 8 && a & !b & 255 == 0
+    a >> COMPARTMENT_BITS <= b >> COMPARTMENT_BITS && a & !b & COMPARTMENTS == 0
 }

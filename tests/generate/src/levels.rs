@@ -1,24 +1,23 @@
 //! Levels that stand in some relation to a given one.
-use crate::layout::MAX_LEVEL;
+use crate::layout::{COMPARTMENTS, COMPARTMENT_BITS, MAX_LEVEL};
 use crate::Dice;
 
-/// Bits of a level: eight compartments, and two for the rank above them.
-const LEVEL_BITS: u32 = 10;
+/// Bits of a level: those of the compartments, and two for the rank above them.
+const LEVEL_BITS: u32 = COMPARTMENT_BITS + 2;
 const RANKS: u32 = 4;
-const COMPARTMENTS: u32 = 255;
 
 /// A level at most the given one, which is often itself.
 pub fn lower(dice: &mut Dice, level: u32) -> u32 {
     if dice.chance(45) {
         return level;
     }
-    dice.below((level >> 8) + 1) << 8 | (level & dice.word() & COMPARTMENTS)
+    dice.below((level >> COMPARTMENT_BITS) + 1) << COMPARTMENT_BITS | (level & dice.word() & COMPARTMENTS)
 }
 
 /// A level at least the given one.
 pub fn higher(dice: &mut Dice, level: u32) -> u32 {
-    let rank = level >> 8;
-    (rank + dice.below(RANKS - rank)) << 8 | ((level | dice.word()) & COMPARTMENTS)
+    let rank = level >> COMPARTMENT_BITS;
+    (rank + dice.below(RANKS - rank)) << COMPARTMENT_BITS | ((level | dice.word()) & COMPARTMENTS)
 }
 
 /// A level that is often related to the given one, either way, or differs from it by one bit.

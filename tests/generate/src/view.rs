@@ -1,6 +1,7 @@
 //! Reading tables that are good, as the generator needs it.
 use crate::layout::{
-    entity, entity_base, kind, user, user_base, ENTITIES, ENTITY_WORDS, FIRST_ROLE, PLACES, TRIPLES, USERS, USER_WORDS,
+    entity, entity_base, kind, right, right_of, user, user_base, who_of, ENTITIES, ENTITY_WORDS, FIRST_ROLE, PLACES,
+    TRIPLES, USERS, USER_WORDS,
 };
 use crate::Dice;
 
@@ -88,8 +89,8 @@ pub fn stands_for(who: u32, number: u32, roles: u32) -> bool {
 /// Has an entity a triple of this operation and position for a user?
 pub fn allows(tables: &[u32], number: u32, user: u32, operation: u32, position: u32) -> bool {
     let roles = user_record(tables, user)[user::CURRENT];
-    let right = operation * 256 + position;
-    let fits = |&triple: &u32| triple & 65_535 == right && stands_for(triple >> 16, user, roles);
+    let wanted = right(operation, position);
+    let fits = |&triple: &u32| right_of(triple) == wanted && stands_for(who_of(triple), user, roles);
     triples(entity_record(tables, number)).iter().any(fits)
 }
 

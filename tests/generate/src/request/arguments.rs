@@ -1,6 +1,6 @@
 //! Arguments that lie in their ranges, and mostly let the operation succeed.
 use super::Drawing;
-use crate::layout::{asked, entity, operation, shown, user, LAST_WHO, MAX_ROLES, OPERATIONS, USERS};
+use crate::layout::{asked, entity, operation, parts_of, shown, user, LAST_WHO, MAX_ROLES, OPERATIONS, USERS};
 use crate::view::{entity_record, present_user, triples, user_record};
 use crate::{levels, Dice};
 
@@ -39,8 +39,7 @@ impl Drawing<'_> {
     fn fill_triple(&mut self, first: u32, percent: u32) {
         let held = triples(entity_record(self.tables, first));
         let parts = if !held.is_empty() && self.dice.chance(percent) {
-            let triple = self.dice.one_of(held);
-            [triple >> 16, triple >> 8 & 255, triple & 255]
+            parts_of(self.dice.one_of(held))
         } else {
             [self.dice.between(1, LAST_WHO), self.dice.between(1, OPERATIONS), self.dice.between(1, 2)]
         };

@@ -1,6 +1,8 @@
 //! Who asks, and about what first. Refusals deep in the ladder are reached by looking for them, since chance seldom gets there.
 use super::{in_place_to_ask, Drawing};
-use crate::layout::{at_most, entity, kind, operation, type_of, user, ENTITIES, FIRST_ROLE, USERS};
+use crate::layout::{
+    at_most, entity, kind, operation, right, right_of, type_of, user, who_of, ENTITIES, FIRST_ROLE, USERS,
+};
 use crate::view::{
     any_of, entity_record, is_off, is_on, present_entity, present_user, stands_for, triples, user_record, users_where,
     Holders,
@@ -104,12 +106,12 @@ impl Drawing<'_> {
 
     /// All that have a triple of the operation's first position, with whom it is for.
     fn with_triples(&self) -> Vec<(u32, u32)> {
-        let right = self.operation * 256 + 1;
+        let wanted = right(self.operation, 1);
         let mut found = Vec::new();
         for number in 1..=ENTITIES {
-            let of_right =
-                triples(entity_record(self.tables, number)).iter().filter(|&triple| triple & 65_535 == right);
-            found.extend(of_right.map(|triple| (triple >> 16, number)));
+            let triples = triples(entity_record(self.tables, number)).iter();
+            let of_right = triples.filter(|&&triple| right_of(triple) == wanted);
+            found.extend(of_right.map(|&triple| (who_of(triple), number)));
         }
         found
     }
