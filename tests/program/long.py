@@ -76,11 +76,15 @@ def speed(trial):
     state, script = trial.maker.script(5, TIMED)
     folder = Folder(trial.room, state)
     for program in (trial.ordinary, trial.proved):
-        start, whole = (statistics.median(seconds(trial, program, folder, text) for _ in range(TIMES))
-                        for text in (b"", script))
+        start, whole = usual_seconds(trial, program, folder, b""), usual_seconds(trial, program, folder, script)
         print(f"{program.name}: {1e6 * (whole - start) / TIMED:.1f} us for each of {TIMED} requests,"
               f" and {1000 * start:.1f} ms to start")
     folder.close()
+
+
+def usual_seconds(trial, program, folder, script):
+    """The median of a few runs on a script."""
+    return statistics.median(seconds(trial, program, folder, script) for _ in range(TIMES))
 
 
 def seconds(trial, program, folder, script):

@@ -42,12 +42,7 @@ impl<'a> Lists<'a> {
 
     /// Lists of good tables: for a few who are on, one who is off, one who is absent, and three numbers that are nobody's.
     pub fn of_good(&mut self, dice: &mut Dice, tables: &[u32]) -> Result<(), Difference> {
-        let mut on = users_where(tables, is_on);
-        dice.shuffle(&mut on);
-        on.truncate(SOME_ON);
-        for asker in on {
-            self.in_rooms(dice, tables, asker)?;
-        }
+        self.of_some_on(dice, tables)?;
         let off = users_where(tables, is_off);
         let absent = users_where(tables, |record| record[user::PRESENT] == 0);
         let others =
@@ -56,6 +51,13 @@ impl<'a> Lists<'a> {
             self.one(tables, *asker, dice.below(4 * ENTRY_WORDS as u32) as usize)?;
         }
         Ok(())
+    }
+
+    /// Lists of good tables for a few who are on.
+    fn of_some_on(&mut self, dice: &mut Dice, tables: &[u32]) -> Result<(), Difference> {
+        let mut on = users_where(tables, is_on);
+        dice.shuffle(&mut on);
+        on.into_iter().take(SOME_ON).try_for_each(|asker| self.in_rooms(dice, tables, asker))
     }
 
     /// Lists for one user who is on: in no room, in one that is too short by a word, by an entry or somehow, in one that is just right, and in

@@ -159,12 +159,18 @@ impl<'a> Run<'a> {
         for count in TABLE_LENGTHS {
             self.check(&tables[..count])?;
             self.lists.of_bad(&mut self.list_dice, &tables[..count])?;
-            for length in REQUEST_LENGTHS {
-                let operation = self.dice.between(1, OPERATIONS);
-                let mut request = generate::request_for(&mut self.dice, &self.tables, operation).to_vec();
-                request.push(0);
-                self.step(&tables[..count], &request[..length])?;
-            }
+            self.other_requests(&tables[..count])?;
+        }
+        Ok(())
+    }
+
+    /// Steps on these tables with requests of all lengths that are tried.
+    fn other_requests(&mut self, tables: &[u32]) -> Result<(), Difference> {
+        for length in REQUEST_LENGTHS {
+            let operation = self.dice.between(1, OPERATIONS);
+            let mut request = generate::request_for(&mut self.dice, &self.tables, operation).to_vec();
+            request.push(0);
+            self.step(tables, &request[..length])?;
         }
         Ok(())
     }
