@@ -3,6 +3,8 @@
 mod common;
 
 use common::*;
+use generate::layout::{entity_base, user_base};
+use generate::s1;
 use ordinary::{check, list, step, Reply, Right, REQUEST_WORDS, TABLE_WORDS};
 
 const NOT_WELL_FORMED: u32 = 2;
@@ -18,13 +20,13 @@ fn base() -> Tables {
 }
 
 /// Where a word of a user stands.
-const fn u(number: usize, word: usize) -> usize {
-    (number - 1) * USER_WORDS + word
+const fn u(number: u32, word: usize) -> usize {
+    user_base(number) + word
 }
 
 /// Where a word of an entity stands.
-const fn e(number: usize, word: usize) -> usize {
-    FIRST_ENTITY_WORD + (number - 1) * ENTITY_WORDS + word
+const fn e(number: u32, word: usize) -> usize {
+    entity_base(number) + word
 }
 
 /// A rule, the words that are set, and what the check then answers.

@@ -3,18 +3,10 @@
 mod common;
 
 use common::*;
+use generate::layout::operation::{ACKNOWLEDGE, COPY, CREATE, LOGIN, RELEASE, SET_CURRENT, SET_LEVEL, SHOW};
+use generate::layout::{asked, entity, NAMES};
+use generate::{s1, s1_unmarked};
 use ordinary::{advance, check, list, read, run, step, write, Reply, Right, ENTRY_WORDS, REQUEST_WORDS};
-
-const VALUE: usize = 4;
-
-const CREATE: u32 = 1;
-const COPY: u32 = 5;
-const LEVEL: u32 = 6;
-const SHOW: u32 = 10;
-const LOGIN: u32 = 12;
-const CURRENT_ROLES: u32 = 14;
-const RELEASE: u32 = 19;
-const ACKNOWLEDGE: u32 = 20;
 
 /// What show asks for where a case does not say.
 const VALUE_AND_LABEL: u32 = 3;
@@ -51,7 +43,7 @@ fn user_2_shows() {
     }
     let mut shown = s1();
     answer(&mut shown, &show(2, &[5], VALUE_AND_LABEL));
-    let screen = [7, 8, 16].map(|word| entity_word(&shown, 2, word));
+    let screen = [entity::USED, entity::CONTENTS, entity::SHOWN].map(|word| entity_word(&shown, 2, word));
     assert_eq!(screen, [1, 5, VALUE_AND_LABEL]);
 }
 
@@ -59,7 +51,7 @@ fn user_2_shows() {
 fn a_length_of_five_is_no_form() {
     let mut tables = s1();
     let mut long = show(2, &[5], VALUE_AND_LABEL);
-    long[2] = 5;
+    long[asked::FIRST] = NAMES + 1;
     assert_eq!(answer(&mut tables, &long), 5);
     assert_eq!(notice(&tables, 2), [5, SHOW, 1]);
 }
@@ -68,7 +60,7 @@ fn a_length_of_five_is_no_form() {
 fn user_2_copies_5_to_7() {
     let mut tables = s1();
     assert_eq!(answer(&mut tables, &request(2, COPY, &[5], &[7], [0; 3])), 0);
-    assert_eq!(entity_word(&tables, 7, VALUE), 40);
+    assert_eq!(entity_word(&tables, 7, entity::VALUE), 40);
 }
 
 #[test]
@@ -88,16 +80,16 @@ fn user_1_releases_6_as_a_releaser_only() {
     let release = request(1, RELEASE, &[6], &[], [0; 3]);
     assert_eq!(answer(&mut s1(), &release), 12);
     let mut tables = s1();
-    assert_eq!(answer(&mut tables, &request(1, CURRENT_ROLES, &[], &[], [1, 5, 0])), 0);
+    assert_eq!(answer(&mut tables, &request(1, SET_CURRENT, &[], &[], [1, 5, 0])), 0);
     assert_eq!(answer(&mut tables, &release), 0);
-    let released = [1, 5].map(|word| entity_word(&tables, 6, word));
+    let released = [entity::TYPE, entity::RELEASER].map(|word| entity_word(&tables, 6, word));
     assert_eq!(released, [2, 1]);
 }
 
 #[test]
 fn user_1_sets_the_level_of_7() {
     for (level, expected) in [(0, 12), (1, 0)] {
-        assert_eq!(answer(&mut s1(), &request(1, LEVEL, &[7], &[], [level, 0, 0])), expected, "to {}", level);
+        assert_eq!(answer(&mut s1(), &request(1, SET_LEVEL, &[7], &[], [level, 0, 0])), expected, "to {}", level);
     }
 }
 
@@ -136,12 +128,9 @@ fn listed(tables: &Tables, user: u32, count: usize) -> Vec<u32> {
 
 #[test]
 fn the_lists() {
-    const MARK_OF_4: usize = FIRST_ENTITY_WORD + 3 * ENTITY_WORDS + 3;
     assert_eq!(listed(&s1(), 2, 1), [1, 5, 0, 0, 0]);
     assert_eq!(listed(&s1(), 1, 0), []);
-    let mut unmarked = s1();
-    unmarked[MARK_OF_4] = 0;
-    assert_eq!(listed(&unmarked, 2, 2), [2, 4, 1, 0, 0, 1, 5, 0, 0, 0]);
+    assert_eq!(listed(&s1_unmarked(), 2, 2), [2, 4, 1, 0, 0, 1, 5, 0, 0, 0]);
 }
 
 /// The text of a request, which must be read as it was.

@@ -55,18 +55,24 @@ fn lines_are_named() {
 fn there_and_back(text: &str) -> [u32; REQUEST_WORDS] {
     let mut words = [UNTOUCHED; REQUEST_WORDS];
     assert_eq!(read::<Right>(text.as_bytes(), &mut words), Reply { answer: 0, number: 0 });
-    let need = text.len() as u32;
-    for length in 0..text.len() {
-        let mut room = vec![b'x'; length];
-        assert_eq!(write::<Right>(&words, &mut room), Reply { answer: 17, number: need });
-        assert!(room.iter().all(|byte| *byte == b'x'));
-    }
-    for spare in 0..3 {
-        let mut room = vec![b'x'; text.len() + spare];
-        assert_eq!(write::<Right>(&words, &mut room), Reply { answer: 0, number: need });
-        assert_eq!(room, [text, &"xxx"[..spare]].concat().into_bytes());
+    for length in 0..text.len() + 3 {
+        write_into(&words, text, length);
     }
     words
+}
+
+/// Writes words that have this text into a room of some length, of which it fills the front or nothing.
+fn write_into(words: &[u32], text: &str, length: usize) {
+    let need = text.len() as u32;
+    let mut room = vec![b'x'; length];
+    let reply = write::<Right>(words, &mut room);
+    if length < text.len() {
+        assert_eq!(reply, Reply { answer: 17, number: need });
+        assert!(room.iter().all(|byte| *byte == b'x'));
+    } else {
+        assert_eq!(reply, Reply { answer: 0, number: need });
+        assert_eq!(room, [text, &"x".repeat(length - text.len())].concat().into_bytes());
+    }
 }
 
 #[test]
