@@ -38,18 +38,22 @@ impl Turn<'_> {
         self.request[request::C]
     }
 
+    /// The level of an entity in the tables as they are now.
     fn level_of(&self, entity: Entity) -> Level {
         level_of(self.tables, entity)
     }
 
+    /// The record of an entity as it is now.
     fn entity(&self, entity: Entity) -> &EntityWords {
         entity_words(self.tables, entity)
     }
 
+    /// The record of an entity, for a change that the conditions have allowed.
     fn entity_mut(&mut self, entity: Entity) -> &mut EntityWords {
         entity_words_mut(self.tables, entity)
     }
 
+    /// The record of a user, for a change that the conditions have allowed.
     fn user_mut(&mut self, user: User) -> &mut UserWords {
         user_words_mut(self.tables, user)
     }

@@ -75,14 +75,17 @@ static FORMS: [Form; OPERATIONS as usize] = [
     none([FREE, FREE, UNUSED]),                      // acknowledge
 ];
 
+/// The form of an operation that names no entity.
 const fn none(arguments: [Span; 3]) -> Form {
     Form { operands: [None, None], arguments }
 }
 
+/// The form of an operation on one entity.
 const fn one(operand: Operand, arguments: [Span; 3]) -> Form {
     Form { operands: [Some(operand), None], arguments }
 }
 
+/// The form of an operation on two entities; no such operation has arguments.
 const fn two(first: Operand, second: Operand) -> Form {
     Form { operands: [Some(first), Some(second)], arguments: [UNUSED; 3] }
 }
@@ -97,6 +100,7 @@ pub fn of(request: &Request) -> Result<&'static Form, Refusal> {
 }
 
 impl Form {
+    /// Whether references, arguments and the spare word are as this operation wants them.
     fn fits(&self, request: &Request) -> bool {
         let arguments = &request[request::A..=request::C];
         self.operands

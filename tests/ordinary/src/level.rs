@@ -24,11 +24,13 @@ impl Level {
         self != other && self.at_most::<R>(other)
     }
 
+    /// The part that has an order.
     #[inline]
     fn rank(self) -> u32 {
         self.0 >> COMPARTMENTS
     }
 
+    /// The part that is a set, one bit for each member.
     #[inline]
     fn compartments(self) -> u32 {
         self.0 & ((1 << COMPARTMENTS) - 1)

@@ -111,6 +111,7 @@ struct Viewer<'a> {
 }
 
 impl<'a> Viewer<'a> {
+    /// Gathers what is asked of every entity, so that it is looked up once.
     fn new<R: Rules>(tables: &'a Tables, user: User, device: Entity) -> Viewer<'a> {
         Viewer {
             whos: Whos::of::<R>(tables, user),

@@ -4,11 +4,17 @@ use crate::Reply;
 
 /// A desk as an object, so that a wrong one can be chosen by name.
 pub trait Desk {
+    /// Says whether tables are well-formed and secure.
     fn check(&self, tables: &[u32]) -> Reply;
+    /// Carries out one request, or refuses it.
     fn step(&self, tables: &mut [u32], request: &[u32]) -> Reply;
+    /// Lists what a user could show.
     fn list(&self, tables: &[u32], user: u32, room: &mut [u32]) -> Reply;
+    /// Turns a text into the words of a request.
     fn read(&self, text: &[u8], request: &mut [u32]) -> Reply;
+    /// Turns the words of a request into a text.
     fn write(&self, request: &[u32], room: &mut [u8]) -> Reply;
+    /// Gives what the program writes for a script.
     fn run(&self, state: &[u8], script: &[u8]) -> Vec<u8>;
 }
 
@@ -73,13 +79,13 @@ macro_rules! errors {
 }
 
 errors! {
-    LEVELS, Levels, "levels", text: false, "levels are compared as plain numbers";
-    MARK, Mark, "mark", text: false, "the mark is tested on the named entity instead of its path";
-    ROLES, Roles, "roles", text: false, "authorised roles count where current ones are meant";
-    NOTICE, Notice, "notice", text: false, "a held notice is overwritten";
-    ROOM, Room, "room", text: false, "the room of a move is counted before the entity has left";
+    LEVELS, Levels, "levels", text: false, "a level is taken to be lower wherever its number is";
+    MARK, Mark, "mark", text: false, "a mark bars what bears it, and not what lies behind it";
+    ROLES, Roles, "roles", text: false, "a role counts that is authorised, current or not";
+    NOTICE, Notice, "notice", text: false, "a later refusal takes the place of the one that is held";
+    ROOM, Room, "room", text: false, "a move within a full container is refused for want of a place";
     DEVICES, Devices, "devices", text: false, "the list forgets references that go through a device";
-    NAMED, Named, "named", text: false, "the list tests the mark on the named entity instead of its path";
+    NAMED, Named, "named", text: false, "in the list a mark bars what bears it, and not what lies behind it";
     EARLY, Early, "early", text: false, "the list writes entries before it knows that the room suffices";
     COUNT, Count, "count", text: false, "the list counts one entry more than there are";
     SCREEN, Screen, "screen", text: false, "the list leaves off what a full screen has no place for";

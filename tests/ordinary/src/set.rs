@@ -2,6 +2,7 @@
 
 use crate::tables::Entity;
 
+/// Any of the 64 entities there can be; the default is none of them.
 #[derive(Clone, Copy, Default, PartialEq, Eq)]
 pub struct EntitySet(u64);
 
@@ -14,6 +15,7 @@ impl EntitySet {
         new
     }
 
+    /// Whether an entity is in it.
     #[inline]
     pub fn holds(self, entity: Entity) -> bool {
         self.0 & bit(entity) != 0
@@ -25,12 +27,14 @@ impl EntitySet {
         EntitySet(self.0 | other.0)
     }
 
+    /// Whether the other set has every member of this one.
     #[inline]
     pub fn is_within(self, other: EntitySet) -> bool {
         self.0 & !other.0 == 0
     }
 }
 
+/// The word in which only the bit of that entity is set.
 #[inline]
 fn bit(entity: Entity) -> u64 {
     1 << entity.index()

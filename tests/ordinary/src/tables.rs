@@ -24,11 +24,13 @@ impl User {
         User::new(number).filter(|user| user_words(tables, *user)[user::PRESENT] != 0)
     }
 
+    /// The sixteen users there can be, in the order of their numbers.
     #[inline]
     pub fn all() -> impl Iterator<Item = User> {
         (1..=USERS).map(User)
     }
 
+    /// The number as it stands in requests and tables, from 1.
     #[inline]
     pub fn number(self) -> u32 {
         self.0
@@ -54,11 +56,13 @@ impl Entity {
         Entity::new(number).filter(|entity| kind_of(tables, *entity) != kind::ABSENT)
     }
 
+    /// The 64 entities there can be, in the order of their numbers.
     #[inline]
     pub fn all() -> impl Iterator<Item = Entity> {
         (1..=ENTITIES).map(Entity)
     }
 
+    /// The number as it stands in requests and tables, from 1.
     #[inline]
     pub fn number(self) -> u32 {
         self.0
@@ -70,42 +74,50 @@ impl Entity {
         self.0 as usize - 1
     }
 
+    /// Where the entity's record starts.
     #[inline]
     fn start(self) -> usize {
         FIRST_ENTITY_WORD + self.index() * ENTITY_WORDS
     }
 }
 
+/// The record of a user, to be read.
 #[inline]
 pub fn user_words(tables: &Tables, user: User) -> &UserWords {
     tables[user.start()..][..USER_WORDS].try_into().expect("a user's words")
 }
 
+/// The record of a user, to be written to.
 #[inline]
 pub fn user_words_mut(tables: &mut Tables, user: User) -> &mut UserWords {
     (&mut tables[user.start()..][..USER_WORDS]).try_into().expect("a user's words")
 }
 
+/// The record of an entity, to be read.
 #[inline]
 pub fn entity_words(tables: &Tables, entity: Entity) -> &EntityWords {
     tables[entity.start()..][..ENTITY_WORDS].try_into().expect("an entity's words")
 }
 
+/// The record of an entity, to be written to.
 #[inline]
 pub fn entity_words_mut(tables: &mut Tables, entity: Entity) -> &mut EntityWords {
     (&mut tables[entity.start()..][..ENTITY_WORDS]).try_into().expect("an entity's words")
 }
 
+/// Object, container, device, or absent.
 #[inline]
 pub fn kind_of(tables: &Tables, entity: Entity) -> u32 {
     tables[entity.start() + entity::KIND]
 }
 
+/// How high an entity stands; for a device, the level it is set to now.
 #[inline]
 pub fn level_of(tables: &Tables, entity: Entity) -> Level {
     Level(tables[entity.start() + entity::LEVEL])
 }
 
+/// The level up to which a user may see things.
 #[inline]
 pub fn clearance_of(tables: &Tables, user: User) -> Level {
     Level(user_words(tables, user)[user::CLEARANCE])
@@ -135,6 +147,7 @@ pub fn holds(words: &EntityWords, entity: Entity) -> bool {
     place_of(words, entity).is_some()
 }
 
+/// Whether nothing more can be put into the entity or shown on it.
 #[inline]
 pub fn is_full(words: &EntityWords) -> bool {
     words[entity::USED] as usize == PLACES

@@ -79,11 +79,13 @@ impl Text {
         self.push(&digits[start..]);
     }
 
+    /// Puts one byte behind what is there; there is room, since no text is longer than `LONGEST`.
     fn push_byte(&mut self, byte: u8) {
         self.bytes[self.length] = byte;
         self.length += 1;
     }
 
+    /// Puts bytes behind what is there.
     fn push(&mut self, bytes: &[u8]) {
         self.bytes[self.length..][..bytes.len()].copy_from_slice(bytes);
         self.length += bytes.len();
