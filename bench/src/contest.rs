@@ -129,10 +129,12 @@ impl Contest {
         }
     }
 
+    /// Tables to check.
     fn check_load(&self, dice: &mut Dice, tables: usize) -> Load {
         self.maker().map_or_else(tables::check_s1, |make| tables::check(dice, tables, make))
     }
 
+    /// Tables, and who asks for the lists of what they hold.
     fn list_load(&self, dice: &mut Dice, tables: usize) -> Load {
         self.maker().map_or_else(tables::list_s1, |make| tables::list(dice, tables, make))
     }
@@ -147,6 +149,7 @@ impl Contest {
         }
     }
 
+    /// Tables and requests to them, of one operation or of all.
     fn request_load(&self, dice: &mut Dice, tables: usize) -> Load {
         let wanted = match self.kind {
             Kind::Operation(number) => Wanted { operations: number..=number, of_each: 4, open: 0 },
@@ -155,6 +158,7 @@ impl Contest {
         requests::prepare(dice, tables, wanted)
     }
 
+    /// Requests and their texts, without tables.
     fn text_load(&self, dice: &mut Dice, tables: usize) -> Load {
         match self.kind {
             Kind::Short => texts::prepare_short(dice, tables),

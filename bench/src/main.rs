@@ -38,6 +38,7 @@ enum Stop {
 }
 
 impl From<String> for Stop {
+    /// A sentence that comes up from a call says what is wrong.
     fn from(message: String) -> Stop {
         Stop::Wrong(message)
     }
@@ -64,6 +65,7 @@ fn contests(seed: u64) -> Result<(), Stop> {
     Ok(())
 }
 
+/// Makes so many calls of one side alone, and prints a sum that needs them all.
 fn count(words: [&str; 4], seed: u64) -> Result<(), Stop> {
     let [call, load, side, calls] = words;
     let contest = contest::find(call, load).ok_or(Stop::Usage)?;
@@ -87,6 +89,7 @@ fn run(words: &[&str]) -> Result<(), Stop> {
     }
 }
 
+/// The status is 0 where all is well, 1 where something is not, 2 where the command line is unclear.
 fn main() {
     let words: Vec<String> = env::args().skip(1).collect();
     let words: Vec<&str> = words.iter().map(String::as_str).collect();
