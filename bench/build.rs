@@ -1,4 +1,4 @@
-//! Links the archive of the step without the check, which `bench/run` leaves beside that of the desk, and notes which compiler makes the
+//! Says where the archive of the step without the check is, which `bench/run` leaves beside that of the desk, and notes which compiler makes the
 //! ordinary side.
 use std::{env, path::PathBuf, process::Command};
 
@@ -13,9 +13,11 @@ fn main() {
     println!("cargo:rerun-if-changed=build.rs");
     let folder = PathBuf::from(env::var_os("DEP_MMS_FOLDER").expect("the crate mms says where its archive lies"));
     let archive = folder.join("libadvance.a");
-    assert!(archive.exists(), "{} is missing: bench/run builds it", archive.display());
+    // No more than a warning: the tests of the library are run without the archive. The program can't be linked then.
+    if !archive.exists() {
+        println!("cargo:warning={} is missing: bench/run builds it", archive.display());
+    }
     println!("cargo:rerun-if-changed={}", archive.display());
     println!("cargo:rustc-link-search=native={}", folder.display());
-    println!("cargo:rustc-link-lib=static=advance");
     println!("cargo:rustc-env=BENCH_COMPILER={}", compiler().trim());
 }

@@ -2,6 +2,7 @@
 //! makes an archive of it for the timing alone.
 use generate::layout::{REQUEST_WORDS, TABLE_WORDS};
 
+#[link(name = "advance", kind = "static")]
 extern "C" {
     fn bench_advance(tables: *mut u32, tables_len: usize, request: *const u32, request_len: usize) -> u32;
 }

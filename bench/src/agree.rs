@@ -1,8 +1,9 @@
 //! Before anything is timed both sides make all calls of a load, and everything that they leave is compared: a run that measures two
 //! different things is worth nothing.
 use crate::contest::Contest;
-use crate::load::{Load, Rooms};
-use crate::side::{answer_of, number_of, Outcome, ORDINARY, PROVED};
+use crate::sides::{ORDINARY, PROVED};
+use bench::load::{Load, Rooms};
+use bench::side::{answer_of, number_of, Outcome};
 
 /// What a side works on.
 #[derive(Clone)]

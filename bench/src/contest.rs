@@ -1,8 +1,8 @@
 //! The contests: one call on one load, for both sides.
-use crate::load::{Call, Load};
-use crate::requests::Wanted;
-use crate::side::PROVED;
-use crate::{requests, tables, texts};
+use crate::sides::PROVED;
+use bench::load::{Call, Load};
+use bench::requests::Wanted;
+use bench::{requests, tables, texts};
 use generate::layout::OPERATIONS;
 use generate::{dice_for, full, Dice};
 

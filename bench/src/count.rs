@@ -1,7 +1,7 @@
 //! Calls of one side alone, to be counted from outside: what two runs differ by is what the further calls took, since all else is the same.
 use crate::contest::Contest;
-use crate::load::Rooms;
-use crate::side::{Outcome, Side};
+use bench::load::Rooms;
+use bench::side::{Outcome, Side};
 
 /// How many tables a load has: fewer than when it is timed, since finding it takes more instructions than its calls do.
 pub const TABLES: usize = 10;

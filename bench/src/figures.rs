@@ -41,6 +41,7 @@ pub fn nanoseconds(time: f64) -> String {
 mod tests {
     use super::*;
 
+    /// Of few figures by hand: where a share falls between two of them it is measured off.
     #[test]
     fn the_median_and_the_quartiles() {
         assert_eq!(spread(vec![5.0, 1.0, 3.0, 2.0, 4.0]), Spread { lower: 2.0, median: 3.0, upper: 4.0 });
@@ -48,6 +49,7 @@ mod tests {
         assert_eq!(spread(vec![7.0]), Spread { lower: 7.0, median: 7.0, upper: 7.0 });
     }
 
+    /// Up to three digits have none, and a time of a thousand nanoseconds or more has no tenth.
     #[test]
     fn commas_stand_between_thousands() {
         assert_eq!(["0", "999", "1,000", "12,345,678"], [0, 999, 1000, 12_345_678].map(whole)[..]);

@@ -88,6 +88,7 @@ impl Load {
 
     /// The first `calls` calls of a pass, and the sum of their outcomes. The kind of call is asked about once and not in the loop, so that
     /// little but the calls is measured.
+    #[inline]
     pub fn pass(&self, calls: usize, call: Call, side: &Side, tables: &mut [Vec<u32>], rooms: &mut Rooms) -> Outcome {
         match call {
             Call::Check => sum(calls, |at| self.call(at, Call::Check, side, tables, rooms)),

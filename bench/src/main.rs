@@ -4,14 +4,9 @@ mod advance;
 mod agree;
 mod contest;
 mod count;
-mod figures;
-mod load;
 mod machine;
 mod print;
-mod requests;
-mod side;
-mod tables;
-mod texts;
+mod sides;
 mod timing;
 
 use std::{env, process};
@@ -69,7 +64,7 @@ fn contests(seed: u64) -> Result<(), Stop> {
 fn count(words: [&str; 4], seed: u64) -> Result<(), Stop> {
     let [call, load, side, calls] = words;
     let contest = contest::find(call, load).ok_or(Stop::Usage)?;
-    let side = side::SIDES.iter().find(|known| known.name == side).ok_or(Stop::Usage)?;
+    let side = sides::SIDES.iter().find(|known| known.name == side).ok_or(Stop::Usage)?;
     println!("sum of the outcomes: {}", count::count(&contest, side, number(calls)?, seed)?);
     Ok(())
 }

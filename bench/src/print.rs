@@ -1,8 +1,8 @@
 //! The output, in Markdown.
-use crate::figures::{nanoseconds, whole, Spread};
-use crate::load::Call;
 use crate::machine;
 use crate::timing::{Report, LEAST};
+use bench::figures::{nanoseconds, whole, Spread};
+use bench::load::Call;
 
 /// What the names in the first two columns mean.
 const NAMES: &str = "

@@ -70,6 +70,7 @@ pub fn prepare_mixed(dice: &mut Dice, tables: usize) -> Load {
 mod tests {
     use super::*;
 
+    /// Texts have the lengths that are printed with their figures.
     #[test]
     fn texts_are_as_long_as_they_are_said_to_be() {
         let mut dice = Dice::new(1);

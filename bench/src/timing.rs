@@ -1,9 +1,10 @@
 //! Both sides timed on the same load, in turn.
 use crate::agree::{agree, Agreed};
 use crate::contest::Contest;
-use crate::figures::{spread, Spread};
-use crate::load::{Call, Load, Rooms};
-use crate::side::{Outcome, Side, ORDINARY, SIDES};
+use crate::sides::{ORDINARY, SIDES};
+use bench::figures::{spread, Spread};
+use bench::load::{Call, Load, Rooms};
+use bench::side::{Outcome, Side};
 use std::time::{Duration, Instant};
 
 /// How many tables a load has.
