@@ -23,6 +23,7 @@ pub struct Agreed {
 }
 
 impl Agreed {
+    /// Takes in one outcome that both sides gave.
     fn note(&mut self, outcome: Outcome) {
         self.sum = self.sum.wrapping_add(outcome);
         self.accepted += usize::from(answer_of(outcome) == 0);

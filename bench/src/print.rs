@@ -31,6 +31,7 @@ fn between(spread: Spread, write: fn(f64) -> String) -> String {
     format!("{} to {}", write(spread.lower), write(spread.upper))
 }
 
+/// A ratio with two digits behind the point.
 fn ratio(ratio: f64) -> String {
     format!("{ratio:.2}")
 }

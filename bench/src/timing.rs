@@ -29,6 +29,7 @@ struct Bout<'a> {
 }
 
 impl<'a> Bout<'a> {
+    /// A load with tables of its own, which stand where a pass starts.
     fn new(call: Call, load: &'a Load) -> Bout<'a> {
         Bout { call, load, tables: load.tables.clone(), rooms: Rooms::new() }
     }
@@ -129,6 +130,7 @@ pub fn around(contest: Contest, seed: u64, repetitions: u32) -> Result<Spread, S
     Ok(spread((0..repetitions).map(one).collect()))
 }
 
+/// A call that costs no more than being called.
 #[inline(never)]
 fn idle(_tables: &mut [u32], _request: &[u32]) -> Outcome {
     0

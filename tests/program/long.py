@@ -27,6 +27,7 @@ class Reader(threading.Thread):
         self.start()
 
     def run(self):
+        """Goes on until the program has closed its output."""
         while not self.ended:
             piece = os.read(self.stream.fileno(), PIECE)
             with self.changed:

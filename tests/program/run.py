@@ -39,6 +39,7 @@ GROUPS = [
 
 
 def main():
+    """Runs every group in its turn; the status is 1 if anything is wrong."""
     if len(sys.argv) < 4:
         sys.exit(__doc__)
     differential, ordinary, desk, *under = sys.argv[1:]

@@ -54,6 +54,7 @@ fn answer<R: Rules>(tables: &mut [u32], request: &Request) -> Report {
 }
 
 impl Report {
+    /// Puts the three lines behind what was written before.
     fn write(&self, output: &mut Vec<u8>) {
         writeln!(output, "answer={}\nheld={}\nmissed={}", self.answer, self.held, self.missed)
             .expect("a vector takes all that is written");

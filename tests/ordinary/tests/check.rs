@@ -144,9 +144,10 @@ fn entities_are_looked_at() {
     ENTITIES.iter().for_each(assert_answers);
 }
 
+const LENGTH: Reply = Reply { answer: 1, number: 0 };
+
 #[test]
-fn lengths_are_looked_at_first() {
-    const LENGTH: Reply = Reply { answer: 1, number: 0 };
+fn lengths_of_tables_are_looked_at_first() {
     let request = request(2, 11, &[], &[], [0; 3]);
     for length in [0, 1, TABLE_WORDS - 1, TABLE_WORDS + 1] {
         let mut tables = vec![u32::MAX; length];
@@ -154,6 +155,10 @@ fn lengths_are_looked_at_first() {
         assert_eq!(step::<Right>(&mut tables, &request), LENGTH);
         assert_eq!(list::<Right>(&tables, 2, &mut []), LENGTH);
     }
+}
+
+#[test]
+fn lengths_of_requests_are_looked_at_first() {
     for length in [0, 1, REQUEST_WORDS - 1, REQUEST_WORDS + 1] {
         assert_eq!(step::<Right>(&mut vec![u32::MAX; TABLE_WORDS], &vec![0; length]), LENGTH);
     }

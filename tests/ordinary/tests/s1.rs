@@ -11,10 +11,12 @@ use ordinary::{advance, check, list, read, run, step, write, Reply, Right, ENTRY
 /// What show asks for where a case does not say.
 const VALUE_AND_LABEL: u32 = 3;
 
+/// A request to show so much of what the names lead to.
 fn show(user: u32, names: &[u32], sum: u32) -> Vec<u32> {
     request(user, SHOW, names, &[], [sum, 0, 0])
 }
 
+/// An acknowledgement of this refusal, and of so many.
 fn acknowledge(user: u32, held: u32, count: u32) -> Vec<u32> {
     request(user, ACKNOWLEDGE, &[], &[], [held, count, 0])
 }

@@ -16,10 +16,9 @@ impl Drawing<'_> {
             }
         }
         places.push(first);
+        places.reverse();
         self.words[at] = places.len() as u32;
-        for (word, &name) in self.words[at + 1..].iter_mut().zip(places.iter().rev()) {
-            *word = name;
-        }
+        self.words[at + 1..][..places.len()].copy_from_slice(&places);
     }
 
     /// Something that holds the entity or shows it, and at which place.
