@@ -91,6 +91,10 @@ placeSecure d e i = atMost (d .entity (places d e i) level) (d .entity e level) 
 unfoldable pub entitySecure : Tables → ℕ → Bool
 entitySecure d e = containedTest d e && (labelledTest d e && ceilingTest d e)
 
+-- every entity does
+abbrev pub allSecure : Tables → Bool
+allSecure d = every entityCount (λ e. entitySecure d (suc e))
+
 -- user u keeps rules 4.2 and 4.4
 unfoldable pub userSecure : Tables → ℕ → Bool
 userSecure d u = seenTest d u && rolesTest d u

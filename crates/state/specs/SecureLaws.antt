@@ -1,24 +1,25 @@
 -- The passes over entities and users ask what rule 4 asks, of any tables.
 use mathlib.Core.Bool.{Bool, _&&_, _||_, false, not, true}
 use mathlib.Core.Logic.{_≢_, inr}
-use mathlib.Core.Path.{_∙_, _≡_, ap, refl, sym}
-use Prim.Native.Nat.{_<_, _≤_, suc, ℕ}
+use mathlib.Core.Path.{_∙_, _≡_, ap, refl, subst, sym}
+use Prim.Native.Nat.{_-_, _<_, _≤_, suc, ℕ}
 use native.Mathlib.Omega.{arith}
-use lib.Dec.{eqb, ltb}
+use lib.Dec.{T, eqb, ltb}
 use borrow.Author.Tests.{eq-eqb, le-ltb, lt-ltb, ne-eqb}
-use Rattle.laws.specs.Bools.{and-assoc, imp-both, or-imp}
+use Rattle.laws.specs.Bools.{and-assoc, and-l, imp-both, or-imp}
 use Rattle.laws.specs.Loops.{every-both, every-of, imp-every}
 use Rattle.model.specs.Basics.Agree.{agrees-T, agrees-imp, agrees-le, every-at}
 use Rattle.model.specs.Basics.Choice.{Below, below, over, pick, under}
-use Rattle.model.specs.Basics.TestLaws.{equal-bools, every-same, holds-true}
+use Rattle.model.specs.Basics.TestLaws.{equal-bools, every-same, holds-true, is-true}
 use Rattle.model.specs.Basics.Tests.{every, imp}
-use Rattle.model.specs.Level.{atMost, roleCount, subset}
+use Rattle.model.specs.Level.{AtMost, atMost, roleCount, subset}
+use Rattle.model.specs.LevelLaws.{atMost-ordered}
 use Rattle.model.specs.State.Check.{ceilingTest, containedTest, labelledTest, rolesTest, secureTest, seenTest}
 use Rattle.model.specs.State.Secure.{labelled}
 use Rattle.model.specs.Tables.Layout.{Bounded}
 use Rattle.model.specs.Tables.Words.{Tables, authorised, clearance, count, counts, current, deviceKind, devices, entityCount, kinds, level}
 use Rattle.model.specs.Tables.Words.{maximum, placeCount, places, sums, userCount}
-use Rattle.state.specs.Passes.{capped, entitySecure, placeSecure, userSecure}
+use Rattle.state.specs.Passes.{allSecure, capped, entitySecure, placeSecure, userSecure}
 
 -- ---- a number, or eight
 
@@ -127,6 +128,20 @@ unfolding seenTest imp
 seen-on d u q = rw (ne-eqb (devices d u) 0 q) (capped-every (counts d (devices d u))
     (λ i. atMost (d .entity (places d (devices d u) i) level) (d .user u clearance)))
 
+-- what stands in an entity that keeps rule 4.1 is at most every level that the entity's own is at most
+contained-below : (d : Tables) (v c : ℕ) → T (entitySecure d v) → AtMost (d .entity v level) c
+    → every (capped (counts d v)) (λ i. atMost (d .entity (places d v i) level) c) ≡ true
+unfolding entitySecure containedTest
+contained-below d v c s h = holds-true _ (every-of (capped (counts d v)) (λ i. atMost (d .entity (places d v i) level) c)
+    (λ i l. atMost-ordered .transitive _ _ _ (every-at (capped (counts d v)) own kept i l) h))
+  where
+    own : ℕ → Bool
+    own i = atMost (d .entity (places d v i) level) (d .entity v level)
+
+    kept : T (every (capped (counts d v)) own)
+    kept = is-true (every (capped (counts d v)) own)
+        (capped-every (counts d v) own ∙ and-l (containedTest d v) (labelledTest d v && ceilingTest d v) (holds-true (entitySecure d v) s))
+
 -- what the pass over user u has read: the roles, and whether all that are taken are authorised
 module _ (d : Tables) (u c a : ℕ) (r : Bool) (ce : c ≡ d .user u current) (ae : a ≡ d .user u authorised) (re : r ≡ subset roleCount c a) where
   -- rule 4.4
@@ -166,6 +181,16 @@ module _ (d : Tables) (u c a : ℕ) (r : Bool) (ce : c ≡ d .user u current) (a
     pub user-on : 1 ≤ v → (b : Bool) (l k n : ℕ) → l ≡ d .user u clearance → k ≡ counts d v → n ≡ capped k
         → b ≡ every n (λ i. atMost (d .entity (places d v i) level) l) → b ≡ userSecure d u
     user-on h b l k n le ke ne be = seen-rest t b (be ∙ rw (ne, ke, le, ve) (seen-on d u (λ q. omega arith)))
+
+    -- on a device whose own level is at most the clearance, where every entity keeps rule 4.1
+    pub user-below : 1 ≤ v → v ≤ entityCount → allSecure d ≡ true → (b : Bool) (m l : ℕ) → m ≡ d .entity v level → l ≡ d .user u clearance
+        → b ≡ atMost m l → b ≡ true → true ≡ userSecure d u
+    user-below h k s b m l me le be bt = user-on h true l (counts d v) (capped (counts d v)) le refl refl
+        (sym (contained-below d v l at-v (is-true _ (rw me at (sym be ∙ bt)))))
+      where
+        at-v : T (entitySecure d v)
+        at-v = let q : suc (v - 1) ≡ v = omega arith in
+            subst (λ (x : ℕ). T (entitySecure d x)) q (every-at entityCount (λ e. entitySecure d (suc e)) (is-true _ s) (v - 1) (omega arith))
 
 -- ---- all of rule 4
 

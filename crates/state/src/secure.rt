@@ -2,6 +2,7 @@
 use levels::Entity;
 use levels::Level;
 use levels::User;
+ghost use mathlib.Core.Bool.{true};
 ghost use mathlib.Core.Path.{_≡_};
 ghost use Prim.Native.Nat.{_+_, _<_, _≤_, suc};
 ghost use lib.Dec.{eqb};
@@ -11,7 +12,7 @@ ghost use Rattle.model.specs.Level.{atMost};
 ghost use Rattle.model.specs.State.Secure.{labelled};
 ghost use Rattle.model.specs.Tables.Layout.{tablesOf, wordCount};
 ghost use Rattle.model.specs.Tables.Words.{deviceKind, entityCount, kinds, level, placeCount, places, userCount};
-ghost use Rattle.state.specs.Passes.{capped, entitySecure, placeSecure, userSecure};
+ghost use Rattle.state.specs.Passes.{allSecure, capped, entitySecure, placeSecure, userSecure};
 ghost use Rattle.tables.specs.Singles.{EntityIn, UserIn};
 
 // Whether the value is shown only where the label is.
@@ -110,9 +111,10 @@ fn places_below(t: &[u32], v: Entity, c: Level, n: u32) -> bool
     true
 }
 
-// Whether user u keeps rules 4.2 and 4.4.
+// Whether user u keeps rules 4.2 and 4.4, where every entity is secure: what a device shows is at most its own level then (4.1), so of one that is
+// at most the clearance it need not be looked at.
 fn user_secure(t: &[u32], u: User) -> bool
-    requires { ⌜ UserIn (now t) (u .0) ⌝ }
+    requires { ⌜ UserIn (now t) (u .0) × (allSecure (tablesOf (now t)) ≡ true) ⌝ }
     ensures { λ r. ⌜ r ≡ userSecure (tablesOf (now (t .entry))) (u .0) ⌝ }
 {
     if !levels::within(tables::current(t, u), tables::authorised(t, u)) {
@@ -126,17 +128,16 @@ fn user_secure(t: &[u32], u: User) -> bool
     if 64 < n {
         return true;
     }
-    places_below(
-        t,
-        v,
-        tables::clearance(t, u),
-        at_most_eight(tables::count(t, v)),
-    )
+    let c = tables::clearance(t, u);
+    if levels::at_most(tables::level(t, v), c) {
+        return true;
+    }
+    places_below(t, v, c, at_most_eight(tables::count(t, v)))
 }
 
-// Whether every user keeps rules 4.2 and 4.4.
+// Whether every user keeps rules 4.2 and 4.4, where every entity is secure.
 pub fn users_secure(t: &[u32]) -> bool
-    requires { ⌜ length (now t) ≡ wordCount ⌝ }
+    requires { ⌜ (length (now t) ≡ wordCount) × (allSecure (tablesOf (now t)) ≡ true) ⌝ }
     ensures { λ r. ⌜ r ≡ every userCount (λ u. userSecure (tablesOf (now (t .entry))) (suc u)) ⌝ }
 {
     let mut i: u32 = 0;

@@ -1,3 +1,4 @@
+use mathlib.Core.Path.{_∙_, sym}
 use borrow.Author.Tests.{not-false, not-true}
 use Rattle.state.specs.SecureLaws.{secure-fails, secure-rest}
 use borrow.Author.Needs.{needs}
@@ -15,7 +16,7 @@ returns : tie.Need-returns
 returns c = secure-fails _ _ (c .before .entities-secure .ensures) (not-true _ (c .if1 .taken))
 
 users-secure-requires : tie.Need-users-secure-requires
-users-secure-requires c κs = search needs
+users-secure-requires c κs = (c .before .before .before .pre, sym (c .before .entities-secure .ensures) ∙ not-false _ (c .if1 .left))
 
 returns-2 : tie.Need-returns-2
 returns-2 c = secure-rest _ _ (c .before .before .entities-secure .ensures) (not-false _ (c .before .if1 .left)) _ (c .users-secure .ensures)

@@ -1,12 +1,13 @@
 use native.Mathlib.Omega.{arith}
 use borrow.Author.Tests.{not-false, not-true}
 use Rattle.model.specs.Tables.LayoutLaws.{bounded}
-use Rattle.state.specs.SecureLaws.{capped-low, user-beyond, user-fails, user-off, user-on}
+use Rattle.state.specs.SecureLaws.{capped-low, user-below, user-beyond, user-fails, user-off, user-on}
 use borrow.Author.Needs.{needs}
 use Rattle.state.proofs.secure.user_secure.Statement.{statement}
 use Rattle.state.proofs.secure.user_secure.Tie as tie
 use Rattle.state.proofs.secure.user_secure.Reads as reads
 use Rattle.state.proofs.secure.user_secure.Lts as lts
+use Rattle.levels.proofs.at_most.Reads as at-most-reads
 use Rattle.levels.proofs.within.Reads as within-reads
 use Rattle.state.proofs.secure.at_most_eight.Reads as at-most-eight-reads
 use Rattle.state.proofs.secure.places_below.Reads as places-below-reads
@@ -15,6 +16,7 @@ use Rattle.tables.proofs.clearance.Reads as clearance-reads
 use Rattle.tables.proofs.count.Reads as count-reads
 use Rattle.tables.proofs.current.Reads as current-reads
 use Rattle.tables.proofs.device.Reads as device-reads
+use Rattle.tables.proofs.level.Reads as level-reads
 
 current-requires : tie.Need-current-requires
 current-requires c κs = search needs
@@ -40,6 +42,15 @@ returns-3 c = user-beyond _ _ _ _ _ (c .before .before .before .before .before .
 clearance-requires : tie.Need-clearance-requires
 clearance-requires c κs = search needs
 
+level-requires : tie.Need-level-requires
+level-requires c κs = search needs
+
+at-most-requires : tie.Need-at-most-requires
+at-most-requires c κs = search needs
+
+returns-4 : tie.Need-returns-4
+returns-4 c = user-below _ _ _ _ _ (c .before .before .before .before .before .before .before .before .before .before .current .ensures) (c .before .before .before .before .before .before .before .before .before .authorised .ensures) (c .before .before .before .before .before .before .before .before .within .ensures) (not-false _ (c .before .before .before .before .before .before .before .if1 .left)) _ (c .before .before .before .before .before .before .device .ensures) (omega arith) (omega arith) (c .before .before .before .before .before .before .before .before .before .before .before .before .pre .1) _ _ _ (c .before .before .level .ensures) (c .before .before .before .clearance .ensures) (c .before .at-most .ensures) (c .if4 .taken)
+
 count-requires : tie.Need-count-requires
 count-requires c κs = search needs
 
@@ -47,10 +58,10 @@ at-most-eight-requires : tie.Need-at-most-eight-requires
 at-most-eight-requires c κs = search needs
 
 places-below-requires : tie.Need-places-below-requires
-places-below-requires c κs = ((c .before .before .before .before .before .before .before .before .before .before .before .pre .0, omega arith, omega arith), omega (arith, capped-low (c .before .count .result), c .at-most-eight .ensures))
+places-below-requires c κs = ((c .before .before .before .before .before .before .before .before .before .before .before .before .before .before .pre .0 .0, omega arith, omega arith), omega (arith, capped-low (c .before .count .result), c .at-most-eight .ensures))
 
-returns-4 : tie.Need-returns-4
-returns-4 c = user-on _ _ _ _ _ (c .before .before .before .before .before .before .before .before .before .before .current .ensures) (c .before .before .before .before .before .before .before .before .before .authorised .ensures) (c .before .before .before .before .before .before .before .before .within .ensures) (not-false _ (c .before .before .before .before .before .before .before .if1 .left)) _ (c .before .before .before .before .before .before .device .ensures) (omega arith) _ _ _ _ (c .before .before .before .clearance .ensures) (c .before .before .count .ensures) (c .before .at-most-eight .ensures) (c .places-below .ensures)
+returns-5 : tie.Need-returns-5
+returns-5 c = user-on _ _ _ _ _ (c .before .before .before .before .before .before .before .before .before .before .before .before .before .current .ensures) (c .before .before .before .before .before .before .before .before .before .before .before .before .authorised .ensures) (c .before .before .before .before .before .before .before .before .before .before .before .within .ensures) (not-false _ (c .before .before .before .before .before .before .before .before .before .before .if1 .left)) _ (c .before .before .before .before .before .before .before .before .before .device .ensures) (omega arith) _ _ _ _ (c .before .before .before .before .before .before .clearance .ensures) (c .before .before .count .ensures) (c .before .at-most-eight .ensures) (c .places-below .ensures)
 
 pub user-secure-spec : {M : Type 1} → statement M
 user-secure-spec =
@@ -64,7 +75,10 @@ user-secure-spec =
     returns-2
     returns-3
     clearance-requires
+    level-requires
+    at-most-requires
+    returns-4
     count-requires
     at-most-eight-requires
     places-below-requires
-    returns-4)
+    returns-5)
