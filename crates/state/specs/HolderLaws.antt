@@ -247,6 +247,12 @@ module _ (d : Tables) (o : Bounded d) (w : every entityCount (λ e. ownTest d (s
       go x true (under l) = let r = f .sound x l in slot-in (getD h x 0) (r .0) x (r .1) .0
       go x false (over l) = omega arith
 
+  -- and nothing of 0, which is no entity
+  pub filled-top : (n : ℕ) (h : List ℕ) → Filled d n h → getD h 0 0 ≡ 0
+  filled-top n h f =
+      let z : ¬ (1 ≤ getD h 0 0) = λ l. let r = f .sound 0 l in omega (arith, slot-entity (getD h 0 0) (r .0) 0 (r .1)) in
+      omega arith
+
   -- both tests from the list
   pub tree-refused : (n : ℕ) (r : Bool) (h : List ℕ) → Filling d n r h → r ≡ false
       → false ≡ (oneTest (kinds d) (counts d) (places d) (devices d) && loopTest (kinds d) (counts d) (places d) (devices d))

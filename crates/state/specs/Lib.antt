@@ -1,6 +1,7 @@
 -- The passes of the state check, and that together they are the model's tests.
 pub mod Passes
 pub mod Holders
+pub mod Jumps
 pub mod RowLaws
 pub mod UserLaws
 pub mod EntityLaws
@@ -8,5 +9,5 @@ pub mod UnlikeLaws
 pub mod OwnLaws
 pub mod PassLaws
 pub mod HolderLaws
-pub mod UpLaws
+pub mod JumpLaws
 pub mod SecureLaws

@@ -1,59 +1,70 @@
-use mathlib.Core.Path.{_∙_, _≡_, sym}
-use mathlib.Core.Bool.{true}
 use native.Mathlib.Omega.{arith}
-use borrow.Author.Tests.{not-false, not-true}
-use Rattle.model.specs.Basics.Tests.{every}
-use Prim.Native.Nat.{_-_, _≤_, suc}
-use Rattle.laws.specs.Loops.{each-fails, each-more, every-done, every-none}
-use lib.ListN.{getD}
-use Rattle.model.specs.State.Climb.{up}
+use mathlib.Core.Path.{refl}
+use Rattle.state.specs.JumpLaws.{climbed-all, climbed-ends, climbed-low, climbed-on, climbed-one, climbed-twice}
+use borrow.Author.Needs.{needs}
 use Rattle.state.proofs.tree.all_end.Statement.{statement}
 use Rattle.state.proofs.tree.all_end.Tie as tie
 use Rattle.state.proofs.tree.all_end.Reads as reads
 use Rattle.state.proofs.tree.all_end.Lts as lts
-use Rattle.state.proofs.tree.ends.Reads as ends-reads
+use Rattle.state.proofs.tree.jump.Reads as jump-reads
 
-abbrev Inv-loop : tie.InvT-loop
-Inv-loop h i₀ i = (i ≤ 64) × (every i (λ k. up (λ x. getD h x 0) 65 (suc k)) ≡ true)
+jump-requires : tie.Need-jump-requires
+jump-requires c κs = search needs
 
-abbrev μ-loop : tie.MeasureT-loop
-μ-loop h i₀ i = 64 - i
+returns : tie.Need-returns
+returns c = let p = c .before .before .before .pre in climbed-ends _ (p .0) _ _ _ _ _ (climbed-twice _ (p .0) _ _ _ _ (climbed-one _ (p .0)) (c .before .jump .ensures)) (c .before .jump .ensures) (omega arith) (omega arith) (c .if1 .taken)
 
-loop-holds : tie.Need-loop-holds Inv-loop μ-loop
-loop-holds c = (omega arith, every-none _)
+jump-requires-2 : tie.Need-jump-requires-2
+jump-requires-2 c κs = let p = c .before .before .before .before .before .before .pre in let low = climbed-low _ (p .0) _ _ (climbed-twice _ (p .0) _ _ _ _ (climbed-one _ (p .0)) (c .before .before .before .before .jump .ensures)) in (low, low, refl)
 
-add-ends : tie.Need-add-ends Inv-loop μ-loop
-add-ends c = omega arith
+returns-2 : tie.Need-returns-2
+returns-2 c = let p = c .before .before .before .before .before .before .before .before .pre in climbed-ends _ (p .0) _ _ _ _ _ (climbed-twice _ (p .0) _ _ _ _ (climbed-twice _ (p .0) _ _ _ _ (climbed-one _ (p .0)) (c .before .before .before .before .before .before .jump .ensures)) (c .before .jump2 .ensures)) (c .before .jump2 .ensures) (omega arith) (omega arith) (c .if2 .taken)
 
-ends-requires : tie.Need-ends-requires Inv-loop μ-loop
-ends-requires c κs = (omega arith, c .before .before .pre)
+jump-requires-3 : tie.Need-jump-requires-3
+jump-requires-3 c κs = let p = c .before .before .before .before .before .before .before .before .before .before .before .pre in let low = climbed-low _ (p .0) _ _ (climbed-twice _ (p .0) _ _ _ _ (climbed-twice _ (p .0) _ _ _ _ (climbed-one _ (p .0)) (c .before .before .before .before .before .before .before .before .before .jump .ensures)) (c .before .before .before .before .jump2 .ensures)) in (low, low, c .before .before .before .before .before .before .before .before .before .jump .ensures .size)
 
-returns : tie.Need-returns Inv-loop μ-loop
-returns c = each-fails _ (λ e. up (λ x. getD (c .before .before .before .before .args .h .now) x 0) 65 e) _ (c .before .before .loop-test .taken) (sym (c .before .ends .ensures) ∙ not-true _ (c .if1 .taken))
+returns-3 : tie.Need-returns-3
+returns-3 c = let p = c .before .before .before .before .before .before .before .before .before .before .before .before .before .pre in climbed-ends _ (p .0) _ _ _ _ _ (climbed-twice _ (p .0) _ _ _ _ (climbed-twice _ (p .0) _ _ _ _ (climbed-twice _ (p .0) _ _ _ _ (climbed-one _ (p .0)) (c .before .before .before .before .before .before .before .before .before .before .before .jump .ensures)) (c .before .before .before .before .before .before .jump2 .ensures)) (c .before .jump3 .ensures)) (c .before .jump3 .ensures) (omega arith) (omega arith) (c .if3 .taken)
 
-add-i : tie.Need-add-i Inv-loop μ-loop
-add-i c = omega arith
+jump-requires-4 : tie.Need-jump-requires-4
+jump-requires-4 c κs = let p = c .before .before .before .before .before .before .before .before .before .before .before .before .before .before .before .before .pre in let low = climbed-low _ (p .0) _ _ (climbed-twice _ (p .0) _ _ _ _ (climbed-twice _ (p .0) _ _ _ _ (climbed-twice _ (p .0) _ _ _ _ (climbed-one _ (p .0)) (c .before .before .before .before .before .before .before .before .before .before .before .before .before .before .jump .ensures)) (c .before .before .before .before .before .before .before .before .before .jump2 .ensures)) (c .before .before .before .before .jump3 .ensures)) in (low, low, c .before .before .before .before .before .before .before .before .before .jump2 .ensures .size)
 
-loop-less : tie.Need-loop-less Inv-loop μ-loop
-loop-less c = omega arith
+returns-4 : tie.Need-returns-4
+returns-4 c = let p = c .before .before .before .before .before .before .before .before .before .before .before .before .before .before .before .before .before .before .pre in climbed-ends _ (p .0) _ _ _ _ _ (climbed-twice _ (p .0) _ _ _ _ (climbed-twice _ (p .0) _ _ _ _ (climbed-twice _ (p .0) _ _ _ _ (climbed-twice _ (p .0) _ _ _ _ (climbed-one _ (p .0)) (c .before .before .before .before .before .before .before .before .before .before .before .before .before .before .before .before .jump .ensures)) (c .before .before .before .before .before .before .before .before .before .before .before .jump2 .ensures)) (c .before .before .before .before .before .before .jump3 .ensures)) (c .before .jump4 .ensures)) (c .before .jump4 .ensures) (omega arith) (omega arith) (c .if4 .taken)
 
-loop-again : tie.Need-loop-again Inv-loop μ-loop
-loop-again c = (omega arith, each-more _ (λ e. up (λ x. getD (c .before .before .before .before .args .h .now) x 0) 65 e) (c .before .before .before .loop .inv .1) (sym (c .before .ends .ensures) ∙ not-false _ (c .if1 .left)))
+jump-requires-5 : tie.Need-jump-requires-5
+jump-requires-5 c κs = let p = c .before .before .before .before .before .before .before .before .before .before .before .before .before .before .before .before .before .before .before .before .before .pre in let low = climbed-low _ (p .0) _ _ (climbed-twice _ (p .0) _ _ _ _ (climbed-twice _ (p .0) _ _ _ _ (climbed-twice _ (p .0) _ _ _ _ (climbed-twice _ (p .0) _ _ _ _ (climbed-one _ (p .0)) (c .before .before .before .before .before .before .before .before .before .before .before .before .before .before .before .before .before .before .before .jump .ensures)) (c .before .before .before .before .before .before .before .before .before .before .before .before .before .before .jump2 .ensures)) (c .before .before .before .before .before .before .before .before .before .jump3 .ensures)) (c .before .before .before .before .jump4 .ensures)) in (low, low, c .before .before .before .before .before .before .before .before .before .jump3 .ensures .size)
 
-returns-2 : tie.Need-returns-2 Inv-loop μ-loop
-returns-2 c = every-done _ _ _ (c .before .loop .inv .1) (c .before .loop .inv .0) (omega arith)
+returns-5 : tie.Need-returns-5
+returns-5 c = let p = c .before .before .before .before .before .before .before .before .before .before .before .before .before .before .before .before .before .before .before .before .before .before .before .pre in climbed-ends _ (p .0) _ _ _ _ _ (climbed-twice _ (p .0) _ _ _ _ (climbed-twice _ (p .0) _ _ _ _ (climbed-twice _ (p .0) _ _ _ _ (climbed-twice _ (p .0) _ _ _ _ (climbed-twice _ (p .0) _ _ _ _ (climbed-one _ (p .0)) (c .before .before .before .before .before .before .before .before .before .before .before .before .before .before .before .before .before .before .before .before .before .jump .ensures)) (c .before .before .before .before .before .before .before .before .before .before .before .before .before .before .before .before .jump2 .ensures)) (c .before .before .before .before .before .before .before .before .before .before .before .jump3 .ensures)) (c .before .before .before .before .before .before .jump4 .ensures)) (c .before .jump5 .ensures)) (c .before .jump5 .ensures) (omega arith) (omega arith) (c .if5 .taken)
+
+jump-requires-6 : tie.Need-jump-requires-6
+jump-requires-6 c κs = let p = c .before .before .before .before .before .before .before .before .before .before .before .before .before .before .before .before .before .before .before .before .before .before .before .before .before .before .pre in let low = climbed-low _ (p .0) _ _ (climbed-twice _ (p .0) _ _ _ _ (climbed-twice _ (p .0) _ _ _ _ (climbed-twice _ (p .0) _ _ _ _ (climbed-twice _ (p .0) _ _ _ _ (climbed-twice _ (p .0) _ _ _ _ (climbed-one _ (p .0)) (c .before .before .before .before .before .before .before .before .before .before .before .before .before .before .before .before .before .before .before .before .before .before .before .before .jump .ensures)) (c .before .before .before .before .before .before .before .before .before .before .before .before .before .before .before .before .before .before .before .jump2 .ensures)) (c .before .before .before .before .before .before .before .before .before .before .before .before .before .before .jump3 .ensures)) (c .before .before .before .before .before .before .before .before .before .jump4 .ensures)) (c .before .before .before .before .jump5 .ensures)) in (low, low, c .before .before .before .before .before .before .before .before .before .jump4 .ensures .size)
+
+returns-6 : tie.Need-returns-6
+returns-6 c = let p = c .before .before .before .before .before .before .before .before .before .before .before .before .before .before .before .before .before .before .before .before .before .before .before .before .before .before .before .before .pre in climbed-ends _ (p .0) _ _ _ _ _ (climbed-twice _ (p .0) _ _ _ _ (climbed-twice _ (p .0) _ _ _ _ (climbed-twice _ (p .0) _ _ _ _ (climbed-twice _ (p .0) _ _ _ _ (climbed-twice _ (p .0) _ _ _ _ (climbed-twice _ (p .0) _ _ _ _ (climbed-one _ (p .0)) (c .before .before .before .before .before .before .before .before .before .before .before .before .before .before .before .before .before .before .before .before .before .before .before .before .before .before .jump .ensures)) (c .before .before .before .before .before .before .before .before .before .before .before .before .before .before .before .before .before .before .before .before .before .jump2 .ensures)) (c .before .before .before .before .before .before .before .before .before .before .before .before .before .before .before .before .jump3 .ensures)) (c .before .before .before .before .before .before .before .before .before .before .before .jump4 .ensures)) (c .before .before .before .before .before .before .jump5 .ensures)) (c .before .jump6 .ensures)) (c .before .jump6 .ensures) (omega arith) (omega arith) (c .if6 .taken)
+
+jump-requires-7 : tie.Need-jump-requires-7
+jump-requires-7 c κs = let p = c .before .before .before .before .before .before .before .before .before .before .before .before .before .before .before .before .before .before .before .before .before .before .before .before .before .before .before .before .before .before .pre in (climbed-low _ (p .0) _ _ (climbed-twice _ (p .0) _ _ _ _ (climbed-twice _ (p .0) _ _ _ _ (climbed-twice _ (p .0) _ _ _ _ (climbed-twice _ (p .0) _ _ _ _ (climbed-twice _ (p .0) _ _ _ _ (climbed-twice _ (p .0) _ _ _ _ (climbed-one _ (p .0)) (c .before .before .before .before .before .before .before .before .before .before .before .before .before .before .before .before .before .before .before .before .before .before .before .before .before .before .before .before .jump .ensures)) (c .before .before .before .before .before .before .before .before .before .before .before .before .before .before .before .before .before .before .before .before .before .before .before .jump2 .ensures)) (c .before .before .before .before .before .before .before .before .before .before .before .before .before .before .before .before .before .before .jump3 .ensures)) (c .before .before .before .before .before .before .before .before .before .before .before .before .before .jump4 .ensures)) (c .before .before .before .before .before .before .before .before .jump5 .ensures)) (c .before .before .before .jump6 .ensures)), p .0, c .before .before .before .before .before .before .before .before .jump5 .ensures .size)
+
+returns-7 : tie.Need-returns-7
+returns-7 c = let p = c .before .before .before .before .before .before .before .before .before .before .before .before .before .before .before .before .before .before .before .before .before .before .before .before .before .before .before .before .before .before .before .pre in climbed-all _ (p .0) _ _ _ _ _ (climbed-on _ (p .0) _ _ _ _ _ _ (climbed-twice _ (p .0) _ _ _ _ (climbed-twice _ (p .0) _ _ _ _ (climbed-twice _ (p .0) _ _ _ _ (climbed-twice _ (p .0) _ _ _ _ (climbed-twice _ (p .0) _ _ _ _ (climbed-twice _ (p .0) _ _ _ _ (climbed-one _ (p .0)) (c .before .before .before .before .before .before .before .before .before .before .before .before .before .before .before .before .before .before .before .before .before .before .before .before .before .before .before .before .before .jump .ensures)) (c .before .before .before .before .before .before .before .before .before .before .before .before .before .before .before .before .before .before .before .before .before .before .before .before .jump2 .ensures)) (c .before .before .before .before .before .before .before .before .before .before .before .before .before .before .before .before .before .before .before .jump3 .ensures)) (c .before .before .before .before .before .before .before .before .before .before .before .before .before .before .jump4 .ensures)) (c .before .before .before .before .before .before .before .before .before .jump5 .ensures)) (c .before .before .before .before .jump6 .ensures)) (climbed-one _ (p .0)) (c .jump7 .ensures)) (c .jump7 .ensures) (p .1) refl
 
 pub all-end-spec : {M : Type 1} → statement M
 all-end-spec =
     tie.close
     (tie.spec
-    Inv-loop
-    μ-loop
-    loop-holds
-    add-ends
-    ends-requires
+    jump-requires
     returns
-    add-i
-    loop-less
-    loop-again
-    returns-2)
+    jump-requires-2
+    returns-2
+    jump-requires-3
+    returns-3
+    jump-requires-4
+    returns-4
+    jump-requires-5
+    returns-5
+    jump-requires-6
+    returns-6
+    jump-requires-7
+    returns-7)
