@@ -133,7 +133,7 @@ module _ (h : List ℕ) (low : Low h) where
         (λ x k. up-within (λ y. getD h y 0) 65 n (suc x) l m
         (eqb-true _ 0 (holds-true _ (every-at 65 (λ x. eqb (steps (λ y. getD h y 0) n x) 0) (is-true _ (sym climbed-none ∙ t)) (suc x) (omega arith)))))))
 
-    -- and after all the steps that `up` goes no way ends else
+    -- and after as many steps as `up` goes, only then
     pub climbed-all : getD h 0 0 ≡ 0 → n ≡ 65 → r ≡ every entityCount (λ e. up (λ x. getD h x 0) 65 (suc e))
     climbed-all o q = equal-bools r (every entityCount (λ e. up (λ x. getD h x 0) 65 (suc e)))
         (λ t. is-true _ (sym (climbed-ends (omega arith) (omega arith) (holds-true r t))))

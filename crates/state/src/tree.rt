@@ -1,9 +1,9 @@
 // Containers in containers: no entity stands in two, and none lies in itself. One pass notes for each entity what it stands in;
-// climbing that list decides depth.
+// climbing that list, from all entities at once, decides depth.
 use levels::Entity;
 ghost use mathlib.Core.Path.{_≡_};
 ghost use mathlib.Core.Bool.{true};
-ghost use Prim.Native.Nat.{_*_, _+_, _-_, _<_, _≤_, suc};
+ghost use Prim.Native.Nat.{_*_, _-_, suc};
 ghost use lib.ListN.{getD, length};
 ghost use Rattle.model.specs.Basics.Tests.{every};
 ghost use Rattle.model.specs.State.Climb.{up};
@@ -50,7 +50,7 @@ fn note_all(t: &[u32], h: &mut [u32; 65]) -> bool
     true
 }
 
-// From each number up by a, and from there by b, is noted in d; whether nothing is there from any of them.
+// What is up from each number by a, and on from there by b, is noted in d; whether that is nothing for all of them.
 fn jump(a: &[u32; 65], b: &[u32; 65], d: &mut [u32; 65]) -> bool
     requires { ⌜ Low (now a) × Low (now b) × (length (now d) ≡ 65) ⌝ }
     ensures { λ r. ⌜ Jumped (now (a .entry)) (now (b .entry)) (suc entityCount) r (now (d .exit)) ⌝ }
