@@ -6,4 +6,4 @@ use Rattle.model.specs.List.Listing.{Lists}
 
 -- Rule 10: the answer and the count are the list's, and so are the words of the room afterwards.
 abbrev pub Listing : List ℕ → ℕ → List ℕ → Listed → List ℕ → Type 0
-Listing t u room a r = Lists t u room (a .answer) (a .count) r
+Listing t u room a r = Lists t u room (a .answer) (a .entries) r

@@ -21,7 +21,7 @@ use Rattle.model.specs.Request.Conditions.{isEntity}
 use Rattle.model.specs.Request.Ladder.{bars}
 use Rattle.model.specs.Request.Reference.{standing}
 use Rattle.model.specs.Tables.Layout.{tablesOf}
-use Rattle.model.specs.Tables.Words.{Tables, absentKind, clearance, count, counts, entityCount, kinds, level, mark, placeCount, places}
+use Rattle.model.specs.Tables.Words.{Tables, absentKind, clearance, used, usedPlaces, entityCount, kinds, level, mark, placeCount, places}
 use Rattle.reference.specs.WayLaws.{wellFormed-ranged}
 use Rattle.reference.specs.Ways.{bar}
 
@@ -37,7 +37,7 @@ bit-small false = omega arith
 
 -- a verdict is weighed from whether the way on is shut, how many places are used, and whether the entity may be shown
 pub verdict-weighed : (d : Tables) (u e l : ℕ) (shut : Bool) (used : ℕ) (shown : Bool) → l ≡ d .user u clearance → shut ≡ bar d l e
-    → used ≡ counts d e → shown ≡ showable d u e → pick shut 0 used * 2 + pick shown 1 0 ≡ verdict d u e
+    → used ≡ usedPlaces d e → shown ≡ showable d u e → pick shut 0 used * 2 + pick shown 1 0 ≡ verdict d u e
 unfolding verdict ways
 verdict-weighed d u e l shut used shown c s n w = rw (s, n, w, c, bars-one d (d .user u clearance) e)
 
@@ -62,7 +62,7 @@ module _ (d : Tables) (u e x : ℕ) (h : x ≡ verdict d u e) where
 
 -- a place that leads on holds an entity, and is one of eight
 module _ (t v : List ℕ) (g : Guided t v) (e n p : ℕ) (q : n ≡ leads v e) (l : p < n) where
-  guided-used : p < counts (tablesOf t) e
+  guided-used : p < usedPlaces (tablesOf t) e
   guided-used = omega (arith, g .used e)
 
   pub guided-place : p < placeCount
@@ -95,7 +95,7 @@ module _ (t : List ℕ) (u : ℕ) (v : List ℕ) (a : Admitted t u) (j : Judged 
   none-verdict : (e : ℕ) → kinds d e ≡ absentKind → verdict d u e ≡ 0
   unfolding d verdict showable isEntity
   none-verdict e z =
-      let w : counts (tablesOf t) e ≡ 0 = a .good .0 .entities e .absent z count in
+      let w : usedPlaces (tablesOf t) e ≡ 0 = a .good .0 .entities e .absent z used in
       let n : ways (tablesOf t) u e ≡ 0 = omega (arith, ways-used (tablesOf t) u e) in
       rw (n, z) refl
 

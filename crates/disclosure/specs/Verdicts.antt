@@ -10,7 +10,7 @@ use Rattle.model.specs.List.Admitted.{Admitted}
 use Rattle.model.specs.List.Ways.{showable, ways}
 use Rattle.model.specs.Request.Conditions.{levelOf}
 use Rattle.model.specs.Tables.Layout.{tablesOf, wordCount}
-use Rattle.model.specs.Tables.Words.{Tables, clearance, counts, devices, entityCount}
+use Rattle.model.specs.Tables.Words.{Tables, clearance, usedPlaces, devices, entityCount}
 use Rattle.reference.specs.Ways.{Ranged}
 
 -- the user u is let in, c is the clearance and s the level of the screen
@@ -41,4 +41,4 @@ pub record Guided (t v : List ℕ) : Type 0 where
   pub whole : length t ≡ wordCount
   pub ranged : Ranged (tablesOf t)
   pub size : length v ≡ suc entityCount
-  pub used : (e : ℕ) → leads v e ≤ counts (tablesOf t) e
+  pub used : (e : ℕ) → leads v e ≤ usedPlaces (tablesOf t) e

@@ -12,7 +12,7 @@ mod walk;
 // The answer, and how many entries there are; 0 with a refusal that is not for want of room.
 pub struct Listed {
     pub answer: u32,
-    pub count: u32,
+    pub entries: u32,
 }
 
 // The lowest of the refusals 1, 2, 3, 4 and 6 that applies, or 0.
@@ -50,20 +50,20 @@ fn disclose(t: &[u32], u: User, room: &mut [u32]) -> Listed
     if n == 0 {
         return Listed {
             answer: 0,
-            count: 0,
+            entries: 0,
         };
     }
     let need = n as usize * 5;
     if room.len() < need {
         return Listed {
             answer: 17,
-            count: n,
+            entries: n,
         };
     }
     walk::visit_all(t, &v, &b, room);
     Listed {
         answer: 0,
-        count: n,
+        entries: n,
     }
 }
 
@@ -75,7 +75,7 @@ pub fn list(t: &[u32], user: u32, room: &mut [u32]) -> Listed
     if n != 0 {
         return Listed {
             answer: n,
-            count: 0,
+            entries: 0,
         };
     }
     disclose(t, User(user), room)

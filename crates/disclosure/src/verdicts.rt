@@ -61,7 +61,7 @@ fn judge(t: &[u32], u: User, clearance: Level, screen: Level, e: Entity) -> u32
 {
     let shut = reference::is_bar(t, clearance, e);
     let shown = is_showable(t, u, clearance, screen, e);
-    weigh(shut, tables::count(t, e), shown)
+    weigh(shut, tables::used(t, e), shown)
 }
 
 // The verdicts on all entities, each at its number.

@@ -7,15 +7,15 @@ use Prim.Native.Nat.{ℕ}
 use lib.Dec.{eqb, ltb}
 use borrow.Author.Tests.{eq-eqb, ne-eqb}
 use Rattle.ladder.specs.Contract.{Refusing, Stepped}
-use Rattle.model.specs.Effect.Notice.{countOn, notice, noticing}
+use Rattle.model.specs.Effect.Notice.{missedMore, notice, noticing}
 use Rattle.model.specs.Request.AfterLaws.{after-noticed}
 use Rattle.model.specs.Request.Words.{requestOf}
 use Rattle.model.specs.Tables.Edits.{_and_, onUser, userWord, written}
 use Rattle.model.specs.Tables.Layout.{tablesOf}
 use Rattle.model.specs.Tables.StoreLaws.{user-alike, user-twice}
-use Rattle.model.specs.Tables.Words.{Tables, UserWord, authorised, clearance, current, device, held, heldOp, missed, missedLimit, present, spare}
+use Rattle.model.specs.Tables.Words.{Tables, UserWord, authorised, clearance, current, device, held, heldOp, missed, missedMost, present, spare}
 
-module _ (d : Tables) (u n o m : ℕ) (h : m ≡ countOn (ltb (d .user u missed) missedLimit) (d .user u missed)) where
+module _ (d : Tables) (u n o m : ℕ) (h : m ≡ missedMore (ltb (d .user u missed) missedMost) (d .user u missed)) where
   -- something was held: only the count grows
   pub notice-kept : d .user u held ≢ 0 → onUser u (userWord missed m) d ≡ notice u n o d
   notice-kept k = user-alike u (userWord missed m) (noticing u n o d) d same

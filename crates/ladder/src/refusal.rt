@@ -2,13 +2,13 @@
 use levels::User;
 ghost use mathlib.Core.Path.{_≡_};
 ghost use Rattle.ladder.specs.Contract.{Refusing, Stepped};
-ghost use Rattle.model.specs.Effect.Notice.{countOn};
-ghost use Rattle.model.specs.Tables.Words.{missedLimit};
+ghost use Rattle.model.specs.Effect.Notice.{missedMore};
+ghost use Rattle.model.specs.Tables.Words.{missedMost};
 ghost use lib.Dec.{ltb};
 
 // One refusal more; the count stops at 65,535.
 fn one_more(m: u32) -> u32
-    ensures { λ r. ⌜ r ≡ countOn (ltb m missedLimit) m ⌝ }
+    ensures { λ r. ⌜ r ≡ missedMore (ltb m missedMost) m ⌝ }
 {
     if m < 65535 {
         return m + 1;

@@ -6,7 +6,6 @@ use Prim.Native.Nat.{_<_, _≤_, ℕ}
 use lib.ListN.{drop, length, take}
 use Rattle.mms.specs.Contract.{Reading, Writing}
 use Rattle.mms.specs.declared.Answer.{Answer}
-use Rattle.model.specs.List.Listing.{roomShort}
 use Rattle.model.specs.Request.Words.{requestWords}
 use Rattle.model.specs.Text.BothWays.{read-has, read-short, read-write, write-read, written-exactly}
 use Rattle.model.specs.Text.Broken.{FirstBad, sorts}
@@ -14,6 +13,7 @@ use Rattle.model.specs.Text.BrokenLaws.{broken-reads, reads-broken}
 use Rattle.model.specs.Text.Given.{HasText, Small}
 use Rattle.model.specs.Text.Reading.{Reads, notRead}
 use Rattle.model.specs.Text.Writing.{Writes, withoutText}
+use Rattle.model.specs.Request.Refusals as refusal
 
 -- an answer of two numbers
 abbrev pub answering : ℕ → ℕ → Answer
@@ -28,7 +28,7 @@ read-then-write s v w room r a b x z y l =
 
 -- and where there is too little the writer asks for its bytes.
 pub read-then-short : (s v w room r : List ℕ) (a b : Answer) → Reading s v a w → a .no ≡ 0 → Writing w room b r → length room < length s
-    → (b ≡ answering roomShort (length s)) × (r ≡ room)
+    → (b ≡ answering refusal.tooShort (length s)) × (r ≡ room)
 read-then-short s v w room r a b x z y l =
     let e = read-short (subst (λ (n : ℕ). Reads s v n (a .number) w) z x) y l in
     (λ i. record { no = e .0 i; number = e .1 i }, e .2)

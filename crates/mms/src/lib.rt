@@ -32,7 +32,7 @@ pub fn list(tables: &[u32], user: u32, room: &mut [u32]) -> Answer
     let l = disclosure::list(tables, user, room);
     Answer {
         no: l.answer,
-        number: l.count,
+        number: l.entries,
     }
 }
 

@@ -7,13 +7,14 @@ use Rattle.model.specs.Basics.Tests.{every, imp}
 use Rattle.model.specs.Effect.Places.{draftSort, objectSort}
 use Rattle.model.specs.Level.{atMost, atMostOver, bit, compartmentCount, downgrader, levelCount, officer, rank, rankCount, releasing}
 use Rattle.model.specs.Level.{roleSets, subset}
-use Rattle.model.specs.List.Listing.{entryWords, loggedOff, noSuchUser, roomShort, screenFull, valueAndLabel}
+use Rattle.model.specs.List.Listing.{entryWords, valueAndLabel}
 use Rattle.model.specs.Request.Words.{nameCount, requestWords}
 use Rattle.model.specs.Tables.Layout.{entityWidth, userWidth, wordCount}
 use Rattle.model.specs.Tables.Words.{absentKind, containerKind, deviceKind, draftType, entityCount, firstNoticed, idBit, labelBit}
-use Rattle.model.specs.Tables.Words.{lastNoticed, missedLimit, objectKind, operationCount, operationIn, placeCount, plainType}
-use Rattle.model.specs.Tables.Words.{positionCount, positionOf, releasedType, sumLimit, tripleOf, userCount, valueBit, whoLimit}
+use Rattle.model.specs.Tables.Words.{lastNoticed, missedMost, objectKind, operationCount, operationIn, placeCount, plainType}
+use Rattle.model.specs.Tables.Words.{positionCount, positionOf, releasedType, sumMost, tripleOf, userCount, valueBit, whoMost}
 use Rattle.model.specs.Tables.Words.{whoOf, whoRole}
+use Rattle.model.specs.Request.Refusals as refusal
 
 -- Rule 1.1: ranks 0 to 3, compartments 0 to 255, levels 0 to 1,023.
 pub levels-are : (rankCount ≡ 4) × (2 ^ compartmentCount ≡ 256) × (levelCount ≡ 1024)
@@ -45,11 +46,11 @@ pub types-are : (plainType ≡ 0) × (draftType ≡ 1) × (releasedType ≡ 2)
 types-are = (refl, refl, refl)
 
 -- Rule 2.4: the value is 1 of a sum, the label 2, the ID 4; sums go to 7.
-pub sums-are : (2 ^ valueBit ≡ 1) × (2 ^ labelBit ≡ 2) × (2 ^ idBit ≡ 4) × (sumLimit ≡ 7)
+pub sums-are : (2 ^ valueBit ≡ 1) × (2 ^ labelBit ≡ 2) × (2 ^ idBit ≡ 4) × (sumMost ≡ 7)
 sums-are = (refl, refl, refl, refl)
 
 -- Rule 2.5: a triple, and its parts; who is 17 to 24 for the eight roles.
-pub triples-are : (tripleOf 3 12 1 ≡ 199681) × (whoRole officer ≡ 17) × (whoRole 7 ≡ 24) × (whoLimit ≡ 24)
+pub triples-are : (tripleOf 3 12 1 ≡ 199681) × (whoRole officer ≡ 17) × (whoRole 7 ≡ 24) × (whoMost ≡ 24)
 triples-are = (refl, refl, refl, refl)
 
 -- Rule 3.22: a triple's word has nothing but its three parts.
@@ -57,7 +58,7 @@ pub triple-parts : (t : ℕ) → t ≡ tripleOf (whoOf t) (operationIn t) (posit
 triple-parts t = omega arith
 
 -- Rules 3.19, 3.21 and 3.22: refusals held, their count, operations and positions.
-pub limits-are : (firstNoticed ≡ 5) × (lastNoticed ≡ 16) × (missedLimit ≡ 65535) × (operationCount ≡ 20) × (positionCount ≡ 2)
+pub limits-are : (firstNoticed ≡ 5) × (lastNoticed ≡ 16) × (missedMost ≡ 65535) × (operationCount ≡ 20) × (positionCount ≡ 2)
 limits-are = (refl, refl, refl, refl, refl)
 
 -- Rule 6.1: the sorts of a new entity.
@@ -65,5 +66,5 @@ pub sorts-are : (objectSort ≡ 1) × (draftSort ≡ 3)
 sorts-are = (refl, refl)
 
 -- Rule 10.4: an entry has five words; rule 10.3: value and label are 3; rules 7.4, 7.6, 7.14 and 7.17: the refusals of the list.
-pub lists-are : (entryWords ≡ 5) × (valueAndLabel ≡ 3) × (noSuchUser ≡ 4) × (loggedOff ≡ 6) × (screenFull ≡ 14) × (roomShort ≡ 17)
+pub lists-are : (entryWords ≡ 5) × (valueAndLabel ≡ 3) × (refusal.unknownRequester ≡ 4) × (refusal.notLoggedOn ≡ 6) × (refusal.noRoom ≡ 14) × (refusal.tooShort ≡ 17)
 lists-are = (refl, refl, refl, refl, refl, refl)

@@ -1,5 +1,6 @@
 -- What is asked, what it is answered, and what it leaves.
 pub mod Words
+pub mod Refusals
 pub mod Reference
 pub mod Asked
 pub mod Conditions

@@ -12,7 +12,7 @@ use Rattle.model.specs.Tables.Layout.{Bounded, entityWidth, offset}
 use Rattle.model.specs.Tables.StoreLaws.{alike, twice}
 use Rattle.model.specs.Tables.WordAt.{entityWordAt}
 use Rattle.model.specs.Tables.WordAtLaws.{entity-word-back, entity-word-same, offset-at, offset-below}
-use Rattle.model.specs.Tables.Words.{EntityWord, Tables, count, index, kind, level, mark, maximum, place, placeCount, releaser, shown}
+use Rattle.model.specs.Tables.Words.{EntityWord, Tables, used, index, kind, level, mark, maximum, place, placeCount, releaser, shown}
 use Rattle.model.specs.Tables.Words.{tag, triple, type, value}
 use Rattle.op_places.specs.Stored.{blankTo}
 use Rattle.rows.specs.EditLaws.{idle}
@@ -35,7 +35,7 @@ module _ (e : ℕ) (d : Tables) where
   behind o value l = absurd (omega arith)
   behind o releaser l = absurd (omega arith)
   behind o maximum l = absurd (omega arith)
-  behind o count l = absurd (omega arith)
+  behind o used l = absurd (omega arith)
   behind o (place i) l = o .placesOut e i l
   behind o (shown i) l = o .shownOut e i l
   behind o (triple i) l = o .triplesOut e i l

@@ -20,7 +20,7 @@ use Rattle.model.specs.Request.Ladder.{refused}
 use Rattle.model.specs.Request.Operations.{rowOf, toCreate}
 use Rattle.model.specs.Request.Words.{requestOf}
 use Rattle.model.specs.Tables.Layout.{tablesOf}
-use Rattle.model.specs.Tables.Words.{Tables, containerKind, counts, entityCount, kinds, level, placeCount, sums}
+use Rattle.model.specs.Tables.Words.{Tables, containerKind, usedPlaces, entityCount, kinds, level, placeCount, sums}
 
 -- "more than" is "not at most"
 over-not : (a b : ℕ) → ltb b a ≡ not (leb a b)
@@ -63,7 +63,7 @@ module _ (t q : List ℕ) (u c : ℕ) (k : Taking toCreate t q u) (g : First t q
       pub create-above : not m ≡ true → Refusing t q u 1 13
       create-above z = stop toCreate t q u k 12 (omega arith) (omega arith) twelve (above-is ∙ z)
 
-      module _ (zm : not m ≡ false) (n x : ℕ) (hn : n ≡ vacant (tablesOf t)) (hx : x ≡ counts (tablesOf t) c) where
+      module _ (zm : not m ≡ false) (n x : ℕ) (hn : n ≡ vacant (tablesOf t)) (hx : x ≡ usedPlaces (tablesOf t) c) where
         thirteen : Passed 13 (tablesOf t) (requestOf q)
         thirteen = pass toCreate t q u k 12 (omega arith) (omega arith) twelve (above-is ∙ zm)
 
@@ -82,8 +82,8 @@ module _ (t q : List ℕ) (u c : ℕ) (k : Taking toCreate t q u) (g : First t q
 
           -- c has room, and shows nothing, also once the new entity is there
           module _ (s : List ℕ) (e : tablesOf s ≡ fresh n c (sortKind (getD q 12 0)) (sortType (getD q 12 0)) (getD q 13 0) (tablesOf t)) where
-            pub create-room : counts (tablesOf s) c < placeCount
-            create-room = subst (λ (d : Tables). counts d c < placeCount) (sym e) (omega (arith, leb-false 8 x (neither-r (ltb 64 n) (leb 8 x) zr)))
+            pub create-room : usedPlaces (tablesOf s) c < placeCount
+            create-room = subst (λ (d : Tables). usedPlaces d c < placeCount) (sym e) (omega (arith, leb-false 8 x (neither-r (ltb 64 n) (leb 8 x) zr)))
 
             pub create-unshown : (i : ℕ) → sums (tablesOf s) c i ≡ 0
             create-unshown i = subst (λ (d : Tables). sums d c i ≡ 0) (sym e) (k .climbed .ready .good .0 .entities c .filled .noSums (omega (arith, box)) i)

@@ -15,14 +15,14 @@ use Rattle.model.specs.Request.Ladder.{refused}
 use Rattle.model.specs.Request.Operations.{rowOf, toDelete}
 use Rattle.model.specs.Request.Words.{requestOf}
 use Rattle.model.specs.Tables.Layout.{tablesOf}
-use Rattle.model.specs.Tables.Words.{counts, type}
+use Rattle.model.specs.Tables.Words.{usedPlaces, type}
 
 module _ (t q : List ℕ) (u e : ℕ) (k : Taking toDelete t q u) (g : First t q e) (b : Bool) (h : b ≡ isEntity (tablesOf t) e) where
   -- 10: e is neither an object nor a container
   pub delete-kind : not b ≡ true → Refusing t q u 2 10
   delete-kind z = kind-wrong toDelete t q u k e g isEntity refl b h (not-yes b z)
 
-  module _ (zb : not b ≡ false) (x y : ℕ) (r : Bool) (hx : x ≡ counts (tablesOf t) e) (hr : r ≡ onScreen (tablesOf t) e)
+  module _ (zb : not b ≡ false) (x y : ℕ) (r : Bool) (hx : x ≡ usedPlaces (tablesOf t) e) (hr : r ≡ onScreen (tablesOf t) e)
       (hy : y ≡ tablesOf t .entity e type) where
     fourteen : Passed 14 (tablesOf t) (requestOf q)
     unfolding every free

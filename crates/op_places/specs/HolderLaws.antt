@@ -20,7 +20,7 @@ use Rattle.model.specs.Tables.Edits.{Edit, _and_, onEntity, row, word, written}
 use Rattle.model.specs.Tables.RowLaws.{without-none}
 use Rattle.model.specs.Tables.Rows.{close, left, seek}
 use Rattle.model.specs.Tables.StoreLaws.{twice}
-use Rattle.model.specs.Tables.Words.{EntityWord, Tables, containerKind, count, counts, entityCount, kind, kinds, level, mark}
+use Rattle.model.specs.Tables.Words.{EntityWord, Tables, containerKind, used, usedPlaces, entityCount, kind, kinds, level, mark}
 use Rattle.model.specs.Tables.Words.{maximum, place, placeCount, places, releaser, shown, triple, type, value}
 use Rattle.model.specs.Theorem.FramedPlaces.{leave-left}
 use Rattle.model.specs.Theorem.MayChange.{contentWord, holder}
@@ -43,30 +43,30 @@ module _ (d : Tables) (w : WellFormed d) where
     pub holder-in : h ≢ 0 → (1 ≤ h) × (h ≤ entityCount)
     holder-in n = parent-range d w h e (held-here n)
 
-    pub place-in : h ≢ 0 → (n k : ℕ) → n ≡ counts d h → k ≡ seek e (places d h) n → k < n
-    place-in z n k q r = rw (r, q) (ltb→lt (seek e (places d h) (counts d h)) (counts d h)
-        (member-agrees (places d h) (counts d h) e .from (held-here z .1)))
+    pub place-in : h ≢ 0 → (n k : ℕ) → n ≡ usedPlaces d h → k ≡ seek e (places d h) n → k < n
+    place-in z n k q r = rw (r, q) (ltb→lt (seek e (places d h) (usedPlaces d h)) (usedPlaces d h)
+        (member-agrees (places d h) (usedPlaces d h) e .from (held-here z .1)))
 
     -- ---- to leave
 
     unheld : (x : ℕ) (f : EntityWord) → (InTables d x e → ⊥) → T (not (holder d e x && contentWord f))
-    unheld x f n = no-and (holder d e x) (contentWord f) (λ t. n (in-agrees (kinds d) (counts d) (places d) x e .to t))
+    unheld x f n = no-and (holder d e x) (contentWord f) (λ t. n (in-agrees (kinds d) (usedPlaces d) (places d) x e .to t))
 
     -- what is in no container leaves none
     pub leave-none : h ≡ 0 → d ≡ leave e d
     leave-none z = λ i. record { user = d .user; entity = (fun-ext λ x. fun-ext λ f. sym (leave-left d w e x f (unheld x f (parent-none d w e (sym p ∙ z) x)))) i }
 
     -- the count of its container is one less
-    left-one : h ≢ 0 → left e (places d h) (counts d h) ≡ counts d h - 1
-    left-one z = go (ltb (seek e (places d h) (counts d h)) (counts d h)) (below (seek e (places d h) (counts d h)) (counts d h))
+    left-one : h ≢ 0 → left e (places d h) (usedPlaces d h) ≡ usedPlaces d h - 1
+    left-one z = go (ltb (seek e (places d h) (usedPlaces d h)) (usedPlaces d h)) (below (seek e (places d h) (usedPlaces d h)) (usedPlaces d h))
       where
-        go : (b : Bool) → Below (seek e (places d h) (counts d h)) (counts d h) b → pick b (pred (counts d h)) (counts d h) ≡ counts d h - 1
-        go true s = let q : pred (counts d h) ≡ counts d h - 1 = omega arith in q
-        go false (over l) = absurd (omega (arith, place-in z (counts d h) (seek e (places d h) (counts d h)) refl refl))
+        go : (b : Bool) → Below (seek e (places d h) (usedPlaces d h)) (usedPlaces d h) b → pick b (pred (usedPlaces d h)) (usedPlaces d h) ≡ usedPlaces d h - 1
+        go true s = let q : pred (usedPlaces d h) ≡ usedPlaces d h - 1 = omega arith in q
+        go false (over l) = absurd (omega (arith, place-in z (usedPlaces d h) (seek e (places d h) (usedPlaces d h)) refl refl))
 
-    module _ (z : h ≢ 0) (n k : ℕ) (q : n ≡ counts d h) (r : k ≡ seek e (places d h) n) where
+    module _ (z : h ≢ 0) (n k : ℕ) (q : n ≡ usedPlaces d h) (r : k ≡ seek e (places d h) n) where
       stores : Edit EntityWord
-      stores = word count (n - 1) and row place (close k (places d h))
+      stores = word used (n - 1) and row place (close k (places d h))
 
       -- its container afterwards
       leave-here : (f : EntityWord) → written stores (d .entity h) f ≡ leave e d .entity h f
@@ -78,7 +78,7 @@ module _ (d : Tables) (w : WellFormed d) where
       leave-here value = refl
       leave-here releaser = refl
       leave-here maximum = refl
-      leave-here count = rw (eq-eqb (kinds d h) containerKind (held-here z .0)) (ap (λ (m : ℕ). m - 1) q ∙ sym (left-one z))
+      leave-here used = rw (eq-eqb (kinds d h) containerKind (held-here z .0)) (ap (λ (m : ℕ). m - 1) q ∙ sym (left-one z))
       leave-here (place i) = rw (eq-eqb (kinds d h) containerKind (held-here z .0)) (ap (λ (m : ℕ). close m (places d h) i) (r ∙ ap (seek e (places d h)) q))
       leave-here (shown i) = refl
       leave-here (triple i) = refl
@@ -92,26 +92,26 @@ module _ (d : Tables) (w : WellFormed d) where
           go false (other s) = pick-same (stores .touched f) (d .entity x f) ∙ sym (leave-left d w e x f (unheld x f (not-there x s)))
 
       -- the stores of leaving are the model's
-      pub leave-stores : (s y : Tables) → s ≡ onEntity h (row place (close k (places d h))) d → y ≡ onEntity h (word count (n - 1)) s → y ≡ leave e d
+      pub leave-stores : (s y : Tables) → s ≡ onEntity h (row place (close k (places d h))) d → y ≡ onEntity h (word used (n - 1)) s → y ≡ leave e d
       unfolding stores
-      leave-stores s y a b = b ∙ ap (onEntity h (word count (n - 1))) a ∙ twice h (word count (n - 1)) (row place (close k (places d h))) d
+      leave-stores s y a b = b ∙ ap (onEntity h (word used (n - 1))) a ∙ twice h (word used (n - 1)) (row place (close k (places d h))) d
           ∙ (λ i. record { user = d .user; entity = (fun-ext λ x. fun-ext λ f. leave-word x f) i })
 
     -- Rule 6.3: a container is full after e has left where it is full and e is not in it.
-    pub full-left : (c n : ℕ) → 1 ≤ c → kinds d c ≡ containerKind → n ≡ counts d c
-        → (not (eqb h c) && leb placeCount n) ≡ leb placeCount (counts (leave e d) c)
+    pub full-left : (c n : ℕ) → 1 ≤ c → kinds d c ≡ containerKind → n ≡ usedPlaces d c
+        → (not (eqb h c) && leb placeCount n) ≡ leb placeCount (usedPlaces (leave e d) c)
     full-left c n l box q = rw (eq-eqb (kinds d c) containerKind box) (go (eqb h c) (same h c))
       where
-        go : (b : Bool) → Same h c b → (not b && leb placeCount n) ≡ leb placeCount (left e (places d c) (counts d c))
-        go true (it s) = sym (lt-leb placeCount (left e (places d c) (counts d c)) (subst (λ (x : ℕ). left e (places d x) (counts d x) < placeCount) s
-            (omega (arith, left-one (λ z. omega arith), row-room d w h, place-in (λ z. omega arith) (counts d h) (seek e (places d h) (counts d h)) refl refl))))
-        go false (other s) = ap (leb placeCount) (q ∙ sym (without-none e (places d c) (counts d c) (w .entities c .filled .packed)
+        go : (b : Bool) → Same h c b → (not b && leb placeCount n) ≡ leb placeCount (left e (places d c) (usedPlaces d c))
+        go true (it s) = sym (lt-leb placeCount (left e (places d c) (usedPlaces d c)) (subst (λ (x : ℕ). left e (places d x) (usedPlaces d x) < placeCount) s
+            (omega (arith, left-one (λ z. omega arith), row-room d w h, place-in (λ z. omega arith) (usedPlaces d h) (seek e (places d h) (usedPlaces d h)) refl refl))))
+        go false (other s) = ap (leb placeCount) (q ∙ sym (without-none e (places d c) (usedPlaces d c) (w .entities c .filled .packed)
             (λ m. not-there c (λ z. s (sym z)) (box, m)) .0))
 
   -- ---- what lies in what
 
   -- an entity that holds nothing has itself only
-  pub inside-empty : (e c n : ℕ) → n ≡ counts d e → n ≡ 0 → eqb c e ≡ climb (parentIn d) (suc entityCount) c e
+  pub inside-empty : (e c n : ℕ) → n ≡ usedPlaces d e → n ≡ 0 → eqb c e ≡ climb (parentIn d) (suc entityCount) c e
   unfolding climb
   inside-empty e c n q z = go (eqb c e) (same c e)
       (climb-sound entityCount (InTables d) (parentIn d) (parent-none d w) (parent-held d w) (w .links .oneContainer) (parent-range d w) (suc entityCount) c e)

@@ -17,7 +17,7 @@ use Rattle.model.specs.State.Check.{inTest, parent, spotOf}
 use Rattle.model.specs.State.Climb.{climb}
 use Rattle.model.specs.State.WellFormed.{WellFormed}
 use Rattle.model.specs.Tables.Rows.{seek}
-use Rattle.model.specs.Tables.Words.{Tables, containerKind, counts, deviceKind, entityCount, kinds, placeCount, places}
+use Rattle.model.specs.Tables.Words.{Tables, containerKind, usedPlaces, deviceKind, entityCount, kinds, placeCount, places}
 use Rattle.op_places.specs.Standing.{Unheld, hides, parentIn, standing}
 use Rattle.rows.specs.SweepLaws.{sweep-used}
 
@@ -27,7 +27,7 @@ use Rattle.rows.specs.SweepLaws.{sweep-used}
 module _ (d : Tables) (w : WellFormed d) (k v e : ℕ) (p : 1 ≤ e) (b : Bool) (h : b ≡ ltb (seek e (places d v) placeCount) placeCount) where
   stands : standing d k e v ≡ (eqb (kinds d v) k && b)
   stands = let f = w .entities v .filled .packed in
-      ap (λ (x : Bool). eqb (kinds d v) k && x) (sym (h ∙ sweep-used e (places d v) (counts d v) placeCount p (f .room) (f .rest)))
+      ap (λ (x : Bool). eqb (kinds d v) k && x) (sym (h ∙ sweep-used e (places d v) (usedPlaces d v) placeCount p (f .room) (f .rest)))
 
   -- it is in no place
   pub stands-nowhere : not b ≡ true → false ≡ standing d k e v
@@ -56,13 +56,13 @@ none-of false e z = let w : _≡_ {A = ℕ} 0 1 = z in omega arith
 
 module _ (d : Tables) (e : ℕ) where
   holding : ℕ → Bool
-  holding v = inTest (kinds d) (counts d) (places d) v e
+  holding v = inTest (kinds d) (usedPlaces d) (places d) v e
 
   row : ℕ → ℕ
   row j = pick (holding (suc j)) 1 0
 
   spot : ℕ
-  spot = spotOf (kinds d) (counts d) (places d) e
+  spot = spotOf (kinds d) (usedPlaces d) (places d) e
 
   -- the next entity does not hold it
   pub unheld-more : (i : ℕ) → Unheld d e i → standing d containerKind e (i + 1) ≡ false → Unheld d e (i + 1)
@@ -96,7 +96,7 @@ module _ (d : Tables) (e : ℕ) where
 module _ (d : Tables) (e : ℕ) where
   hides-is : (v : ℕ) → hides d e v ≡ not (standing d deviceKind e v)
   unfolding hides imp
-  hides-is v = go (eqb (kinds d v) deviceKind) (ltb (seek e (places d v) (counts d v)) (counts d v))
+  hides-is v = go (eqb (kinds d v) deviceKind) (ltb (seek e (places d v) (usedPlaces d v)) (usedPlaces d v))
     where
       go : (a b : Bool) → pick a (not b) true ≡ not (a && b)
       go true b = refl

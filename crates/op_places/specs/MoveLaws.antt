@@ -19,7 +19,7 @@ use Rattle.model.specs.Request.Words.{requestOf}
 use Rattle.model.specs.State.Climb.{climb}
 use Rattle.model.specs.State.WellFormed.{WellFormed}
 use Rattle.model.specs.Tables.Layout.{tablesOf}
-use Rattle.model.specs.Tables.Words.{Tables, containerKind, counts, entityCount, kinds, level, placeCount, sums}
+use Rattle.model.specs.Tables.Words.{Tables, containerKind, usedPlaces, entityCount, kinds, level, placeCount, sums}
 use Rattle.op_places.specs.HolderLaws.{full-left}
 use Rattle.op_places.specs.Standing.{parentIn}
 
@@ -51,11 +51,11 @@ module _ (t q : List ℕ) (u e c : ℕ) (k : Taking toMove t q u) (g : First t q
       pub move-above : not y ≡ true → Refusing t q u 3 13
       move-above z = stop toMove t q u k 12 (omega arith) (omega arith) twelve (above-is ∙ z)
 
-      module _ (zy : not y ≡ false) (h n : ℕ) (hh : h ≡ parentIn (tablesOf t) e) (hn : n ≡ counts (tablesOf t) c) where
+      module _ (zy : not y ≡ false) (h n : ℕ) (hh : h ≡ parentIn (tablesOf t) e) (hn : n ≡ usedPlaces (tablesOf t) c) where
         thirteen : Passed 13 (tablesOf t) (requestOf q)
         thirteen = pass toMove t q u k 12 (omega arith) (omega arith) twelve (above-is ∙ zy)
 
-        full-is : (not (eqb h c) && leb 8 n) ≡ leb placeCount (counts (leave e (tablesOf t)) c)
+        full-is : (not (eqb h c) && leb 8 n) ≡ leb placeCount (usedPlaces (leave e (tablesOf t)) c)
         full-is = full-left (tablesOf t) well e h hh c n (f .low) box hn
 
         room-is : refused 14 (rowOf toMove .conditions) (tablesOf t) (askedOf t q) ≡ (not (eqb h c) && leb 8 n)
@@ -80,9 +80,9 @@ module _ (t q : List ℕ) (u e c : ℕ) (k : Taking toMove t q u) (g : First t q
 
           -- c has room, and shows nothing, once e has left
           module _ (s : List ℕ) (x : tablesOf s ≡ leave e (tablesOf t)) where
-            pub move-room : counts (tablesOf s) c < placeCount
-            move-room = subst (λ (d : Tables). counts d c < placeCount) (sym x)
-                (leb-false placeCount (counts (leave e (tablesOf t)) c) (sym full-is ∙ zr))
+            pub move-room : usedPlaces (tablesOf s) c < placeCount
+            move-room = subst (λ (d : Tables). usedPlaces d c < placeCount) (sym x)
+                (leb-false placeCount (usedPlaces (leave e (tablesOf t)) c) (sym full-is ∙ zr))
 
             pub move-unshown : (j : ℕ) → sums (tablesOf s) c j ≡ 0
             move-unshown j = subst (λ (d : Tables). sums d c j ≡ 0) (sym x) (well .entities c .filled .noSums (omega (arith, box)) j)

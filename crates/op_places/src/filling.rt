@@ -8,7 +8,7 @@ ghost use Rattle.model.specs.Effect.Places.{erase, fresh, leave, put, sortKind,
 ghost use Rattle.model.specs.State.WellFormed.{WellFormed};
 ghost use Rattle.model.specs.Tables.Edits.{onEntity, row};
 ghost use Rattle.model.specs.Tables.Layout.{tablesOf, wordCount};
-ghost use Rattle.model.specs.Tables.Words.{counts, placeCount, sums, triple, triples};
+ghost use Rattle.model.specs.Tables.Words.{usedPlaces, placeCount, sums, triple, triples};
 ghost use Rattle.op_places.specs.Standing.{parentIn};
 ghost use Rattle.tables.specs.Singles.{EntityIn};
 
@@ -20,19 +20,19 @@ pub fn leave(t: &mut [u32], h: Entity, e: Entity)
     if h.0 == 0 {
         return;
     }
-    let n = tables::count(t, h);
+    let n = tables::used(t, h);
     rows::close_places(t, h, rows::place_of(t, h, e, n));
-    tables::set_count(t, h, n - 1);
+    tables::set_used(t, h, n - 1);
 }
 
 // Entity e stands last in c, of which nothing is shown.
 pub fn put_last(t: &mut [u32], c: Entity, e: Entity)
-    requires { ⌜ EntityIn (now t) (c .0) × (counts (tablesOf (now t)) (c .0) < placeCount) × ((i : ℕ) → sums (tablesOf (now t)) (c .0) i ≡ 0) ⌝ }
+    requires { ⌜ EntityIn (now t) (c .0) × (usedPlaces (tablesOf (now t)) (c .0) < placeCount) × ((i : ℕ) → sums (tablesOf (now t)) (c .0) i ≡ 0) ⌝ }
     ensures { λ _. ⌜ tablesOf (now (t .exit)) ≡ put (c .0) (e .0) 0 (tablesOf (now (t .entry))) ⌝ }
 {
-    let n = tables::count(t, c);
+    let n = tables::used(t, c);
     tables::set_place(t, c, n, e);
-    tables::set_count(t, c, n + 1);
+    tables::set_used(t, c, n + 1);
 }
 
 // The triples of entity c are those of entity e too.

@@ -21,7 +21,7 @@ pub fn create(t: &mut [u32], q: &[u32], u: User, c: Entity) -> u32
         return ladder::refusal::refuse(t, q, u, 1, 13);
     }
     let n = places::vacant(t);
-    if (64 < n) | (8 <= tables::count(t, c)) {
+    if (64 < n) | (8 <= tables::used(t, c)) {
         return ladder::refusal::refuse(t, q, u, 1, 14);
     }
     filling::bear(t, Entity(n), c, q[12], Level(q[13]));
@@ -37,7 +37,7 @@ pub fn delete(t: &mut [u32], q: &[u32], u: User, e: Entity) -> u32
     if !ladder::kinds::is_entity(t, e) {
         return ladder::refusal::refuse(t, q, u, 2, 10);
     }
-    if !(tables::count(t, e) == 0)
+    if !(tables::used(t, e) == 0)
         | (places::on_screen(t, e) | (tables::type_of(t, e) == tables::RELEASED))
     {
         return ladder::refusal::refuse(t, q, u, 2, 15);
@@ -59,7 +59,7 @@ pub fn relocate(t: &mut [u32], q: &[u32], u: User, e: Entity, c: Entity) -> u32
         return ladder::refusal::refuse(t, q, u, 3, 13);
     }
     let h = places::holder(t, e);
-    if !(h.0 == c.0) & (8 <= tables::count(t, c)) {
+    if !(h.0 == c.0) & (8 <= tables::used(t, c)) {
         return ladder::refusal::refuse(t, q, u, 3, 14);
     }
     if places::is_inside(t, c, e) {

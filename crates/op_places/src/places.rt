@@ -94,7 +94,7 @@ pub fn is_inside(t: &[u32], c: Entity, e: Entity) -> bool
     requires { ⌜ EntityIn (now t) (e .0) × WellFormed (tablesOf (now t)) × (1 ≤ c .0) ⌝ }
     ensures { λ r. ⌜ r ≡ climb (parentIn (tablesOf (now (t .entry)))) (suc entityCount) (c .0) (e .0) ⌝ }
 {
-    if tables::count(t, e) == 0 {
+    if tables::used(t, e) == 0 {
         return c.0 == e.0;
     }
     inside(t, c, e)

@@ -12,11 +12,11 @@ use Rattle.model.specs.Effect.Screens.{show, showing, spot}
 use Rattle.model.specs.Tables.Edits.{onEntity, row, word}
 use Rattle.model.specs.Tables.RowLaws.{replace-same, sought}
 use Rattle.model.specs.Tables.Rows.{Sought, replace}
-use Rattle.model.specs.Tables.Words.{Tables, count, counts, place, places, shown, sums}
+use Rattle.model.specs.Tables.Words.{Tables, used, usedPlaces, place, places, shown, sums}
 use Rattle.rows.specs.EditLaws.{row-idle, row-one, thrice, word-idle}
 use Rattle.rows.specs.NameLaws.{place-row, shown-row}
 
-module _ (d : Tables) (v e a k n : ℕ) (hn : n ≡ counts d v) (hk : k ≡ spot v e d) where
+module _ (d : Tables) (v e a k n : ℕ) (hn : n ≡ usedPlaces d v) (hk : k ≡ spot v e d) where
   -- its sum is stored
   abbrev summed : Tables
   summed = onEntity v (row shown (replace k a (sums d v))) d
@@ -24,31 +24,31 @@ module _ (d : Tables) (v e a k n : ℕ) (hn : n ≡ counts d v) (hk : k ≡ spot
   -- it stands there already: only its sum is stored
   module _ (h : k < n) where
     stands : places d v k ≡ e
-    stands = go (sought e (places d v) (counts d v))
+    stands = go (sought e (places d v) (usedPlaces d v))
       where
-        go : Sought e (places d v) (counts d v) (spot v e d) → places d v k ≡ e
+        go : Sought e (places d v) (usedPlaces d v) (spot v e d) → places d v k ≡ e
         go (inl s) = ap (places d v) hk ∙ s .1
         go (inr s) = absurd (omega (arith, s .0))
 
-    count-kept : n ≡ pick (ltb k (counts d v)) (counts d v) (suc (counts d v))
-    count-kept = hn ∙ ap (λ (b : Bool). pick b (counts d v) (suc (counts d v))) (sym (lt-ltb k (counts d v) (omega arith)))
+    used-kept : n ≡ pick (ltb k (usedPlaces d v)) (usedPlaces d v) (suc (usedPlaces d v))
+    used-kept = hn ∙ ap (λ (b : Bool). pick b (usedPlaces d v) (suc (usedPlaces d v))) (sym (lt-ltb k (usedPlaces d v) (omega arith)))
 
     pub put-again : onEntity v (word (shown k) a) d ≡ show v e a d
     put-again = row-one shown shown-row v d k a
         ∙ sym (row-idle place place-row v summed (replace k e (places d v)) (replace-same (places d v) k e stands))
-        ∙ sym (word-idle v (onEntity v (row place (replace k e (places d v))) summed) count n hn)
-        ∙ thrice v (word count n) (row place (replace k e (places d v))) (row shown (replace k a (sums d v))) d
-        ∙ ap (λ (m : ℕ). onEntity v (showing v e a d k m) d) count-kept
-        ∙ ap (λ (j : ℕ). onEntity v (showing v e a d j (pick (ltb j (counts d v)) (counts d v) (suc (counts d v)))) d) hk
+        ∙ sym (word-idle v (onEntity v (row place (replace k e (places d v))) summed) used n hn)
+        ∙ thrice v (word used n) (row place (replace k e (places d v))) (row shown (replace k a (sums d v))) d
+        ∙ ap (λ (m : ℕ). onEntity v (showing v e a d k m) d) used-kept
+        ∙ ap (λ (j : ℕ). onEntity v (showing v e a d j (pick (ltb j (usedPlaces d v)) (usedPlaces d v) (suc (usedPlaces d v)))) d) hk
 
   -- it is new: it is stored with its sum, and counted
   module _ (h : n ≤ k) where
-    count-grown : n + 1 ≡ pick (ltb k (counts d v)) (counts d v) (suc (counts d v))
-    count-grown = add-one n ∙ ap suc hn ∙ ap (λ (b : Bool). pick b (counts d v) (suc (counts d v))) (sym (le-ltb k (counts d v) (omega arith)))
+    used-grown : n + 1 ≡ pick (ltb k (usedPlaces d v)) (usedPlaces d v) (suc (usedPlaces d v))
+    used-grown = add-one n ∙ ap suc hn ∙ ap (λ (b : Bool). pick b (usedPlaces d v) (suc (usedPlaces d v))) (sym (le-ltb k (usedPlaces d v) (omega arith)))
 
-    pub put-new : onEntity v (word count (n + 1)) (onEntity v (word (place k) e) (onEntity v (word (shown k) a) d)) ≡ show v e a d
-    put-new = ap (λ (s : Tables). onEntity v (word count (n + 1)) (onEntity v (word (place k) e) s)) (row-one shown shown-row v d k a)
-        ∙ ap (onEntity v (word count (n + 1))) (row-one place place-row v summed k e)
-        ∙ thrice v (word count (n + 1)) (row place (replace k e (places d v))) (row shown (replace k a (sums d v))) d
-        ∙ ap (λ (m : ℕ). onEntity v (showing v e a d k m) d) count-grown
-        ∙ ap (λ (j : ℕ). onEntity v (showing v e a d j (pick (ltb j (counts d v)) (counts d v) (suc (counts d v)))) d) hk
+    pub put-new : onEntity v (word used (n + 1)) (onEntity v (word (place k) e) (onEntity v (word (shown k) a) d)) ≡ show v e a d
+    put-new = ap (λ (s : Tables). onEntity v (word used (n + 1)) (onEntity v (word (place k) e) s)) (row-one shown shown-row v d k a)
+        ∙ ap (onEntity v (word used (n + 1))) (row-one place place-row v summed k e)
+        ∙ thrice v (word used (n + 1)) (row place (replace k e (places d v))) (row shown (replace k a (sums d v))) d
+        ∙ ap (λ (m : ℕ). onEntity v (showing v e a d k m) d) used-grown
+        ∙ ap (λ (j : ℕ). onEntity v (showing v e a d j (pick (ltb j (usedPlaces d v)) (usedPlaces d v) (suc (usedPlaces d v)))) d) hk

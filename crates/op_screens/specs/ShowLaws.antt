@@ -23,11 +23,11 @@ use Rattle.model.specs.Request.Words.{requestOf}
 use Rattle.model.specs.State.Secure.{labelled}
 use Rattle.model.specs.Tables.Layout.{tablesOf}
 use Rattle.model.specs.Tables.Rows.{seek}
-use Rattle.model.specs.Tables.Words.{clearance, counts, devices, level, placeCount, places}
+use Rattle.model.specs.Tables.Words.{clearance, usedPlaces, devices, level, placeCount, places}
 
 -- a device uses eight places at most
-pub count-in : (t q : List ℕ) (u : ℕ) → Taking toShow t q u → (v n : ℕ) → n ≡ counts (tablesOf t) v → n ≤ placeCount
-count-in t q u k v n h = rw h (k .climbed .ready .good .0 .entities v .filled .packed .room)
+pub used-in : (t q : List ℕ) (u : ℕ) → Taking toShow t q u → (v n : ℕ) → n ≡ usedPlaces (tablesOf t) v → n ≤ placeCount
+used-in t q u k v n h = rw h (k .climbed .ready .good .0 .entities v .filled .packed .room)
 
 -- where there is room, the place is one of the eight
 pub room-in : (e k n : ℕ) (r : ℕ → ℕ) → n ≤ placeCount → k ≡ seek e r n → (leb n k && leb 8 n) ≡ false → k < placeCount
@@ -58,7 +58,7 @@ module _ (t q : List ℕ) (u e : ℕ) (k : Taking toShow t q u × First t q e) (
     show-above z = stop toShow t q u (k .0) 12 (omega arith) (omega arith) up (above-is ∙ z)
 
     -- n is how many places are used, p the place of e
-    module _ (low : (not x || not y) ≡ false) (n p : ℕ) (hn : n ≡ counts (tablesOf t) v) (hp : p ≡ seek e (places (tablesOf t) v) n) where
+    module _ (low : (not x || not y) ≡ false) (n p : ℕ) (hn : n ≡ usedPlaces (tablesOf t) v) (hp : p ≡ seek e (places (tablesOf t) v) n) where
       over-it : Passed 13 (tablesOf t) (requestOf q)
       unfolding refused
       over-it = pass toShow t q u (k .0) 12 (omega arith) (omega arith) up (above-is ∙ low)

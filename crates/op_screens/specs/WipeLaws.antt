@@ -8,7 +8,7 @@ use Rattle.model.specs.Tables.Edits.{_and_, onEntity, onUser, row, userWord, wo
 use Rattle.model.specs.Tables.Layout.{tablesOf}
 use Rattle.model.specs.Tables.LayoutLaws.{bounded}
 use Rattle.model.specs.Tables.StoreLaws.{twice, user-alike, user-twice}
-use Rattle.model.specs.Tables.Words.{Tables, UserWord, authorised, clearance, count, current, device, held, heldOp, missed, place, places}
+use Rattle.model.specs.Tables.Words.{Tables, UserWord, authorised, clearance, used, current, device, held, heldOp, missed, place, places}
 use Rattle.model.specs.Tables.Words.{present, shown, spare}
 use Rattle.op_screens.specs.Wipe.{wipedTo}
 use Rattle.rows.specs.EditLaws.{row-apart}
@@ -34,12 +34,12 @@ module _ (t : List ℕ) (v : ℕ) where
       ∙ ap (onEntity v (row place (upTo (i + 1) (λ j. 0) (places (tablesOf t) v)))) (stored-more shown shown-row v (λ j. 0) (tablesOf t) i 0 refl)
 
   -- all of them are, and no place is used
-  pub wipe-all : (n : Tables) → n ≡ wipedTo v (tablesOf t) 8 → onEntity v (word count 0) n ≡ clear v (tablesOf t)
-  wipe-all n p = ap (onEntity v (word count 0)) (p
+  pub wipe-all : (n : Tables) → n ≡ wipedTo v (tablesOf t) 8 → onEntity v (word used 0) n ≡ clear v (tablesOf t)
+  wipe-all n p = ap (onEntity v (word used 0)) (p
       ∙ stored-whole place place-row v (λ j. 0) (sums-to 8) 8 (λ j h. sym (bounded t .placesOut v j h))
       ∙ ap (onEntity v (row place (λ j. 0))) (stored-whole shown shown-row v (λ j. 0) (tablesOf t) 8 (λ j h. sym (bounded t .shownOut v j h)))
       ∙ twice v (row place (λ j. 0)) (row shown (λ j. 0)) (tablesOf t))
-      ∙ twice v (word count 0) (row place (λ j. 0) and row shown (λ j. 0)) (tablesOf t)
+      ∙ twice v (word used 0) (row place (λ j. 0) and row shown (λ j. 0)) (tablesOf t)
 
 -- a user is taken off the device, and acts with no role
 pub off-stores : (d : Tables) (u : ℕ) → onUser u (userWord current 0) (onUser u (userWord device 0) d) ≡ off u d

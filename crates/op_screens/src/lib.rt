@@ -7,12 +7,12 @@ ghost use Rattle.ladder.specs.Contract.{First, Stepped, Taking};
 ghost use Rattle.model.specs.Effect.Screens.{clear, show, spot};
 ghost use Rattle.model.specs.Request.Operations.{toClear, toLogin, toLogout, toShow};
 ghost use Rattle.model.specs.Tables.Layout.{tablesOf};
-ghost use Rattle.model.specs.Tables.Words.{counts, placeCount};
+ghost use Rattle.model.specs.Tables.Words.{usedPlaces, placeCount};
 ghost use Rattle.tables.specs.Singles.{EntityIn};
 
 // Device v, which uses n places, shows e with the sum a: in its place k, or last where it has none.
 fn put_on(t: &mut [u32], v: Entity, e: Entity, a: u32, k: u32, n: u32)
-    requires { ⌜ EntityIn (now t) (v .0) × (n ≡ counts (tablesOf (now t)) (v .0)) × (k ≡ spot (v .0) (e .0) (tablesOf (now t))) × (k < placeCount) ⌝ }
+    requires { ⌜ EntityIn (now t) (v .0) × (n ≡ usedPlaces (tablesOf (now t)) (v .0)) × (k ≡ spot (v .0) (e .0) (tablesOf (now t))) × (k < placeCount) ⌝ }
     ensures { λ _. ⌜ tablesOf (now (t .exit)) ≡ show (v .0) (e .0) a (tablesOf (now (t .entry))) ⌝ }
 {
     tables::set_shown(t, v, k, a);
@@ -20,7 +20,7 @@ fn put_on(t: &mut [u32], v: Entity, e: Entity, a: u32, k: u32, n: u32)
         return;
     }
     tables::set_place(t, v, k, e);
-    tables::set_count(t, v, n + 1);
+    tables::set_used(t, v, n + 1);
 }
 
 // Device v shows nothing.
@@ -34,7 +34,7 @@ fn empty(t: &mut [u32], v: Entity)
         tables::set_shown(t, v, i, 0);
         i += 1;
     }
-    tables::set_count(t, v, 0);
+    tables::set_used(t, v, 0);
 }
 
 // Operation 10, from rung 10 on: the requester's device shows entity e with the sum that the request asks.
@@ -50,7 +50,7 @@ pub fn show(t: &mut [u32], q: &[u32], u: User, e: Entity) -> u32
     if !levels::at_most(l, tables::clearance(t, u)) | !levels::at_most(l, tables::level(t, v)) {
         return ladder::refusal::refuse(t, q, u, 10, 13);
     }
-    let n = tables::count(t, v);
+    let n = tables::used(t, v);
     let k = rows::place_of(t, v, e, n);
     if (n <= k) & (8 <= n) {
         return ladder::refusal::refuse(t, q, u, 10, 14);

@@ -19,7 +19,7 @@ use Rattle.model.specs.State.ParentLaws.{row-room}
 use Rattle.model.specs.State.Secure.{Good, labelled}
 use Rattle.model.specs.State.WellFormed.{WellFormed}
 use Rattle.model.specs.Tables.EditLaws.{elsewhere}
-use Rattle.model.specs.Tables.Words.{Tables, authorised, clearance, counts, current, deviceKind, devices, entityCount, kinds, level, maximum}
+use Rattle.model.specs.Tables.Words.{Tables, authorised, clearance, usedPlaces, current, deviceKind, devices, entityCount, kinds, level, maximum}
 use Rattle.model.specs.Tables.Words.{placeCount, places, sums, userCount}
 use Rattle.op_words.specs.Trial.{placeAtMost}
 use Rattle.state.specs.Passes.{capped, entitySecure, placeSecure, userSecure}
@@ -86,16 +86,16 @@ module _ (d : Tables) (g : Good d) where
 
   module _ (e a : ℕ) (k : kinds d e ≡ deviceKind) where
     -- a device stands in no place
-    held-level : (x i : ℕ) → i < counts d x → setLevel e a d .entity (places d x i) level ≡ d .entity (places d x i) level
+    held-level : (x i : ℕ) → i < usedPlaces d x → setLevel e a d .entity (places d x i) level ≡ d .entity (places d x i) level
     held-level x i h = elsewhere (places d x i) e a (d .entity (places d x i) level)
         (λ q. let z = g .0 .links .contents x (places d x i) (i, h, refl) in absurd (omega (arith, rw q at z .1, k)))
 
     -- so what stands in the places of x is as much at most m as before
-    held-same : (x m : ℕ) → every placeCount (λ i. imp (ltb i (counts d x)) (atMost (setLevel e a d .entity (places d x i) level) m))
-        ≡ every placeCount (λ i. imp (ltb i (counts d x)) (atMost (d .entity (places d x i) level) m))
-    held-same x m = every-same placeCount (λ i. imp (ltb i (counts d x)) (atMost (setLevel e a d .entity (places d x i) level) m))
-        (λ i. imp (ltb i (counts d x)) (atMost (d .entity (places d x i) level) m))
-        (λ i h. imp-same i (counts d x) (atMost (setLevel e a d .entity (places d x i) level) m) (atMost (d .entity (places d x i) level) m)
+    held-same : (x m : ℕ) → every placeCount (λ i. imp (ltb i (usedPlaces d x)) (atMost (setLevel e a d .entity (places d x i) level) m))
+        ≡ every placeCount (λ i. imp (ltb i (usedPlaces d x)) (atMost (d .entity (places d x i) level) m))
+    held-same x m = every-same placeCount (λ i. imp (ltb i (usedPlaces d x)) (atMost (setLevel e a d .entity (places d x i) level) m))
+        (λ i. imp (ltb i (usedPlaces d x)) (atMost (d .entity (places d x i) level) m))
+        (λ i h. imp-same i (usedPlaces d x) (atMost (setLevel e a d .entity (places d x i) level) m) (atMost (d .entity (places d x i) level) m)
         (λ l. ap (λ (y : ℕ). atMost y m) (held-level x i l)))
 
     -- users ask for the levels of what stands in places
@@ -125,8 +125,8 @@ device-there d w u n = let k = w .links .deviceIs u n in w .entityNumbers (devic
 
 module _ (d : Tables) (g : Good d) where
   -- no entity uses more than eight places
-  used : (v : ℕ) → counts d v ≡ capped (counts d v)
-  used v = capped-within (counts d v) (row-room d (g .0) v)
+  used : (v : ℕ) → usedPlaces d v ≡ capped (usedPlaces d v)
+  used v = capped-within (usedPlaces d v) (row-room d (g .0) v)
 
   module _ (u a : ℕ) (low : 1 ≤ u) (high : u ≤ userCount) where
     -- everybody's roles are authorised
@@ -139,15 +139,15 @@ module _ (d : Tables) (g : Good d) where
         (omega (arith, z)) ∙ sym (clearance-own d g u a low high)
 
     -- else all that the device v shows, n entities, is at most that
-    pub clearance-on : (v n : ℕ) (b : Bool) → v ≡ devices d u → v ≢ 0 → n ≡ counts d v → b ≡ every n (placeAtMost d v a)
+    pub clearance-on : (v n : ℕ) (b : Bool) → v ≡ devices d u → v ≢ 0 → n ≡ usedPlaces d v → b ≡ every n (placeAtMost d v a)
         → b ≡ secureTest (setClearance u a d)
     unfolding placeAtMost
     clearance-on v n b ve z ne be = user-on (setClearance u a d) u (d .user u current) (d .user u authorised) true refl refl roles-kept refl v ve
-        (omega (arith, z)) b a (counts d v) n (sym (here u a (d .user u clearance))) refl (ne ∙ used v) be ∙ sym (clearance-own d g u a low high)
+        (omega (arith, z)) b a (usedPlaces d v) n (sym (here u a (d .user u clearance))) refl (ne ∙ used v) be ∙ sym (clearance-own d g u a low high)
 
   module _ (e a : ℕ) (k : kinds d e ≡ deviceKind) where
     -- what a device shows with its value has its label already
-    place-device : (i : ℕ) → i < counts d e → placeAtMost d e a i ≡ placeSecure (setLevel e a d) e i
+    place-device : (i : ℕ) → i < usedPlaces d e → placeAtMost d e a i ≡ placeSecure (setLevel e a d) e i
     unfolding placeSecure placeAtMost imp
     place-device i h = rw (
       held-level d g e a k e i h,
@@ -161,20 +161,20 @@ module _ (d : Tables) (g : Good d) where
     ceiling-device = rw (eq-eqb (kinds d e) deviceKind k, here e a (d .entity e level))
 
     -- all that a device shows is at most its level, and that at most its maximum
-    device-level-is : 1 ≤ e → e ≤ entityCount → (every (counts d e) (placeAtMost d e a) && atMost a (d .entity e maximum)) ≡ secureTest (setLevel e a d)
-    device-level-is low high = ap₂ _&&_ (every-same (counts d e) (placeAtMost d e a) (placeSecure (setLevel e a d) e) place-device
+    device-level-is : 1 ≤ e → e ≤ entityCount → (every (usedPlaces d e) (placeAtMost d e a) && atMost a (d .entity e maximum)) ≡ secureTest (setLevel e a d)
+    device-level-is low high = ap₂ _&&_ (every-same (usedPlaces d e) (placeAtMost d e a) (placeSecure (setLevel e a d) e) place-device
         ∙ ap (λ (n : ℕ). every n (placeSecure (setLevel e a d) e)) (used e)) ceiling-device
         ∙ entity-secure (setLevel e a d) e ∙ sym (level-own d g e a k low high)
 
     -- x is its maximum
     module _ (low : 1 ≤ e) (high : e ≤ entityCount) (x : ℕ) (xe : x ≡ d .entity e maximum) (m : Bool) (me : m ≡ atMost a x) where
-      from-maximum : (m && every (counts d e) (placeAtMost d e a)) ≡ secureTest (setLevel e a d)
-      from-maximum = rw (me, xe) (and-comm (atMost a (d .entity e maximum)) (every (counts d e) (placeAtMost d e a)) ∙ device-level-is low high)
+      from-maximum : (m && every (usedPlaces d e) (placeAtMost d e a)) ≡ secureTest (setLevel e a d)
+      from-maximum = rw (me, xe) (and-comm (atMost a (d .entity e maximum)) (every (usedPlaces d e) (placeAtMost d e a)) ∙ device-level-is low high)
 
       -- the level is above it
       pub device-above : m ≡ false → false ≡ secureTest (setLevel e a d)
       device-above z = rw z at from-maximum
 
       -- it is not, and all that is shown, n entities, is left
-      pub device-shows : m ≡ true → (n : ℕ) (b : Bool) → n ≡ counts d e → b ≡ every n (placeAtMost d e a) → b ≡ secureTest (setLevel e a d)
+      pub device-shows : m ≡ true → (n : ℕ) (b : Bool) → n ≡ usedPlaces d e → b ≡ every n (placeAtMost d e a) → b ≡ secureTest (setLevel e a d)
       device-shows z n b ne be = be ∙ rw ne (rw z at from-maximum)

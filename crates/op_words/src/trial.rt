@@ -10,7 +10,7 @@ ghost use Rattle.model.specs.Effect.Words.{setClearance, setLevel};
 ghost use Rattle.model.specs.State.Secure.{Good};
 ghost use Rattle.model.specs.State.WellFormed.{WellFormed};
 ghost use Rattle.model.specs.Tables.Layout.{tablesOf};
-ghost use Rattle.model.specs.Tables.Words.{counts, deviceKind, kinds};
+ghost use Rattle.model.specs.Tables.Words.{usedPlaces, deviceKind, kinds};
 ghost use Rattle.op_words.specs.Trial.{Tried, placeAtMost};
 ghost use Rattle.tables.specs.Singles.{EntityIn, UserIn};
 
@@ -30,7 +30,7 @@ pub fn try_level(t: &mut [u32], e: Entity, a: Level) -> bool
 
 // Whether what stands in place i of entity v, of well-formed tables, is at most level a.
 fn place_at_most(t: &[u32], v: Entity, a: Level, i: u32) -> bool
-    requires { ⌜ EntityIn (now t) (v .0) × WellFormed (tablesOf (now t)) × (i < counts (tablesOf (now t)) (v .0)) ⌝ }
+    requires { ⌜ EntityIn (now t) (v .0) × WellFormed (tablesOf (now t)) × (i < usedPlaces (tablesOf (now t)) (v .0)) ⌝ }
     ensures { λ r. ⌜ r ≡ placeAtMost (tablesOf (now (t .entry))) (v .0) (a .0) i ⌝ }
 {
     levels::at_most(tables::level(t, tables::place(t, v, i)), a)
@@ -38,7 +38,7 @@ fn place_at_most(t: &[u32], v: Entity, a: Level, i: u32) -> bool
 
 // Whether all that stands in the n places that entity v, of well-formed tables, uses is at most level a.
 fn all_at_most(t: &[u32], v: Entity, a: Level, n: u32) -> bool
-    requires { ⌜ EntityIn (now t) (v .0) × WellFormed (tablesOf (now t)) × (n ≡ counts (tablesOf (now t)) (v .0)) ⌝ }
+    requires { ⌜ EntityIn (now t) (v .0) × WellFormed (tablesOf (now t)) × (n ≡ usedPlaces (tablesOf (now t)) (v .0)) ⌝ }
     ensures { λ r. ⌜ r ≡ every n (placeAtMost (tablesOf (now (t .entry))) (v .0) (a .0)) ⌝ }
 {
     let mut i: u32 = 0;
@@ -60,7 +60,7 @@ pub fn try_device_level(t: &mut [u32], e: Entity, a: Level) -> bool
     if !levels::at_most(a, tables::maximum(t, e)) {
         return false;
     }
-    if !all_at_most(t, e, a, tables::count(t, e)) {
+    if !all_at_most(t, e, a, tables::used(t, e)) {
         return false;
     }
     tables::set_level(t, e, a);
@@ -78,7 +78,7 @@ pub fn try_clearance(t: &mut [u32], u: User, a: Level) -> bool
         tables::set_clearance(t, u, a);
         return true;
     }
-    if !all_at_most(t, v, a, tables::count(t, v)) {
+    if !all_at_most(t, v, a, tables::used(t, v)) {
         return false;
     }
     tables::set_clearance(t, u, a);

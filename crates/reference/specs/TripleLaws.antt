@@ -13,18 +13,18 @@ use Rattle.model.specs.Request.Allowed.{Permitted}
 use Rattle.model.specs.Request.Ladder.{permits}
 use Rattle.model.specs.Request.TestLaws.{permits-agrees}
 use Rattle.model.specs.Tables.Words.{Tables, current, operationCount, operationWeight, placeCount, positionCount, tripleOf, triples}
-use Rattle.model.specs.Tables.Words.{whoLimit, whoOf, whoRole, whoWeight}
+use Rattle.model.specs.Tables.Words.{whoMost, whoOf, whoRole, whoWeight}
 use Rattle.reference.specs.Ways.{admits}
 
 -- what a triple that admits says
 abbrev Admits : ℕ → ℕ → ℕ → ℕ → Type 0
 Admits u roles key x = (x % whoWeight ≡ key)
-    × ((whoOf x ≡ u) ⊎ ((whoRole 0 ≤ whoOf x) × ((whoOf x ≤ whoLimit) × T (bit (whoOf x - whoRole 0) roles))))
+    × ((whoOf x ≡ u) ⊎ ((whoRole 0 ≤ whoOf x) × ((whoOf x ≤ whoMost) × T (bit (whoOf x - whoRole 0) roles))))
 
 admits-agrees : (u roles key x : ℕ) → Agrees (admits u roles key x) (Admits u roles key x)
 unfolding admits
 admits-agrees u roles key x = agrees-and (agrees-eq (x % whoWeight) key) (agrees-or (agrees-eq (whoOf x) u)
-    (agrees-and (agrees-le (whoRole 0) (whoOf x)) (agrees-and (agrees-le (whoOf x) whoLimit) (agrees-T (bit (whoOf x - whoRole 0) roles)))))
+    (agrees-and (agrees-le (whoRole 0) (whoOf x)) (agrees-and (agrees-le (whoOf x) whoMost) (agrees-T (bit (whoOf x - whoRole 0) roles)))))
 
 -- a number is a triple exactly where it has these two parts
 whole : (w o k x : ℕ) → x % whoWeight ≡ o * operationWeight + k → whoOf x ≡ w → x ≡ tripleOf w o k
@@ -44,7 +44,7 @@ module _ (d : Tables) (u o k e : ℕ) (h : o ≤ operationCount) (l : k ≤ posi
       x : ℕ
       x = triples d e (s .0)
 
-      go : (whoOf (triples d e (s .0)) ≡ u) ⊎ ((whoRole 0 ≤ whoOf (triples d e (s .0))) × ((whoOf (triples d e (s .0)) ≤ whoLimit)
+      go : (whoOf (triples d e (s .0)) ≡ u) ⊎ ((whoRole 0 ≤ whoOf (triples d e (s .0))) × ((whoOf (triples d e (s .0)) ≤ whoMost)
           × T (bit (whoOf (triples d e (s .0)) - whoRole 0) (d .user u current)))) → Permitted d u o k e
       go (inl q) = inl (s .0, s .1, whole u o k (triples d e (s .0)) (s .2 .0) q)
       go (inr q) = inr (

@@ -17,7 +17,7 @@ use Rattle.model.specs.Request.Ladder.{bars}
 use Rattle.model.specs.Request.Reference.{Present, basis, follow, passed, placeTest, presentTest, resolve, standing}
 use Rattle.model.specs.Request.ReferenceLaws.{place-agrees, present-agrees}
 use Rattle.model.specs.State.WellFormed.{WellFormed}
-use Rattle.model.specs.Tables.Words.{Tables, counts, entityCount, level, mark, places}
+use Rattle.model.specs.Tables.Words.{Tables, usedPlaces, entityCount, level, mark, places}
 use Rattle.reference.specs.Ways.{Ranged, bar, found, leading, onward, refusalOf}
 use Rattle.reference.specs.declared.Found.the-variants.{At, Nowhere}
 
@@ -25,7 +25,7 @@ use Rattle.reference.specs.declared.Found.the-variants.{At, Nowhere}
 pub wellFormed-ranged : (d : Tables) → WellFormed d → Ranged d
 wellFormed-ranged d w = record { room = λ e. w .entities e .filled .packed .room; low = λ e i h. inside e i h .0; high = λ e i h. inside e i h .1 }
   where
-    inside : (e i : ℕ) → i < counts d e → (1 ≤ places d e i) × (places d e i ≤ entityCount)
+    inside : (e i : ℕ) → i < usedPlaces d e → (1 ≤ places d e i) × (places d e i ≤ entityCount)
     inside e i h =
         let k = w .links .contents e (places d e i) (i, h, refl) in
         w .entityNumbers (places d e i) (λ q. omega (arith, k))
@@ -67,7 +67,7 @@ module _ (d : Tables) (l : ℕ) where
   follow-end e o (p ∷ ps) h z = absurd (omega arith)
 
   -- the next name is no used place
-  pub follow-stop : (e : ℕ) (o : Bool) (ns : List ℕ) → length ns ≢ 0 → ((1 ≤ getD ns 0 0) × (getD ns 0 0 ≤ counts d e) → ⊥) → Nowhere ≡ onward d l e o ns
+  pub follow-stop : (e : ℕ) (o : Bool) (ns : List ℕ) → length ns ≢ 0 → ((1 ≤ getD ns 0 0) × (getD ns 0 0 ≤ usedPlaces d e) → ⊥) → Nowhere ≡ onward d l e o ns
   follow-stop e o [] n h = absurd (n refl)
   follow-stop e o (p ∷ ps) n h = rw (follow-no d e p ps (fails (placeTest d e p) (λ t. h (place-agrees d e p .to t))))
 
@@ -82,7 +82,7 @@ module _ (d : Tables) (l : ℕ) where
       go false b c = refl
 
   -- the next name is a used place, and the rest is read from there
-  pub follow-on : (e c : ℕ) (o : Bool) (ns : List ℕ) → length ns ≢ 0 → 1 ≤ getD ns 0 0 → getD ns 0 0 ≤ counts d e → c ≡ places d e (getD ns 0 0 - 1)
+  pub follow-on : (e c : ℕ) (o : Bool) (ns : List ℕ) → length ns ≢ 0 → 1 ≤ getD ns 0 0 → getD ns 0 0 ≤ usedPlaces d e → c ≡ places d e (getD ns 0 0 - 1)
       → onward d l c (o && not (bar d l e)) (take (length ns - 1) (drop 1 ns)) ≡ onward d l e o ns
   unfolding passed
   follow-on e c o [] n a b q = absurd (n refl)

@@ -6,15 +6,15 @@ use lib.Dec.{eqb, leb}
 use Rattle.model.specs.Level.{atMost, bit}
 use Rattle.model.specs.Request.Ladder.{bars}
 use Rattle.model.specs.Request.Reference.{basis, follow, passed, resolve}
-use Rattle.model.specs.Tables.Words.{Tables, counts, entityCount, level, mark, placeCount, places, whoLimit, whoOf, whoRole, whoWeight}
+use Rattle.model.specs.Tables.Words.{Tables, usedPlaces, entityCount, level, mark, placeCount, places, whoMost, whoOf, whoRole, whoWeight}
 use Rattle.reference.specs.declared.Found.{Found}
 use Rattle.reference.specs.declared.Found.the-variants.{At, Nowhere}
 
 -- Tables in which every used place is one of eight and holds the number of an entity, as in well-formed ones.
 pub record Ranged (d : Tables) : Type 0 where
-  pub room : (e : ℕ) → counts d e ≤ placeCount
-  pub low : (e i : ℕ) → i < counts d e → 1 ≤ places d e i
-  pub high : (e i : ℕ) → i < counts d e → places d e i ≤ entityCount
+  pub room : (e : ℕ) → usedPlaces d e ≤ placeCount
+  pub low : (e i : ℕ) → i < usedPlaces d e → 1 ≤ places d e i
+  pub high : (e i : ℕ) → i < usedPlaces d e → places d e i ≤ entityCount
 
 -- The resolver's answer for an entity number, 0 where the reference leads nowhere, and whether the way is open.
 abbrev pub leading : ℕ → Bool → Found
@@ -32,7 +32,7 @@ bar d l e = not (eqb (d .entity e mark) 0) && not (atMost (d .entity e level) l)
 
 -- Rule 7.8: the triple x has this key, an operation and a position, and names the user u, or a role among these.
 unfoldable pub admits : ℕ → ℕ → ℕ → ℕ → Bool
-admits u roles key x = eqb (x % whoWeight) key && (eqb (whoOf x) u || (leb (whoRole 0) (whoOf x) && (leb (whoOf x) whoLimit && bit (whoOf x - whoRole 0) roles)))
+admits u roles key x = eqb (x % whoWeight) key && (eqb (whoOf x) u || (leb (whoRole 0) (whoOf x) && (leb (whoOf x) whoMost && bit (whoOf x - whoRole 0) roles)))
 
 -- The resolver's answer from e on by these names, for the clearance l, where o says whether the way so far is open.
 abbrev pub onward : Tables → ℕ → ℕ → Bool → List ℕ → Found

@@ -42,7 +42,7 @@ fn follow(t: &[u32], l: Level, e: Entity, clear: bool, names: &[u32]) -> Found
     if p < 1 {
         return Found::Nowhere;
     }
-    if tables::count(t, e) < p {
+    if tables::used(t, e) < p {
         return Found::Nowhere;
     }
     let c = tables::place(t, e, p - 1);

@@ -6,9 +6,9 @@ use Prim.Native.Nat.{_<_, _≤_, ℕ}
 use lib.ListN.{length}
 use borrow.Author.Tests.{eq-eqb, le-leb, lt-leb, ne-eqb}
 use Rattle.lines.specs.Onto.{Wrote}
-use Rattle.model.specs.List.Listing.{roomShort}
 use Rattle.model.specs.Request.Words.{requestOf, requestWords}
 use Rattle.model.specs.Text.Writing.{Writes, hasText, textOfWords, withoutText, writeAnswer, writeNumber, wrongSize}
+use Rattle.model.specs.Request.Refusals as refusal
 
 module _ (w room : List ℕ) where
   -- the words are not sixteen
@@ -24,7 +24,7 @@ module _ (w room : List ℕ) where
 
     module _ (t : hasText (requestOf w) ≡ true) where
       -- the room is too short for the text
-      pub end-short : {n : ℕ} → n ≡ length (textOfWords w) → length room < n → Writes w room roomShort n room
+      pub end-short : {n : ℕ} → n ≡ length (textOfWords w) → length room < n → Writes w room refusal.tooShort n room
       unfolding writeAnswer writeNumber
       end-short m h =
           let e = eq-eqb (length w) requestWords l in

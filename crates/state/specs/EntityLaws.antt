@@ -18,9 +18,9 @@ use Rattle.model.specs.State.WellFormed.{EntityOk, Filled}
 use Rattle.model.specs.Tables.Layout.{Bounded, entityWidth, offset}
 use Rattle.model.specs.Tables.WordAt.{entityWordAt}
 use Rattle.model.specs.Tables.WordAtLaws.{entity-word-back, offset-below}
-use Rattle.model.specs.Tables.Words.{EntityWord, Tables, absentKind, containerKind, count, counts, deviceKind, index, kind, kinds, level, mark}
-use Rattle.model.specs.Tables.Words.{maximum, objectKind, place, placeCount, places, releaser, shown, sumLimit, sums, triple, type, value}
-use Rattle.state.specs.Passes.{contentsAt, countTest, entityBlank, idleAt, ownTest, placeTest, unlike}
+use Rattle.model.specs.Tables.Words.{EntityWord, Tables, absentKind, containerKind, used, usedPlaces, deviceKind, index, kind, kinds, level, mark}
+use Rattle.model.specs.Tables.Words.{maximum, objectKind, place, placeCount, places, releaser, shown, sumMost, sums, triple, type, value}
+use Rattle.state.specs.Passes.{contentsAt, usedTest, entityBlank, idleAt, ownTest, placeTest, unlike}
 
 -- ---- the single words, as the code asks for them
 
@@ -40,9 +40,9 @@ shape-form k y l m v b x = rw (
 )
 
 -- word 7
-pub count-form : (k n : ℕ) → (leb n 8 && (not (eqb k 1) || eqb n 0)) ≡ countTest k n
-unfolding countTest
-count-form k n = rw (or-imp (eqb k 1) (eqb n 0))
+pub used-form : (k n : ℕ) → (leb n 8 && (not (eqb k 1) || eqb n 0)) ≡ usedTest k n
+unfolding usedTest
+used-form k n = rw (or-imp (eqb k 1) (eqb n 0))
 
 -- ---- a record of zeros
 
@@ -72,7 +72,7 @@ module _ (d : Tables) (o : Bounded d) (e : ℕ) where
   blank-all t value = blank-at t value (lit< tt)
   blank-all t releaser = blank-at t releaser (lit< tt)
   blank-all t maximum = blank-at t maximum (lit< tt)
-  blank-all t count = blank-at t count (lit< tt)
+  blank-all t used = blank-at t used (lit< tt)
   blank-all t (place i) = blank-row t place (λ j. refl) (o .placesOut e) i
   blank-all t (shown i) = blank-row t shown (λ j. refl) (o .shownOut e) i
   blank-all t (triple i) = blank-row t triple (λ j. refl) (o .triplesOut e) i
@@ -81,7 +81,7 @@ module _ (d : Tables) (o : Bounded d) (e : ℕ) where
   none-joined : ((f : EntityWord) → d .entity e f ≡ 0) → T (contentsAt d e && idleAt d e)
   unfolding contentsAt idleAt
   none-joined z = and-T (contentsAt d e) (idleAt d e)
-      (every-of placeCount _ (λ i h. agrees-imp (agrees-le (suc i) (counts d e)) (agrees-T _) .from (λ l. absurd (omega (arith, z count)))))
+      (every-of placeCount _ (λ i h. agrees-imp (agrees-le (suc i) (usedPlaces d e)) (agrees-T _) .from (λ l. absurd (omega (arith, z used)))))
       (agrees-imp (agrees-eq (kinds d e) deviceKind) (agrees-T _) .from (λ q. absurd (omega (arith, z kind))))
 
   -- of an entity that is absent all words are asked to be zero
@@ -97,14 +97,14 @@ module _ (d : Tables) (o : Bounded d) (e : ℕ) where
 
 -- what `placeTest` says of place i
 abbrev pub Placed : Tables → ℕ → ℕ → Type 0
-Placed d e i = (counts d e ≤ i → (places d e i ≡ 0) × (sums d e i ≡ 0))
-    × ((counts d e ≤ i → ⊥) → (objectKind ≤ kinds d (places d e i)) × ((kinds d (places d e i) ≤ containerKind)
-    × ((kinds d e ≡ deviceKind → (1 ≤ sums d e i) × (sums d e i ≤ sumLimit)) × (kinds d e ≢ deviceKind → sums d e i ≡ 0))))
+Placed d e i = (usedPlaces d e ≤ i → (places d e i ≡ 0) × (sums d e i ≡ 0))
+    × ((usedPlaces d e ≤ i → ⊥) → (objectKind ≤ kinds d (places d e i)) × ((kinds d (places d e i) ≤ containerKind)
+    × ((kinds d e ≡ deviceKind → (1 ≤ sums d e i) × (sums d e i ≤ sumMost)) × (kinds d e ≢ deviceKind → sums d e i ≡ 0))))
 
 -- the test says so
 pub place-agrees : (d : Tables) (e i : ℕ) → Agrees (placeTest d e i) (Placed d e i)
 unfolding placeTest
-place-agrees d e i = agrees-pick (agrees-le (counts d e) i) (search agreement) (search agreement depth 20)
+place-agrees d e i = agrees-pick (agrees-le (usedPlaces d e) i) (search agreement) (search agreement depth 20)
 
 -- what `unlike` says of place i
 pub unlike-agrees : (row : ℕ → ℕ) (i : ℕ) → Agrees (unlike row i) ((j : ℕ) → j < i → row j ≡ row i → ⊥)
@@ -122,18 +122,18 @@ apart row n f i j h l q = go (ltb i j) (below i j) (ltb j i) (below j i)
 
 module _ (d : Tables) (o : Bounded d) (e : ℕ) where
   -- a used place that is in order holds something, since nothing has no kind
-  pub placed-used : (i : ℕ) → i < counts d e → Placed d e i → places d e i ≢ 0
+  pub placed-used : (i : ℕ) → i < usedPlaces d e → Placed d e i → places d e i ≢ 0
   placed-used i h p q = omega (arith, p .1 (λ m. omega arith) .0, ap (kinds d) q, o .entityOut 0 (inl refl) kind)
 
   -- what the model's tests of contents say
   abbrev Left : Type 0
-  Left = Filled (kinds d e) (counts d e) (places d e) (sums d e)
-      × ((i : ℕ) → i < placeCount → i < counts d e → (objectKind ≤ kinds d (places d e i)) × (kinds d (places d e i) ≤ containerKind))
+  Left = Filled (kinds d e) (usedPlaces d e) (places d e) (sums d e)
+      × ((i : ℕ) → i < placeCount → i < usedPlaces d e → (objectKind ≤ kinds d (places d e i)) × (kinds d (places d e i) ≤ containerKind))
 
   -- what the passes say
   abbrev Right : Type 0
-  Right = ((counts d e ≤ placeCount) × (kinds d e ≡ objectKind → counts d e ≡ 0))
-      × (((i : ℕ) → i < placeCount → Placed d e i) × ((i : ℕ) → i < counts d e → (j : ℕ) → j < i → places d e j ≡ places d e i → ⊥))
+  Right = ((usedPlaces d e ≤ placeCount) × (kinds d e ≡ objectKind → usedPlaces d e ≡ 0))
+      × (((i : ℕ) → i < placeCount → Placed d e i) × ((i : ℕ) → i < usedPlaces d e → (j : ℕ) → j < i → places d e j ≡ places d e i → ⊥))
 
   -- what the model asks, the passes ask
   to-right : Left → Right
@@ -154,56 +154,56 @@ module _ (d : Tables) (o : Bounded d) (e : ℕ) where
   to-left : Right → Left
   to-left r = (
     record {
-      packed = record { room = r .0 .0; used = used; rest = λ i m. rest i m .0; distinct = apart (places d e) (counts d e) (r .1 .1) };
+      packed = record { room = r .0 .0; used = used; rest = λ i m. rest i m .0; distinct = apart (places d e) (usedPlaces d e) (r .1 .1) };
       objectEmpty = r .0 .1;
       sums = λ q i h. inside i h .1 .1 .0 q;
-      noSums = λ q i. sum-none q i (ltb i (counts d e)) (below i (counts d e));
+      noSums = λ q i. sum-none q i (ltb i (usedPlaces d e)) (below i (usedPlaces d e));
       restSums = λ i m. rest i m .1;
     },
     λ i h l. (inside i l .0, inside i l .1 .0),
   )
     where
-      inside : (i : ℕ) → i < counts d e → (objectKind ≤ kinds d (places d e i)) × ((kinds d (places d e i) ≤ containerKind)
-          × ((kinds d e ≡ deviceKind → (1 ≤ sums d e i) × (sums d e i ≤ sumLimit)) × (kinds d e ≢ deviceKind → sums d e i ≡ 0)))
+      inside : (i : ℕ) → i < usedPlaces d e → (objectKind ≤ kinds d (places d e i)) × ((kinds d (places d e i) ≤ containerKind)
+          × ((kinds d e ≡ deviceKind → (1 ≤ sums d e i) × (sums d e i ≤ sumMost)) × (kinds d e ≢ deviceKind → sums d e i ≡ 0)))
       inside i h = r .1 .0 i (omega (arith, r .0 .0)) .1 (λ m. omega arith)
 
-      used : (i : ℕ) → i < counts d e → 1 ≤ places d e i
+      used : (i : ℕ) → i < usedPlaces d e → 1 ≤ places d e i
       used i h = let z : places d e i ≢ 0 = placed-used i h (r .1 .0 i (omega (arith, r .0 .0))) in omega arith
 
-      rest : (i : ℕ) → counts d e ≤ i → (places d e i ≡ 0) × (sums d e i ≡ 0)
+      rest : (i : ℕ) → usedPlaces d e ≤ i → (places d e i ≡ 0) × (sums d e i ≡ 0)
       rest i m = go (ltb i placeCount) (below i placeCount)
         where
           go : (b : Bool) → Below i placeCount b → (places d e i ≡ 0) × (sums d e i ≡ 0)
           go true (under h) = r .1 .0 i h .0 m
           go false (over h) = (o .placesOut e i h, o .shownOut e i h)
 
-      sum-none : kinds d e ≢ deviceKind → (i : ℕ) (b : Bool) → Below i (counts d e) b → sums d e i ≡ 0
+      sum-none : kinds d e ≢ deviceKind → (i : ℕ) (b : Bool) → Below i (usedPlaces d e) b → sums d e i ≡ 0
       sum-none q i true (under h) = inside i h .1 .1 .1 q
       sum-none q i false (over h) = rest i h .1
 
   -- what stands in the used places
   pub contents-agrees : Agrees (contentsAt d e)
-      ((i : ℕ) → i < placeCount → i < counts d e → (objectKind ≤ kinds d (places d e i)) × (kinds d (places d e i) ≤ containerKind))
+      ((i : ℕ) → i < placeCount → i < usedPlaces d e → (objectKind ≤ kinds d (places d e i)) × (kinds d (places d e i) ≤ containerKind))
   unfolding contentsAt
   contents-agrees = search agreement depth 20
 
   -- how many places are used
-  pub count-agrees : Agrees (countTest (kinds d e) (counts d e)) ((counts d e ≤ placeCount) × (kinds d e ≡ objectKind → counts d e ≡ 0))
-  unfolding countTest
-  count-agrees = search agreement depth 20
+  pub used-agrees : Agrees (usedTest (kinds d e) (usedPlaces d e)) ((usedPlaces d e ≤ placeCount) × (kinds d e ≡ objectKind → usedPlaces d e ≡ 0))
+  unfolding usedTest
+  used-agrees = search agreement depth 20
 
   -- the model's tests say what they should
-  left-agrees : Agrees (filledTest (kinds d e) (counts d e) (places d e) (sums d e) && contentsAt d e) Left
-  left-agrees = agrees-and (filled-agrees (kinds d e) (counts d e) (places d e) (sums d e) (o .placesOut e) (o .shownOut e)) contents-agrees
+  left-agrees : Agrees (filledTest (kinds d e) (usedPlaces d e) (places d e) (sums d e) && contentsAt d e) Left
+  left-agrees = agrees-and (filled-agrees (kinds d e) (usedPlaces d e) (places d e) (sums d e) (o .placesOut e) (o .shownOut e)) contents-agrees
 
   -- and so do the passes
-  right-agrees : Agrees (countTest (kinds d e) (counts d e) && (every placeCount (placeTest d e) && every (counts d e) (unlike (places d e)))) Right
-  right-agrees = agrees-and count-agrees (agrees-and (agrees-every placeCount (placeTest d e) (Placed d e) (place-agrees d e))
-      (agrees-every (counts d e) (unlike (places d e)) (λ i. (j : ℕ) → j < i → places d e j ≡ places d e i → ⊥) (unlike-agrees (places d e))))
+  right-agrees : Agrees (usedTest (kinds d e) (usedPlaces d e) && (every placeCount (placeTest d e) && every (usedPlaces d e) (unlike (places d e)))) Right
+  right-agrees = agrees-and used-agrees (agrees-and (agrees-every placeCount (placeTest d e) (Placed d e) (place-agrees d e))
+      (agrees-every (usedPlaces d e) (unlike (places d e)) (λ i. (j : ℕ) → j < i → places d e j ≡ places d e i → ⊥) (unlike-agrees (places d e))))
 
   -- contents, their sums, and what they are: how many, place by place, and none twice
-  pub filled-passes : (filledTest (kinds d e) (counts d e) (places d e) (sums d e) && contentsAt d e)
-      ≡ (countTest (kinds d e) (counts d e) && (every placeCount (placeTest d e) && every (counts d e) (unlike (places d e))))
-  filled-passes = equal-bools (filledTest (kinds d e) (counts d e) (places d e) (sums d e) && contentsAt d e)
-      (countTest (kinds d e) (counts d e) && (every placeCount (placeTest d e) && every (counts d e) (unlike (places d e))))
+  pub filled-passes : (filledTest (kinds d e) (usedPlaces d e) (places d e) (sums d e) && contentsAt d e)
+      ≡ (usedTest (kinds d e) (usedPlaces d e) && (every placeCount (placeTest d e) && every (usedPlaces d e) (unlike (places d e))))
+  filled-passes = equal-bools (filledTest (kinds d e) (usedPlaces d e) (places d e) (sums d e) && contentsAt d e)
+      (usedTest (kinds d e) (usedPlaces d e) && (every placeCount (placeTest d e) && every (usedPlaces d e) (unlike (places d e))))
       (λ t. right-agrees .from (to-right (left-agrees .to t))) (λ t. left-agrees .from (to-left (right-agrees .to t)))

@@ -22,7 +22,7 @@ use Rattle.model.specs.State.Tests.{entityTest}
 use Rattle.model.specs.State.WellFormed.{InTables}
 use Rattle.model.specs.Tables.Layout.{Bounded}
 use Rattle.model.specs.Tables.Rows.{Packed}
-use Rattle.model.specs.Tables.Words.{Tables, count, counts, device, devices, entityCount, kind, kinds, place, placeCount, places}
+use Rattle.model.specs.Tables.Words.{Tables, used, usedPlaces, device, devices, entityCount, kind, kinds, place, placeCount, places}
 use Rattle.state.specs.EntityLaws.{contents-agrees}
 use Rattle.state.specs.Holders.{Filled, Filling, Low, Slot}
 use Rattle.state.specs.Passes.{contentsAt, idleAt, ownTest}
@@ -71,7 +71,7 @@ pub went-on : (d : Tables) (n : ℕ) (h : List ℕ) → Filled d n h → Filling
 went-on d n h f = record { filled = λ e. f; refused = λ e. clash true refl e }
 
 -- the pass has stopped
-pub stopped : (d : Tables) (n : ℕ) (h : List ℕ) → oneTest (kinds d) (counts d) (places d) (devices d) ≡ false → Filling d n false h
+pub stopped : (d : Tables) (n : ℕ) (h : List ℕ) → oneTest (kinds d) (usedPlaces d) (places d) (devices d) ≡ false → Filling d n false h
 stopped d n h f = record { filled = λ e. clash false e refl; refused = λ e. f }
 
 -- it has stopped at one container
@@ -87,34 +87,34 @@ module _ (d : Tables) (o : Bounded d) (w : every entityCount (λ e. ownTest d (s
   own-at (suc e) l h = every-at entityCount (λ e. ownTest d (suc e)) (is-true (every entityCount (λ e. ownTest d (suc e))) w) e (omega arith)
 
   -- what is no entity has no places
-  nothing-out : (e : ℕ) → (e ≡ 0) ⊎ (entityCount < e) → Packed (places d e) (counts d e)
+  nothing-out : (e : ℕ) → (e ≡ 0) ⊎ (entityCount < e) → Packed (places d e) (usedPlaces d e)
   nothing-out e q = record {
-    room = omega (arith, o .entityOut e q count);
-    used = λ i h. omega (arith, o .entityOut e q count);
+    room = omega (arith, o .entityOut e q used);
+    used = λ i h. omega (arith, o .entityOut e q used);
     rest = λ i h. o .entityOut e q (place i);
-    distinct = λ i j h l z. omega (arith, o .entityOut e q count);
+    distinct = λ i j h l z. omega (arith, o .entityOut e q used);
   }
 
   -- the places of every entity are packed
-  packed : (e : ℕ) → Packed (places d e) (counts d e)
+  packed : (e : ℕ) → Packed (places d e) (usedPlaces d e)
   unfolding ownTest
   packed e = go (ltb 0 e) (below 0 e) (ltb entityCount e) (below entityCount e)
     where
-      go : (a : Bool) → Below 0 e a → (b : Bool) → Below entityCount e b → Packed (places d e) (counts d e)
+      go : (a : Bool) → Below 0 e a → (b : Bool) → Below entityCount e b → Packed (places d e) (usedPlaces d e)
       go true (under h) true (under l) = nothing-out e (inr l)
       go true (under h) false (over l) =
           entity-agrees (d .entity e) (eights d o e) .to (T-l (entityTest (d .entity e)) (contentsAt d e && idleAt d e) (own-at e h l)) .filled .packed
       go false (over h) b l = nothing-out e (inl (omega arith))
 
   -- the number of an entity that has a place
-  number : (e i : ℕ) → i < counts d e → (1 ≤ e) × (e ≤ entityCount)
+  number : (e i : ℕ) → i < usedPlaces d e → (1 ≤ e) × (e ≤ entityCount)
   number e i h =
-      let a : e ≢ 0 = λ q. omega (arith, o .entityOut e (inl q) count) in
-      let b : ¬ (entityCount < e) = λ q. omega (arith, o .entityOut e (inr q) count) in
+      let a : e ≢ 0 = λ q. omega (arith, o .entityOut e (inl q) used) in
+      let b : ¬ (entityCount < e) = λ q. omega (arith, o .entityOut e (inr q) used) in
       (omega arith, omega arith)
 
   -- what stands in places are entities
-  content : (e i : ℕ) → i < counts d e → (1 ≤ places d e i) × (places d e i ≤ entityCount)
+  content : (e i : ℕ) → i < usedPlaces d e → (1 ≤ places d e i) × (places d e i ≤ entityCount)
   unfolding ownTest
   content e i h =
       let n = number e i h in
@@ -128,7 +128,7 @@ module _ (d : Tables) (o : Bounded d) (w : every entityCount (λ e. ownTest d (s
   slot-in c i x s = (number c i (s .used) .1, omega (arith, s .used, packed c .room))
 
   -- the slot that the loop is at, over the values read
-  pub slot-at : (c i x k n : ℕ) → 1 ≤ c → k ≡ kinds d c → k ≡ 2 → n ≡ counts d c → i < n → x ≡ places d c i → Slot d c i x
+  pub slot-at : (c i x k n : ℕ) → 1 ≤ c → k ≡ kinds d c → k ≡ 2 → n ≡ usedPlaces d c → i < n → x ≡ places d c i → Slot d c i x
   slot-at c i x k n l ke k2 ne h xe = record { low = l; box = sym ke ∙ k2; used = omega arith; at = sym xe }
 
   -- what stands in a slot is an entity
@@ -136,8 +136,8 @@ module _ (d : Tables) (o : Bounded d) (w : every entityCount (λ e. ownTest d (s
   slot-entity c i x s = rw (← s .at) (content c i (s .used))
 
   -- at most eight places are used
-  pub count-low : (c n : ℕ) → n ≡ counts d c → n ≤ placeCount
-  count-low c n e = omega (arith, packed c .room)
+  pub used-low : (c n : ℕ) → n ≡ usedPlaces d c → n ≤ placeCount
+  used-low c n e = omega (arith, packed c .room)
 
   -- no container
   pub filled-skip : (c k : ℕ) (h : List ℕ) → 1 ≤ c → k ≡ kinds d c → k ≢ 2 → Filled d ((c - 1) * 8) h → Filled d (c * 8) h
@@ -145,11 +145,11 @@ module _ (d : Tables) (o : Bounded d) (w : every entityCount (λ e. ownTest d (s
       (λ a i x s m n. let e : a ≡ c = omega (arith, slot-in a i x s, s .low) in q (ke ∙ ap (kinds d) (sym e) ∙ s .box))
 
   -- the end of a container
-  pub filled-rest : (c i n : ℕ) (h : List ℕ) → 1 ≤ c → n ≡ counts d c → i ≤ n → n ≤ i → Filled d ((c - 1) * 8 + i) h → Filled d (c * 8) h
+  pub filled-rest : (c i n : ℕ) (h : List ℕ) → 1 ≤ c → n ≡ usedPlaces d c → i ≤ n → n ≤ i → Filled d ((c - 1) * 8 + i) h → Filled d (c * 8) h
   filled-rest c i n h l ne a b f = filled-more d ((c - 1) * 8 + i) (c * 8) h f (omega (arith, packed c .room))
       (λ z j x s m k.
       let e : z ≡ c = omega (arith, slot-in z j x s, s .low) in
-      let u : j < counts d c = rw e at (s .used) in omega arith)
+      let u : j < usedPlaces d c = rw e at (s .used) in omega arith)
 
   -- the next slot is noted
   pub filled-put : (c i x : ℕ) (h : List ℕ) → Slot d c i x → getD h x 0 ≡ 0 → Filled d ((c - 1) * 8 + i) h
@@ -188,20 +188,20 @@ module _ (d : Tables) (o : Bounded d) (w : every entityCount (λ e. ownTest d (s
   box c i x s = (s .box, (i, s .used, s .at))
 
   -- the test of rule 3.13 says that nothing stands in two containers
-  one : Agrees (oneTest (kinds d) (counts d) (places d) (devices d)) ((x a b : ℕ) → InTables d a x → InTables d b x → a ≡ b)
-  one = one-agrees (kinds d) (counts d) (places d) (devices d) (λ e q. (o .entityOut e q kind, o .entityOut e q count))
+  one : Agrees (oneTest (kinds d) (usedPlaces d) (places d) (devices d)) ((x a b : ℕ) → InTables d a x → InTables d b x → a ≡ b)
+  one = one-agrees (kinds d) (usedPlaces d) (places d) (devices d) (λ e q. (o .entityOut e q kind, o .entityOut e q used))
       (λ u q. o .userOut u q device) (λ e. packed e .room)
 
   -- something that is noted already stands in two
   pub held-twice : (c i x : ℕ) (h : List ℕ) → Slot d c i x → getD h x 0 ≢ 0 → Filled d ((c - 1) * 8 + i) h
-      → oneTest (kinds d) (counts d) (places d) (devices d) ≡ false
-  held-twice c i x h s z f = fails (oneTest (kinds d) (counts d) (places d) (devices d)) (λ t.
+      → oneTest (kinds d) (usedPlaces d) (places d) (devices d) ≡ false
+  held-twice c i x h s z f = fails (oneTest (kinds d) (usedPlaces d) (places d) (devices d)) (λ t.
       let r = f .sound x (omega arith) in
       again (getD h x 0) (r .0) (r .1) (r .2) (one .to t x (getD h x 0) c (box (getD h x 0) (r .0) x (r .1)) (box c i x s)))
     where
       again : (v p : ℕ) → Slot d v p x → (v - 1) * 8 + p < (c - 1) * 8 + i → v ≡ c → ⊥
       again v p t l e =
-          let u : p < counts d c = rw e at (t .used) in
+          let u : p < usedPlaces d c = rw e at (t .used) in
           let q : places d c p ≡ x = rw e at (t .at) in
           omega (arith, packed c .distinct p i u (s .used) (q ∙ sym (s .at)))
 
@@ -217,25 +217,25 @@ module _ (d : Tables) (o : Bounded d) (w : every entityCount (λ e. ownTest d (s
     whole-at c x m = let s = slot-of c x m in f .whole c (m .1 .0) x s (omega (arith, slot-in c (m .1 .0) x s))
 
     -- then nothing stands in two
-    filled-one : oneTest (kinds d) (counts d) (places d) (devices d) ≡ true
-    filled-one = holds-true (oneTest (kinds d) (counts d) (places d) (devices d)) (one .from (λ x a b p q. sym (whole-at a x p) ∙ whole-at b x q))
+    filled-one : oneTest (kinds d) (usedPlaces d) (places d) (devices d) ≡ true
+    filled-one = holds-true (oneTest (kinds d) (usedPlaces d) (places d) (devices d)) (one .from (λ x a b p q. sym (whole-at a x p) ∙ whole-at b x q))
 
     -- and the list is the model's `parent`
-    filled-at : (x : ℕ) → getD h x 0 ≡ parent (kinds d) (counts d) (places d) x
-    filled-at x = go (eqb (parent (kinds d) (counts d) (places d) x) 0) (same (parent (kinds d) (counts d) (places d) x) 0)
+    filled-at : (x : ℕ) → getD h x 0 ≡ parent (kinds d) (usedPlaces d) (places d) x
+    filled-at x = go (eqb (parent (kinds d) (usedPlaces d) (places d) x) 0) (same (parent (kinds d) (usedPlaces d) (places d) x) 0)
       where
-        go : (b : Bool) → Same (parent (kinds d) (counts d) (places d) x) 0 b → getD h x 0 ≡ parent (kinds d) (counts d) (places d) x
+        go : (b : Bool) → Same (parent (kinds d) (usedPlaces d) (places d) x) 0 b → getD h x 0 ≡ parent (kinds d) (usedPlaces d) (places d) x
         go true (it e) =
             let z : ¬ (1 ≤ getD h x 0) = λ l. let r = f .sound x l in
-            parent-top (kinds d) (counts d) (places d) (devices d) (λ e q. (o .entityOut e q kind, o .entityOut e q count)) (λ u q. o .userOut u q device)
+            parent-top (kinds d) (usedPlaces d) (places d) (devices d) (λ e q. (o .entityOut e q kind, o .entityOut e q used)) (λ u q. o .userOut u q device)
             (λ e. packed e .room) x e (getD h x 0) (box (getD h x 0) (r .0) x (r .1)) in
             omega arith
-        go false (other e) = whole-at (parent (kinds d) (counts d) (places d) x) x
-            (parent-holds (kinds d) (counts d) (places d) (devices d) (λ e q. (o .entityOut e q kind, o .entityOut e q count)) (λ u q. o .userOut u q device)
+        go false (other e) = whole-at (parent (kinds d) (usedPlaces d) (places d) x) x
+            (parent-holds (kinds d) (usedPlaces d) (places d) (devices d) (λ e q. (o .entityOut e q kind, o .entityOut e q used)) (λ u q. o .userOut u q device)
             (λ e. packed e .room) x e)
 
     -- so that climbing the list decides the model's test
-    filled-loop : every entityCount (λ e. up (λ x. getD h x 0) (suc entityCount) (suc e)) ≡ loopTest (kinds d) (counts d) (places d) (devices d)
+    filled-loop : every entityCount (λ e. up (λ x. getD h x 0) (suc entityCount) (suc e)) ≡ loopTest (kinds d) (usedPlaces d) (places d) (devices d)
     unfolding loopTest
     filled-loop = ap (λ (g : ℕ → ℕ). every entityCount (λ e. up g (suc entityCount) (suc e))) (fun-ext filled-at)
 
@@ -255,11 +255,11 @@ module _ (d : Tables) (o : Bounded d) (w : every entityCount (λ e. ownTest d (s
 
   -- both tests from the list
   pub tree-refused : (n : ℕ) (r : Bool) (h : List ℕ) → Filling d n r h → r ≡ false
-      → false ≡ (oneTest (kinds d) (counts d) (places d) (devices d) && loopTest (kinds d) (counts d) (places d) (devices d))
+      → false ≡ (oneTest (kinds d) (usedPlaces d) (places d) (devices d) && loopTest (kinds d) (usedPlaces d) (places d) (devices d))
   tree-refused n r h f e = rw (f .refused e)
 
   -- the list is whole: what is left to ask is that every way up ends
   pub tree-ends : (r : Bool) (h : List ℕ) → Filling d 512 r h → r ≡ true → (b : Bool)
       → b ≡ every entityCount (λ e. up (λ x. getD h x 0) (suc entityCount) (suc e))
-      → b ≡ (oneTest (kinds d) (counts d) (places d) (devices d) && loopTest (kinds d) (counts d) (places d) (devices d))
+      → b ≡ (oneTest (kinds d) (usedPlaces d) (places d) (devices d) && loopTest (kinds d) (usedPlaces d) (places d) (devices d))
   tree-ends r h f e b be = rw (filled-one h (f .filled e)) (be ∙ filled-loop h (f .filled e))

@@ -6,13 +6,13 @@ use mathlib.Core.Path.{_≡_}
 use Prim.Native.Nat.{_*_, _+_, _-_, _<_, _≤_, ℕ}
 use lib.ListN.{getD, length}
 use Rattle.model.specs.State.Check.{oneTest}
-use Rattle.model.specs.Tables.Words.{Tables, containerKind, counts, devices, entityCount, kinds, places}
+use Rattle.model.specs.Tables.Words.{Tables, containerKind, usedPlaces, devices, entityCount, kinds, places}
 
 -- x stands in place i of the container c
 pub record Slot (d : Tables) (c i x : ℕ) : Type 0 where
   pub low : 1 ≤ c
   pub box : kinds d c ≡ containerKind
-  pub used : i < counts d c
+  pub used : i < usedPlaces d c
   pub at : places d c i ≡ x
 
 -- h tells the container of everything that stands in one of the slots before n, and of nothing else
@@ -24,7 +24,7 @@ pub record Filled (d : Tables) (n : ℕ) (h : List ℕ) : Type 0 where
 -- the pass has gone on to n, or it has met something that stands in two containers
 pub record Filling (d : Tables) (n : ℕ) (r : Bool) (h : List ℕ) : Type 0 where
   pub filled : r ≡ true → Filled d n h
-  pub refused : r ≡ false → oneTest (kinds d) (counts d) (places d) (devices d) ≡ false
+  pub refused : r ≡ false → oneTest (kinds d) (usedPlaces d) (places d) (devices d) ≡ false
 
 -- what h tells are numbers of entities
 abbrev pub Low : List ℕ → Type 0

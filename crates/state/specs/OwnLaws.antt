@@ -18,10 +18,10 @@ use Rattle.model.specs.State.WellFormed.{Access, GoodTriple}
 use Rattle.model.specs.Tables.Layout.{Bounded}
 use Rattle.model.specs.Tables.RowLaws.{before, sought}
 use Rattle.model.specs.Tables.Rows.{Sought, seek}
-use Rattle.model.specs.Tables.Words.{Tables, counts, devices, kinds, level, mark, maximum, placeCount, places, releaser, sums}
+use Rattle.model.specs.Tables.Words.{Tables, usedPlaces, devices, kinds, level, mark, maximum, placeCount, places, releaser, sums}
 use Rattle.model.specs.Tables.Words.{triples, type, userCount, value}
-use Rattle.state.specs.EntityLaws.{apart, count-agrees, filled-passes, unlike-agrees}
-use Rattle.state.specs.Passes.{contentsAt, countTest, idleAt, ownTest, placeTest, tripleNew, unlike}
+use Rattle.state.specs.EntityLaws.{apart, used-agrees, filled-passes, unlike-agrees}
+use Rattle.state.specs.Passes.{contentsAt, usedTest, idleAt, ownTest, placeTest, tripleNew, unlike}
 
 -- ---- triples
 
@@ -111,21 +111,21 @@ module _ (d : Tables) (o : Bounded d) (e : ℕ) (present : 1 ≤ kinds d e) wher
   shape = shapeTest (kinds d e) (d .entity e type) (d .entity e level) (d .entity e mark) (d .entity e value) (d .entity e releaser) (d .entity e maximum)
 
   -- all that is asked of an entity that is there, in the order of the code
-  pub own-present : (shape && (countTest (kinds d e) (counts d e) && (every placeCount (placeTest d e)
-      && (every (counts d e) (unlike (places d e)) && (every placeCount (tripleNew (triples d e)) && idleAt d e))))) ≡ ownTest d e
+  pub own-present : (shape && (usedTest (kinds d e) (usedPlaces d e) && (every placeCount (placeTest d e)
+      && (every (usedPlaces d e) (unlike (places d e)) && (every placeCount (tripleNew (triples d e)) && idleAt d e))))) ≡ ownTest d e
   unfolding ownTest entityTest imp
   own-present = rw (ne-eqb (kinds d e) 0 (λ q. omega arith), triples-pass (triples d e) (o .triplesOut e))
-      (sym (one-by-one shape (countTest (kinds d e) (counts d e)) (every placeCount (placeTest d e)) (every (counts d e) (unlike (places d e)))
+      (sym (one-by-one shape (usedTest (kinds d e) (usedPlaces d e)) (every placeCount (placeTest d e)) (every (usedPlaces d e) (unlike (places d e)))
       (accessTest (triples d e) && idleAt d e))
       ∙ ap (λ (b : Bool). shape && (b && (accessTest (triples d e) && idleAt d e))) (sym (filled-passes d o e))
-      ∙ sym (contents-first shape (filledTest (kinds d e) (counts d e) (places d e) (sums d e)) (accessTest (triples d e)) (contentsAt d e) (idleAt d e)))
+      ∙ sym (contents-first shape (filledTest (kinds d e) (usedPlaces d e) (places d e) (sums d e)) (accessTest (triples d e)) (contentsAt d e) (idleAt d e)))
 
 -- what the pass over entity e, which is there, has read and found
 module _ (d : Tables) (o : Bounded d) (e k y l m v b x : ℕ) (ke : k ≡ kinds d e) (present : 1 ≤ k) (ye : y ≡ d .entity e type) (le : l ≡ d .entity e level)
     (me : m ≡ d .entity e mark) (ve : v ≡ d .entity e value) (be : b ≡ d .entity e releaser) (xe : x ≡ d .entity e maximum)
     (s : Bool) (se : s ≡ shapeTest k y l m v b x) where
   -- all is asked from the shape on
-  from-shape : (s && (countTest k (counts d e) && (every placeCount (placeTest d e) && (every (counts d e) (unlike (places d e))
+  from-shape : (s && (usedTest k (usedPlaces d e) && (every placeCount (placeTest d e) && (every (usedPlaces d e) (unlike (places d e))
       && (every placeCount (tripleNew (triples d e)) && idleAt d e))))) ≡ ownTest d e
   from-shape = rw (se, ke, ye, le, me, ve, be, xe) (own-present d o e (omega arith))
 
@@ -133,7 +133,7 @@ module _ (d : Tables) (o : Bounded d) (e k y l m v b x : ℕ) (ke : k ≡ kinds 
   pub own-shape : s ≡ false → false ≡ ownTest d e
   own-shape f = rw f at from-shape
 
-  module _ (st : s ≡ true) (n : ℕ) (ne : n ≡ counts d e) (c : Bool) (ce : c ≡ countTest k n) where
+  module _ (st : s ≡ true) (n : ℕ) (ne : n ≡ usedPlaces d e) (c : Bool) (ce : c ≡ usedTest k n) where
     -- what is left to ask from the count on
     from-count : (c && (every placeCount (placeTest d e) && (every n (unlike (places d e)) && (every placeCount (tripleNew (triples d e)) && idleAt d e)))) ≡ ownTest d e
     from-count = rw (ce, ne) (rw st at from-shape)
@@ -144,7 +144,7 @@ module _ (d : Tables) (o : Bounded d) (e k y l m v b x : ℕ) (ke : k ≡ kinds 
 
     -- no more than eight are used
     pub own-room : c ≡ true → n ≤ placeCount
-    own-room t = rw ne (count-agrees d o e .to (rw (← ke, ← ne) (is-true (countTest k n) (sym ce ∙ t))) .0)
+    own-room t = rw ne (used-agrees d o e .to (rw (← ke, ← ne) (is-true (usedTest k n) (sym ce ∙ t))) .0)
 
     module _ (ct : c ≡ true) (p : Bool) (pe : p ≡ every placeCount (placeTest d e)) where
       -- what is left from the places on

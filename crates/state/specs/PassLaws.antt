@@ -14,7 +14,7 @@ use Rattle.model.specs.State.AgreeLinks.{alone-agrees, device-agrees}
 use Rattle.model.specs.State.Check.{aloneTest, contentsTest, deviceTest, idleTest, linksTest, loopTest, oneTest, wellFormedTest}
 use Rattle.model.specs.State.Tests.{entityTest, userTest}
 use Rattle.model.specs.Tables.Layout.{Bounded}
-use Rattle.model.specs.Tables.Words.{Tables, counts, device, deviceKind, devices, entityCount, kind, kinds, places, userCount}
+use Rattle.model.specs.Tables.Words.{Tables, usedPlaces, device, deviceKind, devices, entityCount, kind, kinds, places, userCount}
 use Rattle.state.specs.Passes.{contentsAt, idleAt, onDevice, ownTest}
 
 -- ---- who is on what
@@ -37,12 +37,12 @@ module _ (d : Tables) (o : Bounded d) where
       (λ u h q. absurd (q (o .userOut u (inr h) device)))
 
   -- these two tests ask nothing of counts
-  on-device : Agrees (deviceTest (kinds d) (counts d) (places d) (devices d)) ((u : ℕ) → devices d u ≢ 0 → kinds d (devices d u) ≡ deviceKind)
+  on-device : Agrees (deviceTest (kinds d) (usedPlaces d) (places d) (devices d)) ((u : ℕ) → devices d u ≢ 0 → kinds d (devices d u) ≡ deviceKind)
   unfolding deviceTest
   on-device = device-agrees (kinds d) (λ e. 0) (places d) (devices d) (λ e q. (o .entityOut e q kind, refl)) (λ u q. o .userOut u q device) (λ e. omega arith)
 
   -- nobody shares a device
-  by-self : Agrees (aloneTest (kinds d) (counts d) (places d) (devices d)) ((u v : ℕ) → devices d u ≢ 0 → devices d u ≡ devices d v → u ≡ v)
+  by-self : Agrees (aloneTest (kinds d) (usedPlaces d) (places d) (devices d)) ((u v : ℕ) → devices d u ≢ 0 → devices d u ≡ devices d v → u ≡ v)
   unfolding aloneTest
   by-self = alone-agrees (kinds d) (λ e. 0) (places d) (devices d) (λ e q. (o .entityOut e q kind, refl)) (λ u q. o .userOut u q device) (λ e. omega arith)
 
@@ -59,9 +59,9 @@ module _ (d : Tables) (o : Bounded d) where
 
   -- rules 3.15 and 3.16 in one pass
   pub devices-pass : every userCount (λ u. onDevice d (suc u))
-      ≡ (deviceTest (kinds d) (counts d) (places d) (devices d) && aloneTest (kinds d) (counts d) (places d) (devices d))
+      ≡ (deviceTest (kinds d) (usedPlaces d) (places d) (devices d) && aloneTest (kinds d) (usedPlaces d) (places d) (devices d))
   devices-pass = equal-bools (every userCount (λ u. onDevice d (suc u)))
-      (deviceTest (kinds d) (counts d) (places d) (devices d) && aloneTest (kinds d) (counts d) (places d) (devices d))
+      (deviceTest (kinds d) (usedPlaces d) (places d) (devices d) && aloneTest (kinds d) (usedPlaces d) (places d) (devices d))
       (λ t. let f = all-on .to t in agrees-and on-device by-self .from (λ u q. f u q .0, alone-of f))
       (λ t. let z = agrees-and on-device by-self .to t in all-on .from (λ u q. (z .0 u q, λ v h e. omega (arith, z .1 u (suc v) q (sym e)))))
 
@@ -84,11 +84,11 @@ regroup u dv al e c i o l = equal-bools (u && ((dv && al) && ((e && (c && i)) &&
 module _ (d : Tables) (o : Bounded d) where
   -- rules 3.13 and 3.14
   abbrev Tree : Bool
-  Tree = oneTest (kinds d) (counts d) (places d) (devices d) && loopTest (kinds d) (counts d) (places d) (devices d)
+  Tree = oneTest (kinds d) (usedPlaces d) (places d) (devices d) && loopTest (kinds d) (usedPlaces d) (places d) (devices d)
 
   -- each entity by itself, what stands in its places and its screen
   entities-pass : every entityCount (λ e. ownTest d (suc e)) ≡ (every entityCount (λ e. entityTest (d .entity (suc e)))
-      && (contentsTest (kinds d) (counts d) (places d) (devices d) && idleTest (kinds d) (counts d) (places d) (devices d)))
+      && (contentsTest (kinds d) (usedPlaces d) (places d) (devices d) && idleTest (kinds d) (usedPlaces d) (places d) (devices d)))
   unfolding ownTest contentsTest idleTest contentsAt idleAt
   entities-pass = every-both entityCount (λ e. entityTest (d .entity (suc e))) (λ e. contentsAt d (suc e) && idleAt d (suc e))
       ∙ ap (λ (b : Bool). every entityCount (λ e. entityTest (d .entity (suc e))) && b)
@@ -99,10 +99,10 @@ module _ (d : Tables) (o : Bounded d) where
       && (every entityCount (λ e. ownTest d (suc e)) && Tree))) ≡ wellFormedTest d
   unfolding wellFormedTest linksTest
   passes-all = rw (devices-pass d o, entities-pass) (regroup (every userCount (λ u. userTest (d .user (suc u))))
-      (deviceTest (kinds d) (counts d) (places d) (devices d)) (aloneTest (kinds d) (counts d) (places d) (devices d))
-      (every entityCount (λ e. entityTest (d .entity (suc e)))) (contentsTest (kinds d) (counts d) (places d) (devices d))
-      (idleTest (kinds d) (counts d) (places d) (devices d)) (oneTest (kinds d) (counts d) (places d) (devices d))
-      (loopTest (kinds d) (counts d) (places d) (devices d)))
+      (deviceTest (kinds d) (usedPlaces d) (places d) (devices d)) (aloneTest (kinds d) (usedPlaces d) (places d) (devices d))
+      (every entityCount (λ e. entityTest (d .entity (suc e)))) (contentsTest (kinds d) (usedPlaces d) (places d) (devices d))
+      (idleTest (kinds d) (usedPlaces d) (places d) (devices d)) (oneTest (kinds d) (usedPlaces d) (places d) (devices d))
+      (loopTest (kinds d) (usedPlaces d) (places d) (devices d)))
 
   -- what each pass has found, in turn
   module _ (u : Bool) (ue : u ≡ every userCount (λ u. userTest (d .user (suc u)))) where

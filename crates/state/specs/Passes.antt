@@ -11,8 +11,8 @@ use Rattle.model.specs.State.Secure.{labelled}
 use Rattle.model.specs.State.Tests.{entityTest, tripleTest}
 use Rattle.model.specs.Tables.Layout.{entityWidth, userWidth}
 use Rattle.model.specs.Tables.WordAt.{entityWordAt, userWordAt}
-use Rattle.model.specs.Tables.Words.{Tables, containerKind, counts, deviceKind, devices, entityCount, kinds, level, objectKind, placeCount, places}
-use Rattle.model.specs.Tables.Words.{sumLimit, sums, userCount}
+use Rattle.model.specs.Tables.Words.{Tables, containerKind, usedPlaces, deviceKind, devices, entityCount, kinds, level, objectKind, placeCount, places}
+use Rattle.model.specs.Tables.Words.{sumMost, sums, userCount}
 
 -- ---- users
 
@@ -36,14 +36,14 @@ unfoldable pub entityBlank : Tables → ℕ → Bool
 entityBlank d e = every entityWidth (λ f. eqb (d .entity e (entityWordAt f)) 0)
 
 -- how many places an entity of kind k may use
-unfoldable pub countTest : ℕ → ℕ → Bool
-countTest k n = leb n placeCount && imp (eqb k objectKind) (eqb n 0)
+unfoldable pub usedTest : ℕ → ℕ → Bool
+usedTest k n = leb n placeCount && imp (eqb k objectKind) (eqb n 0)
 
 -- place i of entity e: beyond the places used there is nothing; in them stands what may, and only a device shows some of it
 unfoldable pub placeTest : Tables → ℕ → ℕ → Bool
-placeTest d e i = pick (leb (counts d e) i) (eqb (places d e i) 0 && eqb (sums d e i) 0)
+placeTest d e i = pick (leb (usedPlaces d e) i) (eqb (places d e i) 0 && eqb (sums d e i) 0)
     (leb objectKind (kinds d (places d e i)) && (leb (kinds d (places d e i)) containerKind
-    && (imp (eqb (kinds d e) deviceKind) (leb 1 (sums d e i) && leb (sums d e i) sumLimit) && imp (not (eqb (kinds d e) deviceKind)) (eqb (sums d e i) 0))))
+    && (imp (eqb (kinds d e) deviceKind) (leb 1 (sums d e i) && leb (sums d e i) sumMost) && imp (not (eqb (kinds d e) deviceKind)) (eqb (sums d e i) 0))))
 
 -- what stands at i of a row stands nowhere before it
 unfoldable pub unlike : (ℕ → ℕ) → ℕ → Bool
@@ -59,11 +59,11 @@ tripleNew row i = pick (eqb (row i) 0) (leb 7 i || eqb (row (i + 1)) 0) (tripleT
 
 -- only objects and containers stand in the places of e
 unfoldable pub contentsAt : Tables → ℕ → Bool
-contentsAt d e = every placeCount (λ i. imp (ltb i (counts d e)) (leb objectKind (kinds d (places d e i)) && leb (kinds d (places d e i)) containerKind))
+contentsAt d e = every placeCount (λ i. imp (ltb i (usedPlaces d e)) (leb objectKind (kinds d (places d e i)) && leb (kinds d (places d e i)) containerKind))
 
 -- a device that nobody is on shows nothing
 unfoldable pub idleAt : Tables → ℕ → Bool
-idleAt d e = imp (eqb (kinds d e) deviceKind) (imp (every userCount (λ u. not (eqb (devices d (suc u)) e))) (eqb (counts d e) 0))
+idleAt d e = imp (eqb (kinds d e) deviceKind) (imp (every userCount (λ u. not (eqb (devices d (suc u)) e))) (eqb (usedPlaces d e) 0))
 
 -- all that is asked of entity e but for what it stands in
 unfoldable pub ownTest : Tables → ℕ → Bool
@@ -71,7 +71,7 @@ ownTest d e = entityTest (d .entity e) && (contentsAt d e && idleAt d e)
 
 -- no entity stands in two containers, and none lies in itself
 abbrev pub treeTest : Tables → Bool
-treeTest d = oneTest (kinds d) (counts d) (places d) (devices d) && loopTest (kinds d) (counts d) (places d) (devices d)
+treeTest d = oneTest (kinds d) (usedPlaces d) (places d) (devices d) && loopTest (kinds d) (usedPlaces d) (places d) (devices d)
 
 -- every entity is in order but for what it stands in
 abbrev pub allOwn : Tables → Bool

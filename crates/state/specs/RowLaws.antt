@@ -8,12 +8,12 @@ use borrow.Author.Tests.{eq-eqb, le-leb, lt-leb, ne-eqb}
 use Rattle.laws.specs.Bools.{or-imp, or-imp-not}
 use Rattle.model.specs.Basics.Tests.{every}
 use Rattle.model.specs.State.Tests.{tripleTest}
-use Rattle.model.specs.Tables.Words.{Tables, counts, deviceKind, kinds, places, sums}
+use Rattle.model.specs.Tables.Words.{Tables, usedPlaces, deviceKind, kinds, places, sums}
 use Rattle.state.specs.Passes.{newAt, placeTest, tripleNew, unlike}
 
 -- ---- a place, which holds x and of which v is shown, of an entity that uses n places
 
-module _ (d : Tables) (e i n x v : ℕ) (ne : n ≡ counts d e) (xe : x ≡ places d e i) (ve : v ≡ sums d e i) where
+module _ (d : Tables) (e i n x v : ℕ) (ne : n ≡ usedPlaces d e) (xe : x ≡ places d e i) (ve : v ≡ sums d e i) where
   -- a place that is not used
   pub place-beyond : n ≤ i → (eqb x 0 && eqb v 0) ≡ placeTest d e i
   unfolding placeTest

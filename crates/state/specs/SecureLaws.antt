@@ -17,7 +17,7 @@ use Rattle.model.specs.LevelLaws.{atMost-ordered}
 use Rattle.model.specs.State.Check.{ceilingTest, containedTest, labelledTest, rolesTest, secureTest, seenTest}
 use Rattle.model.specs.State.Secure.{labelled}
 use Rattle.model.specs.Tables.Layout.{Bounded}
-use Rattle.model.specs.Tables.Words.{Tables, authorised, clearance, count, counts, current, deviceKind, devices, entityCount, kinds, level}
+use Rattle.model.specs.Tables.Words.{Tables, authorised, clearance, used, usedPlaces, current, deviceKind, devices, entityCount, kinds, level}
 use Rattle.model.specs.Tables.Words.{maximum, placeCount, places, sums, userCount}
 use Rattle.state.specs.Passes.{allSecure, capped, entitySecure, placeSecure, userSecure}
 
@@ -57,11 +57,11 @@ capped-every n p = equal-bools (every (capped n) p) (every placeCount (λ i. imp
 -- ---- entities
 
 -- rules 4.1 and 4.3 of entity e, place by place
-places-secure : (d : Tables) (e : ℕ) → every (capped (counts d e)) (placeSecure d e) ≡ (containedTest d e && labelledTest d e)
+places-secure : (d : Tables) (e : ℕ) → every (capped (usedPlaces d e)) (placeSecure d e) ≡ (containedTest d e && labelledTest d e)
 unfolding placeSecure containedTest labelledTest
-places-secure d e = capped-every (counts d e) (placeSecure d e)
-    ∙ every-same placeCount (λ i. imp (ltb i (counts d e)) (placeSecure d e i)) (λ i. contained i && imp device (shown i))
-    (λ i h. imp-both (ltb i (counts d e)) (atMost (d .entity (places d e i) level) (d .entity e level)) device (labelled (sums d e i)))
+places-secure d e = capped-every (usedPlaces d e) (placeSecure d e)
+    ∙ every-same placeCount (λ i. imp (ltb i (usedPlaces d e)) (placeSecure d e i)) (λ i. contained i && imp device (shown i))
+    (λ i h. imp-both (ltb i (usedPlaces d e)) (atMost (d .entity (places d e i) level) (d .entity e level)) device (labelled (sums d e i)))
     ∙ every-both placeCount contained (λ i. imp device (shown i))
     ∙ ap (λ (b : Bool). every placeCount contained && b) (imp-every device placeCount shown)
   where
@@ -69,10 +69,10 @@ places-secure d e = capped-every (counts d e) (placeSecure d e)
     device = eqb (kinds d e) deviceKind
 
     contained : ℕ → Bool
-    contained i = imp (ltb i (counts d e)) (atMost (d .entity (places d e i) level) (d .entity e level))
+    contained i = imp (ltb i (usedPlaces d e)) (atMost (d .entity (places d e i) level) (d .entity e level))
 
     shown : ℕ → Bool
-    shown i = imp (ltb i (counts d e)) (labelled (sums d e i))
+    shown i = imp (ltb i (usedPlaces d e)) (labelled (sums d e i))
 
 -- the same of place i, which holds x of level m, in an entity of level l; v is shown of it
 pub place-secure : (d : Tables) (e i x m l v : ℕ) (a b s : Bool) → x ≡ places d e i → m ≡ d .entity x level → l ≡ d .entity e level → a ≡ atMost m l
@@ -81,13 +81,13 @@ unfolding placeSecure
 place-secure d e i x m l v a b s xe me le ae ve be se = rw (ae, me, xe, le, be, ve, se, or-imp (eqb (kinds d e) deviceKind) (labelled (sums d e i)))
 
 -- and 4.5 of a device
-pub entity-secure : (d : Tables) (e : ℕ) → (every (capped (counts d e)) (placeSecure d e)
+pub entity-secure : (d : Tables) (e : ℕ) → (every (capped (usedPlaces d e)) (placeSecure d e)
     && imp (eqb (kinds d e) deviceKind) (atMost (d .entity e level) (d .entity e maximum))) ≡ entitySecure d e
 unfolding entitySecure ceilingTest
 entity-secure d e = ap (λ (b : Bool). b && ceilingTest d e) (places-secure d e) ∙ and-assoc (containedTest d e) (labelledTest d e) (ceilingTest d e)
 
 -- what the pass over entity e has read: its count, whether it is a device, whether its places are secure
-module _ (d : Tables) (e n c : ℕ) (s p : Bool) (ce : c ≡ counts d e) (ne : n ≡ capped c) (se : s ≡ eqb (kinds d e) deviceKind)
+module _ (d : Tables) (e n c : ℕ) (s p : Bool) (ce : c ≡ usedPlaces d e) (ne : n ≡ capped c) (se : s ≡ eqb (kinds d e) deviceKind)
     (pe : p ≡ every n (placeSecure d e)) where
   -- what is asked of it, in these words
   entity-read : (p && imp s (atMost (d .entity e level) (d .entity e maximum))) ≡ entitySecure d e
@@ -116,31 +116,31 @@ unfolding seenTest imp
 seen-off d u q = rw (eq-eqb (devices d u) 0 q)
 
 -- nor does who is on what is no entity
-seen-beyond : (d : Tables) (u : ℕ) → counts d (devices d u) ≡ 0 → seenTest d u ≡ true
+seen-beyond : (d : Tables) (u : ℕ) → usedPlaces d (devices d u) ≡ 0 → seenTest d u ≡ true
 unfolding seenTest
 seen-beyond d u z = holds-true (seenTest d u) (agrees-imp (agrees-T (not (eqb (devices d u) 0))) (agrees-T _) .from
-    (λ t. every-of placeCount _ (λ i h. agrees-imp (agrees-le (suc i) (counts d (devices d u))) (agrees-T _) .from (λ l. absurd (omega arith)))))
+    (λ t. every-of placeCount _ (λ i h. agrees-imp (agrees-le (suc i) (usedPlaces d (devices d u))) (agrees-T _) .from (λ l. absurd (omega arith)))))
 
 -- else the first places of the device are compared with the clearance
 seen-on : (d : Tables) (u : ℕ) → devices d u ≢ 0
-    → every (capped (counts d (devices d u))) (λ i. atMost (d .entity (places d (devices d u) i) level) (d .user u clearance)) ≡ seenTest d u
+    → every (capped (usedPlaces d (devices d u))) (λ i. atMost (d .entity (places d (devices d u) i) level) (d .user u clearance)) ≡ seenTest d u
 unfolding seenTest imp
-seen-on d u q = rw (ne-eqb (devices d u) 0 q) (capped-every (counts d (devices d u))
+seen-on d u q = rw (ne-eqb (devices d u) 0 q) (capped-every (usedPlaces d (devices d u))
     (λ i. atMost (d .entity (places d (devices d u) i) level) (d .user u clearance)))
 
 -- what stands in an entity that keeps rule 4.1 is at most every level that the entity's own is at most
 contained-below : (d : Tables) (v c : ℕ) → T (entitySecure d v) → AtMost (d .entity v level) c
-    → every (capped (counts d v)) (λ i. atMost (d .entity (places d v i) level) c) ≡ true
+    → every (capped (usedPlaces d v)) (λ i. atMost (d .entity (places d v i) level) c) ≡ true
 unfolding entitySecure containedTest
-contained-below d v c s h = holds-true _ (every-of (capped (counts d v)) (λ i. atMost (d .entity (places d v i) level) c)
-    (λ i l. atMost-ordered .transitive _ _ _ (every-at (capped (counts d v)) own kept i l) h))
+contained-below d v c s h = holds-true _ (every-of (capped (usedPlaces d v)) (λ i. atMost (d .entity (places d v i) level) c)
+    (λ i l. atMost-ordered .transitive _ _ _ (every-at (capped (usedPlaces d v)) own kept i l) h))
   where
     own : ℕ → Bool
     own i = atMost (d .entity (places d v i) level) (d .entity v level)
 
-    kept : T (every (capped (counts d v)) own)
-    kept = is-true (every (capped (counts d v)) own)
-        (capped-every (counts d v) own ∙ and-l (containedTest d v) (labelledTest d v && ceilingTest d v) (holds-true (entitySecure d v) s))
+    kept : T (every (capped (usedPlaces d v)) own)
+    kept = is-true (every (capped (usedPlaces d v)) own)
+        (capped-every (usedPlaces d v) own ∙ and-l (containedTest d v) (labelledTest d v && ceilingTest d v) (holds-true (entitySecure d v) s))
 
 -- what the pass over user u has read: the roles, and whether all that are taken are authorised
 module _ (d : Tables) (u c a : ℕ) (r : Bool) (ce : c ≡ d .user u current) (ae : a ≡ d .user u authorised) (re : r ≡ subset roleCount c a) where
@@ -175,17 +175,17 @@ module _ (d : Tables) (u c a : ℕ) (r : Bool) (ce : c ≡ d .user u current) (a
 
     -- on what is no entity
     pub user-beyond : Bounded d → entityCount < v → true ≡ userSecure d u
-    user-beyond o h = seen-rest t true (sym (seen-beyond d u (o .entityOut (devices d u) (inr (omega arith)) count)))
+    user-beyond o h = seen-rest t true (sym (seen-beyond d u (o .entityOut (devices d u) (inr (omega arith)) used)))
 
     -- on a device
-    pub user-on : 1 ≤ v → (b : Bool) (l k n : ℕ) → l ≡ d .user u clearance → k ≡ counts d v → n ≡ capped k
+    pub user-on : 1 ≤ v → (b : Bool) (l k n : ℕ) → l ≡ d .user u clearance → k ≡ usedPlaces d v → n ≡ capped k
         → b ≡ every n (λ i. atMost (d .entity (places d v i) level) l) → b ≡ userSecure d u
     user-on h b l k n le ke ne be = seen-rest t b (be ∙ rw (ne, ke, le, ve) (seen-on d u (λ q. omega arith)))
 
     -- on a device whose own level is at most the clearance, where every entity keeps rule 4.1
     pub user-below : 1 ≤ v → v ≤ entityCount → allSecure d ≡ true → (b : Bool) (m l : ℕ) → m ≡ d .entity v level → l ≡ d .user u clearance
         → b ≡ atMost m l → b ≡ true → true ≡ userSecure d u
-    user-below h k s b m l me le be bt = user-on h true l (counts d v) (capped (counts d v)) le refl refl
+    user-below h k s b m l me le be bt = user-on h true l (usedPlaces d v) (capped (usedPlaces d v)) le refl refl
         (sym (contained-below d v l at-v (is-true _ (rw me at (sym be ∙ bt)))))
       where
         at-v : T (entitySecure d v)

@@ -11,7 +11,7 @@ use Rattle.model.specs.Basics.Choice.{Below, below, over, under}
 use Rattle.model.specs.Basics.TestLaws.{equal-bools, is-true}
 use Rattle.model.specs.Basics.Tests.{every}
 use Rattle.model.specs.Tables.Layout.{Bounded}
-use Rattle.model.specs.Tables.Words.{Tables, counts, placeCount, places}
+use Rattle.model.specs.Tables.Words.{Tables, usedPlaces, placeCount, places}
 use Rattle.state.specs.EntityLaws.{Placed, place-agrees, placed-used}
 use Rattle.state.specs.Passes.{newAt, placeTest, unlike}
 
@@ -46,7 +46,7 @@ module _ (row : ℕ → ℕ) (n : ℕ) (room : n ≤ placeCount) (used : (i : �
       (λ t. every-of n (unlike row) (λ i l. unlike-place i l (new-agrees row i .to (every-at placeCount (newAt row) t i (omega arith)))))
 
 -- the n places that entity e uses, where each place is in order
-pub places-unlike : (d : Tables) (o : Bounded d) (e n : ℕ) → n ≤ placeCount → n ≡ counts d e → every placeCount (placeTest d e) ≡ true
+pub places-unlike : (d : Tables) (o : Bounded d) (e n : ℕ) → n ≤ placeCount → n ≡ usedPlaces d e → every placeCount (placeTest d e) ≡ true
     → every n (unlike (places d e)) ≡ every placeCount (newAt (places d e))
 places-unlike d o e n room ne fine = unlike-new (places d e) n room
     (λ i l. placed-used d o e i (omega arith) (placed i (omega arith)))

@@ -9,8 +9,8 @@ ghost use Rattle.model.specs.Basics.Tests.{every};
 ghost use Rattle.model.specs.State.Tests.{shapeTest, tripleTest};
 ghost use Rattle.model.specs.Tables.Layout.{entityWidth, tablesOf, wordCount};
 ghost use Rattle.model.specs.Tables.WordAt.{entityWordAt};
-ghost use Rattle.model.specs.Tables.Words.{counts, deviceKind, entityCount, kinds, placeCount, places, triples};
-ghost use Rattle.state.specs.Passes.{countTest, entityBlank, newAt, ownTest, placeTest, tripleNew, unlike};
+ghost use Rattle.model.specs.Tables.Words.{usedPlaces, deviceKind, entityCount, kinds, placeCount, places, triples};
+ghost use Rattle.state.specs.Passes.{usedTest, entityBlank, newAt, ownTest, placeTest, tripleNew, unlike};
 ghost use Rattle.tables.specs.Singles.{EntityIn};
 
 // Whether word f of entity e is zero.
@@ -52,15 +52,15 @@ fn shape_fine(k: u32, y: u32, l: u32, m: u32, v: u32, b: u32, x: u32) -> bool
 }
 
 // Whether an entity of kind k may use n places.
-fn count_fine(k: u32, n: u32) -> bool
-    ensures { λ r. ⌜ r ≡ countTest k n ⌝ }
+fn used_fine(k: u32, n: u32) -> bool
+    ensures { λ r. ⌜ r ≡ usedTest k n ⌝ }
 {
     (n <= 8) & (!(k == 1) | (n == 0))
 }
 
 // Whether place i of entity e, which uses n places and is a device or not, holds what it may and shows what it may.
 fn place_fine(t: &[u32], e: Entity, s: bool, n: u32, i: u32) -> bool
-    requires { ⌜ EntityIn (now t) (e .0) × (n ≡ counts (tablesOf (now t)) (e .0)) × (s ≡ eqb (kinds (tablesOf (now t)) (e .0)) deviceKind) × (i < placeCount) ⌝ }
+    requires { ⌜ EntityIn (now t) (e .0) × (n ≡ usedPlaces (tablesOf (now t)) (e .0)) × (s ≡ eqb (kinds (tablesOf (now t)) (e .0)) deviceKind) × (i < placeCount) ⌝ }
     ensures { λ r. ⌜ r ≡ placeTest (tablesOf (now (t .entry))) (e .0) i ⌝ }
 {
     let c = tables::place(t, e, i);
@@ -76,7 +76,7 @@ fn place_fine(t: &[u32], e: Entity, s: bool, n: u32, i: u32) -> bool
 
 // Whether every place of entity e is in order by itself.
 fn places_fine(t: &[u32], e: Entity, s: bool, n: u32) -> bool
-    requires { ⌜ EntityIn (now t) (e .0) × (n ≡ counts (tablesOf (now t)) (e .0)) × (s ≡ eqb (kinds (tablesOf (now t)) (e .0)) deviceKind) ⌝ }
+    requires { ⌜ EntityIn (now t) (e .0) × (n ≡ usedPlaces (tablesOf (now t)) (e .0)) × (s ≡ eqb (kinds (tablesOf (now t)) (e .0)) deviceKind) ⌝ }
     ensures { λ r. ⌜ r ≡ every placeCount (placeTest (tablesOf (now (t .entry))) (e .0)) ⌝ }
 {
     let mut i: u32 = 0;
@@ -119,7 +119,7 @@ fn place_new(t: &[u32], e: Entity, i: u32) -> bool
 // Whether the n places that entity e uses are distinct, where each is in order by itself. All eight are looked at, since a loop that always
 // ends at the same place has no end to be guessed; those not used are zero and pass.
 fn places_new(t: &[u32], e: Entity, n: u32) -> bool
-    requires { ⌜ EntityIn (now t) (e .0) × (n ≤ placeCount) × (n ≡ counts (tablesOf (now t)) (e .0)) × (every placeCount (placeTest (tablesOf (now t)) (e .0)) ≡ true) ⌝ }
+    requires { ⌜ EntityIn (now t) (e .0) × (n ≤ placeCount) × (n ≡ usedPlaces (tablesOf (now t)) (e .0)) × (every placeCount (placeTest (tablesOf (now t)) (e .0)) ≡ true) ⌝ }
     ensures { λ r. ⌜ r ≡ every n (unlike (places (tablesOf (now (t .entry))) (e .0))) ⌝ }
 {
     if n < 2 {
@@ -217,8 +217,8 @@ fn present_fine(t: &[u32], e: Entity, k: u32) -> bool
     ) {
         return false;
     }
-    let n = tables::count(t, e);
-    if !count_fine(k, n) {
+    let n = tables::used(t, e);
+    if !used_fine(k, n) {
         return false;
     }
     if !places_fine(t, e, k == tables::DEVICE, n) {

@@ -61,7 +61,7 @@ fn entity_secure(t: &[u32], e: Entity) -> bool
     requires { ⌜ EntityIn (now t) (e .0) ⌝ }
     ensures { λ r. ⌜ r ≡ entitySecure (tablesOf (now (t .entry))) (e .0) ⌝ }
 {
-    let n = at_most_eight(tables::count(t, e));
+    let n = at_most_eight(tables::used(t, e));
     let l = tables::level(t, e);
     let s = tables::kind(t, e) == tables::DEVICE;
     if !places_secure(t, e, l, s, n) {
@@ -132,7 +132,7 @@ fn user_secure(t: &[u32], u: User) -> bool
     if levels::at_most(tables::level(t, v), c) {
         return true;
     }
-    places_below(t, v, c, at_most_eight(tables::count(t, v)))
+    places_below(t, v, c, at_most_eight(tables::used(t, v)))
 }
 
 // Whether every user keeps rules 4.2 and 4.4, where every entity is secure.

@@ -22,7 +22,7 @@ fn note_row(t: &[u32], h: &mut [u32; 65], c: Entity) -> bool
     if tables::kind(t, c) != tables::CONTAINER {
         return true;
     }
-    let n = tables::count(t, c);
+    let n = tables::used(t, c);
     let mut i: u32 = 0;
     while i < n {
         let x = tables::place(t, c, i).0;

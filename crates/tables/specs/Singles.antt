@@ -4,7 +4,7 @@ use mathlib.Core.Path.{_≡_}
 use Prim.Native.Nat.{_≤_, ℕ}
 use lib.ListN.{getD, length}
 use Rattle.model.specs.Tables.Layout.{wordCount}
-use Rattle.model.specs.Tables.Words.{EntityWord, UserWord, authorised, clearance, count, current, device, entityCount, held, heldOp, kind}
+use Rattle.model.specs.Tables.Words.{EntityWord, UserWord, authorised, clearance, used, current, device, entityCount, held, heldOp, kind}
 use Rattle.model.specs.Tables.Words.{level, mark, maximum, missed, present, releaser, type, userCount, value}
 
 -- the first eight words of a user
@@ -13,7 +13,7 @@ userSingle f = getD (present ∷ clearance ∷ authorised ∷ current ∷ device
 
 -- the first eight words of an entity
 abbrev pub entitySingle : ℕ → EntityWord
-entitySingle f = getD (kind ∷ type ∷ level ∷ mark ∷ value ∷ releaser ∷ maximum ∷ count ∷ []) f kind
+entitySingle f = getD (kind ∷ type ∷ level ∷ mark ∷ value ∷ releaser ∷ maximum ∷ used ∷ []) f kind
 
 -- the tables are whole, and u is the number of a user's record
 abbrev pub UserIn : List ℕ → ℕ → Type 0

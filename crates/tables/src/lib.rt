@@ -10,7 +10,7 @@ ghost use lib.ListN.{length};
 ghost use Rattle.model.specs.Tables.Edits.{onEntity, onUser, userWord, word};
 ghost use Rattle.model.specs.Tables.Layout.{entityWidth, tablesOf, userWidth, wordCount};
 ghost use Rattle.model.specs.Tables.WordAt.{entityWordAt, userWordAt};
-ghost use Rattle.model.specs.Tables.Words.{authorised, clearance, count, current, device, held, heldOp, kind, level, mark, maximum, missed};
+ghost use Rattle.model.specs.Tables.Words.{authorised, clearance, used, current, device, held, heldOp, kind, level, mark, maximum, missed};
 ghost use Rattle.model.specs.Tables.Words.{place, placeCount, present, releaser, shown, triple, type, value};
 ghost use Rattle.tables.specs.Singles.{EntityIn, UserIn, entitySingle, userSingle};
 
@@ -252,9 +252,9 @@ pub fn maximum(t: &[u32], e: Entity) -> Level
 }
 
 // How many places entity e uses.
-pub fn count(t: &[u32], e: Entity) -> u32
+pub fn used(t: &[u32], e: Entity) -> u32
     requires { ⌜ EntityIn (now t) (e .0) ⌝ }
-    ensures { λ r. ⌜ r ≡ tablesOf (now (t .entry)) .entity (e .0) count ⌝ }
+    ensures { λ r. ⌜ r ≡ tablesOf (now (t .entry)) .entity (e .0) used ⌝ }
 {
     entity_word(t, e, 7)
 }
@@ -352,9 +352,9 @@ pub fn set_maximum(t: &mut [u32], e: Entity, v: Level)
 }
 
 // Entity e uses v places now, and no other word has changed.
-pub fn set_count(t: &mut [u32], e: Entity, v: u32)
+pub fn set_used(t: &mut [u32], e: Entity, v: u32)
     requires { ⌜ EntityIn (now t) (e .0) ⌝ }
-    ensures { λ _. ⌜ tablesOf (now (t .exit)) ≡ onEntity (e .0) (word count v) (tablesOf (now (t .entry))) ⌝ }
+    ensures { λ _. ⌜ tablesOf (now (t .exit)) ≡ onEntity (e .0) (word used v) (tablesOf (now (t .entry))) ⌝ }
 {
     set_entity_word(t, e, 7, v);
 }

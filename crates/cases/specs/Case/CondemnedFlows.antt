@@ -21,7 +21,7 @@ use Rattle.model.specs.Request.Operations.{Op, numberOf, opOf, toClear, toCopy,
 use Rattle.model.specs.Request.TestLaws.{permits-agrees}
 use Rattle.model.specs.Request.Words.{Request}
 use Rattle.model.specs.Tables.Edits.{_and_, onEntity, onUser, userWord, word}
-use Rattle.model.specs.Tables.Words.{EntityWord, Tables, count, counts, device, idBit, place, shown, sums, value}
+use Rattle.model.specs.Tables.Words.{EntityWord, Tables, used, usedPlaces, device, idBit, place, shown, sums, value}
 use Rattle.model.specs.Theorem.Definitions.{AccessSecure, CcrSecure, CopySecure, Flows, NamedOpenly, Quiet, ShowsId}
 use Rattle.model.specs.Theorem.Definitions.{TranslationSecure}
 
@@ -69,17 +69,17 @@ copy-condemned = copy-rejects toCopy refl (λ h. loud 7 value h tt) (λ f. f .co
 
 -- entity x alone on device v, with the sum n
 abbrev screening : ℕ → ℕ → ℕ → Tables → Tables
-screening v x n = onEntity v (word count 1 and word (place 0) x and word (shown 0) n)
+screening v x n = onEntity v (word used 1 and word (place 0) x and word (shown 0) n)
 
 -- Rule 9.6: the desk showed 6, at 513, on device 2, at 512, to user 2.
 pub show-condemned : CopySecure s1 (ask 2 10 (6 ∷ []) [] 3 0 0) (screening 2 6 3 s1) → ⊥
 unfolding opened s1 s1Sheet
-show-condemned = copy-rejects toShow refl (λ h. loud 2 count h tt) (λ f. f .shown refl (kept 2 tt) (kept 3 tt))
+show-condemned = copy-rejects toShow refl (λ h. loud 2 used h tt) (λ f. f .shown refl (kept 2 tt) (kept 3 tt))
 
 -- Rule 9.6: the desk showed 5 on device 3 to user 3, who is on no device.
 pub show-off-condemned : CopySecure s1 (ask 3 10 (5 ∷ []) [] 3 0 0) (screening 3 5 3 s1) → ⊥
 unfolding opened s1 s1Sheet
-show-off-condemned = copy-rejects toShow refl (λ h. loud 3 count h tt) (λ f. f .screen refl refl)
+show-off-condemned = copy-rejects toShow refl (λ h. loud 3 used h tt) (λ f. f .screen refl refl)
 
 -- Container 4 is marked and above user 2.
 barred : {w : List ℕ} → Open s1 2 (4 ∷ w) → ⊥
@@ -98,7 +98,7 @@ second-ccr-condemned = ccr-rejects toCopy refl (λ h. loud 5 value h tt) 2 (lit�
 
 -- S1 with the marked container 4 in container 7
 abbrev s1Nested : Tables
-s1Nested = onEntity 7 (word count 1 and word (place 0) 4) s1
+s1Nested = onEntity 7 (word used 1 and word (place 0) 4) s1
 
 -- Rule 9.7: the desk edited 5 for user 2, who named it 7.1.1: the marked container is the second on the way.
 pub deep-ccr-condemned : CcrSecure s1Nested (ask 2 4 (7 ∷ 1 ∷ 1 ∷ []) [] 41 0 0) (onEntity 5 (word value 41) s1Nested) → ⊥
@@ -162,7 +162,7 @@ named-one {d} {q} {x} p e a z =
     subst (λ (j : ℕ). (operand (asked d q) j ≡ x) × Open d (q .user) (basisOf (asked d q) j)) k (z .2 .2, z .2 .3)
 
 -- An empty device shows nothing.
-dark : (d : Tables) (v : ℕ) {x : ℕ} → counts d v ≡ 0 → ShowsId d v x → ⊥
+dark : (d : Tables) (v : ℕ) {x : ℕ} → usedPlaces d v ≡ 0 → ShowsId d v x → ⊥
 dark d v e z = omega (arith, e, z .1 .1)
 
 -- The sum 4 shows the ID,

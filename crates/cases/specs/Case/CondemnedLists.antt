@@ -8,15 +8,16 @@ use lib.ListN.{drop, getD, length}
 use Rattle.cases.specs.Case.Condemned.{differ}
 use Rattle.cases.specs.Case.S1List.{s1-list-2, s1-list-2-short, s1-list-off, s1-list-unmarked, s1Unmarked}
 use Rattle.cases.specs.Case.S1Words.{s1Words}
-use Rattle.model.specs.List.Listing.{Lists, roomShort}
+use Rattle.model.specs.List.Listing.{Lists}
 use Rattle.model.specs.List.ListingLaws.{lists-unique}
+use Rattle.model.specs.Request.Refusals as refusal
 
 -- Rule 10.2: the desk offered a list to user 3, who is off.
 pub offered-condemned : (room : List ℕ) (n : ℕ) (r : List ℕ) → Lists s1Words 3 room 0 n r → ⊥
 offered-condemned room n r x = differ 0 6 tt (lists-unique x (s1-list-off room) .0)
 
 -- Rule 10.2: in a room of fewer than five words the desk answered 17 for user 2, and wrote in it all the same.
-pub overwritten-condemned : (room r : List ℕ) → (r ≡ room → ⊥) → length room < 5 → Lists s1Words 2 room roomShort 1 r → ⊥
+pub overwritten-condemned : (room r : List ℕ) → (r ≡ room → ⊥) → length room < 5 → Lists s1Words 2 room refusal.tooShort 1 r → ⊥
 overwritten-condemned room r other h x = other (lists-unique x (s1-list-2-short room h) .2)
 
 module _ (room : List ℕ) where

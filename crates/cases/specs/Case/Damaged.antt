@@ -6,7 +6,7 @@ use lib.Dec.{eqb}
 use Rattle.cases.specs.Case.Cases.{Stands, entityIs, userIs}
 use Rattle.model.specs.State.Check.{judge}
 use Rattle.model.specs.Tables.Edits.{onEntity, onUser, userWord, word}
-use Rattle.model.specs.Tables.Words.{Tables, authorised, clearance, count, current, device, held, heldOp, kind, level, mark, maximum}
+use Rattle.model.specs.Tables.Words.{Tables, authorised, clearance, used, current, device, held, heldOp, kind, level, mark, maximum}
 use Rattle.model.specs.Tables.Words.{missed, place, present, releaser, shown, spare, triple, tripleOf, type, value}
 
 -- the tables with these words put
@@ -25,7 +25,7 @@ allFound d (spoilt n ws ∷ ds) = elim (eqb (judge (put-words ws d)) n) [ true �
 
 -- 5 on the screen of user 2, with the sum s
 abbrev onScreen2 : ℕ → List Stands → List Stands
-onScreen2 s ws = entityIs 2 count 1 ∷ entityIs 2 (place 0) 5 ∷ entityIs 2 (shown 0) s ∷ ws
+onScreen2 s ws = entityIs 2 used 1 ∷ entityIs 2 (place 0) 5 ∷ entityIs 2 (shown 0) s ∷ ws
 
 -- Rules 3.1 to 3.3: absent records, ranges.
 unfoldable pub rangeDamages : List Damage
@@ -51,7 +51,7 @@ rangeDamages =
     ∷ spoilt 2 (entityIs 7 level 1024 ∷ [])
     ∷ spoilt 2 (entityIs 4 mark 2 ∷ [])
     ∷ spoilt 2 (entityIs 1 maximum 1024 ∷ [])
-    ∷ spoilt 2 (entityIs 4 count 9 ∷ [])
+    ∷ spoilt 2 (entityIs 4 used 9 ∷ [])
     -- any value is in range
     ∷ spoilt 0 (entityIs 5 value 4294967295 ∷ [])
     ∷ []
@@ -60,8 +60,8 @@ rangeDamages =
 unfoldable pub recordDamages : List Damage
 recordDamages =
     -- 3.4: one too few used, one too many, one twice
-    spoilt 2 (entityIs 4 count 1 ∷ [])
-    ∷ spoilt 2 (entityIs 4 count 3 ∷ [])
+    spoilt 2 (entityIs 4 used 1 ∷ [])
+    ∷ spoilt 2 (entityIs 4 used 3 ∷ [])
     ∷ spoilt 2 (entityIs 4 (place 1) 5 ∷ [])
     -- 3.5: a gap, one twice
     ∷ spoilt 2 (entityIs 5 (triple 0) 0 ∷ [])
@@ -70,7 +70,7 @@ recordDamages =
     ∷ spoilt 2 (entityIs 4 (place 1) 2 ∷ [])
     ∷ spoilt 2 (entityIs 4 (place 1) 9 ∷ [])
     -- 3.7
-    ∷ spoilt 2 (entityIs 5 count 1 ∷ entityIs 5 (place 0) 7 ∷ [])
+    ∷ spoilt 2 (entityIs 5 used 1 ∷ entityIs 5 (place 0) 7 ∷ [])
     -- 3.8: an object that is a draft, a marked object, a marked device
     ∷ spoilt 2 (entityIs 5 type 1 ∷ [])
     ∷ spoilt 2 (entityIs 5 mark 1 ∷ [])
@@ -106,11 +106,11 @@ recordDamages =
 unfoldable pub linkDamages : List Damage
 linkDamages =
     -- 3.13: 5 in two containers; on a screen besides it may be
-    spoilt 2 (entityIs 7 count 1 ∷ entityIs 7 (place 0) 5 ∷ [])
+    spoilt 2 (entityIs 7 used 1 ∷ entityIs 7 (place 0) 5 ∷ [])
     ∷ spoilt 0 (onScreen2 3 [])
     -- 3.14: in itself, and in what it holds
-    ∷ spoilt 2 (entityIs 7 count 1 ∷ entityIs 7 (place 0) 7 ∷ [])
-    ∷ spoilt 2 (entityIs 6 count 1 ∷ entityIs 6 (place 0) 4 ∷ [])
+    ∷ spoilt 2 (entityIs 7 used 1 ∷ entityIs 7 (place 0) 7 ∷ [])
+    ∷ spoilt 2 (entityIs 6 used 1 ∷ entityIs 6 (place 0) 4 ∷ [])
     -- 3.15: on an object, on an absent number
     ∷ spoilt 2 (userIs 3 device 5 ∷ [])
     ∷ spoilt 2 (userIs 3 device 9 ∷ [])
@@ -118,7 +118,7 @@ linkDamages =
     ∷ spoilt 2 (userIs 3 device 2 ∷ [])
     ∷ spoilt 2 (userIs 3 current 2 ∷ [])
     -- 3.18: a screen that nobody is on
-    ∷ spoilt 2 (entityIs 3 level 256 ∷ entityIs 3 count 1 ∷ entityIs 3 (place 0) 5 ∷ entityIs 3 (shown 0) 3 ∷ [])
+    ∷ spoilt 2 (entityIs 3 level 256 ∷ entityIs 3 used 1 ∷ entityIs 3 (place 0) 5 ∷ entityIs 3 (shown 0) 3 ∷ [])
     -- 3.19: 4 and 17 are never held
     ∷ spoilt 2 (userIs 2 held 4 ∷ userIs 2 missed 1 ∷ [])
     ∷ spoilt 2 (userIs 2 held 17 ∷ userIs 2 missed 1 ∷ [])

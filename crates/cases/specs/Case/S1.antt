@@ -2,7 +2,7 @@
 use mathlib.Core.List.{List, [], _∷_}
 use Rattle.cases.specs.Case.Cases.{Case, ask, entityIs, expect, item, userIs}
 use Rattle.model.specs.Tables.Sheet.{Sheet, sheetTables}
-use Rattle.model.specs.Tables.Words.{Tables, containerKind, count, device, deviceKind, draftType, held, heldOp, kind, level, missed}
+use Rattle.model.specs.Tables.Words.{Tables, containerKind, used, device, deviceKind, draftType, held, heldOp, kind, level, missed}
 use Rattle.model.specs.Tables.Words.{objectKind, place, plainType, releasedType, releaser, shown, tripleOf, type, value}
 
 -- present, clearance, authorised, current, device
@@ -36,14 +36,14 @@ s1 = sheetTables s1Sheet
 unfoldable pub starred : List Case
 starred =
     -- user 2 shows 5; by the marked container; the value without its label; a place of an object
-    expect [] (ask 2 10 (5 ∷ []) [] 3 0 0) 0 (entityIs 2 count 1 ∷ entityIs 2 (place 0) 5 ∷ entityIs 2 (shown 0) 3 ∷ [])
+    expect [] (ask 2 10 (5 ∷ []) [] 3 0 0) 0 (entityIs 2 used 1 ∷ entityIs 2 (place 0) 5 ∷ entityIs 2 (shown 0) 3 ∷ [])
     ∷ expect [] (ask 2 10 (4 ∷ 1 ∷ []) [] 3 0 0) 9 []
     ∷ expect [] (ask 2 10 (5 ∷ []) [] 1 0 0) 15 []
     ∷ expect [] (ask 2 10 (5 ∷ 1 ∷ []) [] 3 0 0) 7 []
     -- user 2 copies 5 to 7; creates in 7 at 257, at 0
     ∷ expect [] (ask 2 5 (5 ∷ []) (7 ∷ []) 0 0 0) 0 (entityIs 7 value 40 ∷ [])
     ∷ expect [] (ask 2 1 (7 ∷ []) [] 1 257 0) 13 []
-    ∷ expect [] (ask 2 1 (7 ∷ []) [] 1 0 0) 0 (entityIs 8 kind objectKind ∷ entityIs 7 count 1 ∷ entityIs 7 (place 0) 8 ∷ [])
+    ∷ expect [] (ask 2 1 (7 ∷ []) [] 1 0 0) 0 (entityIs 8 kind objectKind ∷ entityIs 7 used 1 ∷ entityIs 7 (place 0) 8 ∷ [])
     -- user 1 releases 6; with current roles 5
     ∷ expect [] (ask 1 19 (6 ∷ []) [] 0 0 0) 12 []
     ∷ expect (ask 1 14 [] [] 1 5 0 ∷ []) (ask 1 19 (6 ∷ []) [] 0 0 0) 0 (entityIs 6 type releasedType ∷ entityIs 6 releaser 1 ∷ [])

@@ -9,7 +9,7 @@ use Rattle.cases.specs.Case.S1.{s1, s1Sheet}
 use Rattle.cases.specs.Case.S1Words.{s1Words, s1Words-checked, s1Words-length, s1Words-tables}
 use Rattle.model.specs.Effect.Words.{setMark}
 use Rattle.model.specs.List.AdmittedLaws.{barred-checked}
-use Rattle.model.specs.List.Listing.{Lists, barred, entries, loggedOff, noSuchUser, roomShort}
+use Rattle.model.specs.List.Listing.{Lists, barred, entries}
 use Rattle.model.specs.List.ListingLaws.{lists-found, lists-found-short, lists-refused}
 use Rattle.model.specs.List.Ways.{found}
 use Rattle.model.specs.State.AgreeSecure.{check-tables}
@@ -17,6 +17,7 @@ use Rattle.model.specs.State.Check.{check, judge}
 use Rattle.model.specs.Tables.Layout.{entityAt, tablesOf, wordCount}
 use Rattle.model.specs.Tables.LayoutLaws.{entity-set}
 use Rattle.model.specs.Tables.Words.{Tables, mark}
+use Rattle.model.specs.Request.Refusals as refusal
 
 -- What the walk finds: nothing for user 1; 5 for user 2; with 4 unmarked 4.1, too.
 pub s1-found-1 : found s1 1 ≡ []
@@ -59,11 +60,11 @@ pub s1-barred-2 : barred s1Words 2 ≡ 0
 unfolding openedList s1 s1Sheet
 s1-barred-2 = barred-checked s1Words s1 2 s1Words-checked s1Words-tables
 
-pub s1-barred-3 : barred s1Words 3 ≡ loggedOff
+pub s1-barred-3 : barred s1Words 3 ≡ refusal.notLoggedOn
 unfolding openedList s1 s1Sheet
 s1-barred-3 = barred-checked s1Words s1 3 s1Words-checked s1Words-tables
 
-pub s1-barred-9 : barred s1Words 9 ≡ noSuchUser
+pub s1-barred-9 : barred s1Words 9 ≡ refusal.unknownRequester
 unfolding openedList s1 s1Sheet
 s1-barred-9 = barred-checked s1Words s1 9 s1Words-checked s1Words-tables
 
@@ -78,7 +79,7 @@ module _ (room : List ℕ) where
   s1-list-2 = lists-found s1Words 2 room ((5 ∷ []) ∷ []) s1-barred-2 (ap (λ (d : Tables). found d 2) s1Words-tables ∙ s1-found-2)
 
   -- and a room of fewer than five words is too small for it.
-  pub s1-list-2-short : length room < 5 → Lists s1Words 2 room roomShort 1 room
+  pub s1-list-2-short : length room < 5 → Lists s1Words 2 room refusal.tooShort 1 room
   s1-list-2-short = lists-found-short s1Words 2 room ((5 ∷ []) ∷ []) s1-barred-2 (ap (λ (d : Tables). found d 2) s1Words-tables ∙ s1-found-2)
 
   -- With 4 unmarked it is 4.1, then 5.
@@ -87,7 +88,7 @@ module _ (room : List ℕ) where
   s1-list-unmarked = lists-found s1Unmarked 2 room ((4 ∷ 1 ∷ []) ∷ (5 ∷ []) ∷ []) unmarked-barred-2
       (ap (λ (d : Tables). found d 2) s1Unmarked-tables ∙ unmarked-found-2)
 
-  pub s1-list-unmarked-short : length room < 10 → Lists s1Unmarked 2 room roomShort 2 room
+  pub s1-list-unmarked-short : length room < 10 → Lists s1Unmarked 2 room refusal.tooShort 2 room
   s1-list-unmarked-short = lists-found-short s1Unmarked 2 room ((4 ∷ 1 ∷ []) ∷ (5 ∷ []) ∷ []) unmarked-barred-2
       (ap (λ (d : Tables). found d 2) s1Unmarked-tables ∙ unmarked-found-2)
 
@@ -97,8 +98,8 @@ module _ (room : List ℕ) where
   s1-list-1 = lists-found s1Words 1 room [] s1-barred-1 (ap (λ (d : Tables). found d 1) s1Words-tables ∙ s1-found-1) (omega arith)
 
   -- User 3 is off: 6. There is no user 9: 4.
-  pub s1-list-off : Lists s1Words 3 room loggedOff 0 room
+  pub s1-list-off : Lists s1Words 3 room refusal.notLoggedOn 0 room
   s1-list-off = subst (λ (a : ℕ). Lists s1Words 3 room a 0 room) s1-barred-3 (lists-refused s1Words 3 room (λ z. omega (arith, s1-barred-3)))
 
-  pub s1-list-unknown : Lists s1Words 9 room noSuchUser 0 room
+  pub s1-list-unknown : Lists s1Words 9 room refusal.unknownRequester 0 room
   s1-list-unknown = subst (λ (a : ℕ). Lists s1Words 9 room a 0 room) s1-barred-9 (lists-refused s1Words 9 room (λ z. omega (arith, s1-barred-9)))

@@ -1,7 +1,7 @@
 -- Cases on state S2: current roles, clearance, authorised roles, maximum, device level, release, acknowledge (rules 6.14 to 6.20), and the ladder (rule 7).
 use mathlib.Core.List.{List, [], _∷_}
 use Rattle.cases.specs.Case.Cases.{Case, ask, entityIs, expect, raw, userIs}
-use Rattle.model.specs.Tables.Words.{authorised, clearance, containerKind, count, current, device, draftType, held, heldOp, kind}
+use Rattle.model.specs.Tables.Words.{authorised, clearance, containerKind, used, current, device, draftType, held, heldOp, kind}
 use Rattle.model.specs.Tables.Words.{level, maximum, missed, place, plainType, present, releasedType, releaser, shown, spare, type}
 use Rattle.model.specs.Tables.Words.{value}
 
@@ -49,7 +49,7 @@ clearanceCases =
     -- down to the level of all that the user's screen shows
     ∷ expect [] (ask 1 15 [] [] 2 1 0) 0 (userIs 2 clearance 1 ∷ userIs 2 current 136 ∷ [])
     -- the officer's own, down to the lowest level that is above both that are shown
-    ∷ expect [] (ask 1 15 [] [] 1 257 0) 0 (userIs 1 clearance 257 ∷ entityIs 1 count 2 ∷ [])
+    ∷ expect [] (ask 1 15 [] [] 1 257 0) 0 (userIs 1 clearance 257 ∷ entityIs 1 used 2 ∷ [])
     -- 5: user 0
     ∷ expect [] (ask 1 15 [] [] 0 0 0) 5 (userIs 1 held 5 ∷ userIs 1 heldOp 15 ∷ userIs 1 missed 1 ∷ [])
     -- 5: user 17
@@ -233,7 +233,7 @@ ladderCases =
     -- 4: user 0
     expect [] (ask 0 4 (13 ∷ []) [] 77 0 0) 4 (entityIs 13 value 40 ∷ userIs 1 held 0 ∷ userIs 1 missed 0 ∷ [])
     -- 4: user 17 would be where the first entity's record is
-    ∷ expect [] (ask 17 4 (13 ∷ []) [] 77 0 0) 4 (entityIs 13 value 40 ∷ entityIs 1 releaser 0 ∷ entityIs 1 maximum 1023 ∷ entityIs 1 count 2 ∷ [])
+    ∷ expect [] (ask 17 4 (13 ∷ []) [] 77 0 0) 4 (entityIs 13 value 40 ∷ entityIs 1 releaser 0 ∷ entityIs 1 maximum 1023 ∷ entityIs 1 used 2 ∷ [])
     -- 4: an absent user, before the operation is looked at
     ∷ expect [] (ask 8 0 [] [] 0 0 0) 4 (userIs 8 present 0 ∷ userIs 8 held 0 ∷ userIs 8 missed 0 ∷ [])
     -- 5: operation 0, which the notice keeps as 0
@@ -247,7 +247,7 @@ ladderCases =
     ∷ expect [] (raw (1 ∷ 4 ∷ 3 ∷ 16 ∷ 1 ∷ 1 ∷ 1 ∷ 0 ∷ 0 ∷ 0 ∷ 0 ∷ 0 ∷ 77 ∷ 0 ∷ 0 ∷ 0 ∷ [])) 5 (userIs 1 held 5 ∷ userIs 1 heldOp 4 ∷ userIs 1 missed 1 ∷ [])
     -- 5: word 15, at an operation with no operands
     ∷ expect [] (raw (1 ∷ 11 ∷ 0 ∷ 0 ∷ 0 ∷ 0 ∷ 0 ∷ 0 ∷ 0 ∷ 0 ∷ 0 ∷ 0 ∷ 0 ∷ 0 ∷ 0 ∷ 1 ∷ [])) 5 (userIs 1 held 5 ∷ userIs 1 heldOp 11 ∷ userIs 1 missed 1 ∷
-    entityIs 1 count 2 ∷ [])
+    entityIs 1 used 2 ∷ [])
     -- 5: a name word where the operation takes no reference
     ∷ expect [] (raw (1 ∷ 13 ∷ 0 ∷ 1 ∷ 0 ∷ 0 ∷ 0 ∷ 0 ∷ 0 ∷ 0 ∷ 0 ∷ 0 ∷ 0 ∷ 0 ∷ 0 ∷ 0 ∷ [])) 5 (userIs 1 held 5 ∷ userIs 1 heldOp 13 ∷ userIs 1 missed 1 ∷
     userIs 1 device 1 ∷ [])
@@ -269,6 +269,6 @@ ladderCases =
     ∷ expect [] (ask 1 4 (13 ∷ 1 ∷ []) [] 77 0 0) 7 (userIs 1 held 7 ∷ userIs 1 heldOp 4 ∷ userIs 1 missed 1 ∷ userIs 4 held 9 ∷ userIs 4 missed 65535 ∷
     userIs 5 held 7 ∷ userIs 5 missed 2 ∷ userIs 2 missed 0 ∷ [])
     -- an acceptance leaves the requester's notice as it is
-    ∷ expect (ask 2 10 (31 ∷ []) [] 1 0 0 ∷ []) (ask 2 10 (31 ∷ []) [] 3 0 0) 0 (userIs 2 held 15 ∷ userIs 2 heldOp 10 ∷ userIs 2 missed 1 ∷ entityIs 2 count 2 ∷
+    ∷ expect (ask 2 10 (31 ∷ []) [] 1 0 0 ∷ []) (ask 2 10 (31 ∷ []) [] 3 0 0) 0 (userIs 2 held 15 ∷ userIs 2 heldOp 10 ∷ userIs 2 missed 1 ∷ entityIs 2 used 2 ∷
     entityIs 2 (place 1) 31 ∷ entityIs 2 (shown 1) 3 ∷ [])
     ∷ []

@@ -1,7 +1,7 @@
 -- Cases on state S2: create, delete, move, edit, copy (rules 6.1 to 6.5).
 use mathlib.Core.List.{List, [], _∷_}
 use Rattle.cases.specs.Case.Cases.{Case, ask, entityIs, expect, userIs}
-use Rattle.model.specs.Tables.Words.{containerKind, count, deviceKind, draftType, held, heldOp, kind, level, mark, missed, objectKind}
+use Rattle.model.specs.Tables.Words.{containerKind, used, deviceKind, draftType, held, heldOp, kind, level, mark, missed, objectKind}
 use Rattle.model.specs.Tables.Words.{place, plainType, releasedType, releaser, triple, tripleOf, type, value}
 
 -- every case: what was asked before (from S2 on), what is asked, the answer, and words that stand afterwards
@@ -9,26 +9,26 @@ unfoldable pub createCases : List Case
 createCases =
     -- a draft under the container's level: the lowest free number, last in the container, its triples copied and all else zero
     expect [] (ask 1 1 (12 ∷ []) [] 3 256 0) 0 (entityIs 7 kind containerKind ∷ entityIs 7 type draftType ∷ entityIs 7 level 256 ∷ entityIs 7 value 0 ∷
-    entityIs 7 count 0 ∷ entityIs 7 (triple 0) (tripleOf 1 1 1) ∷ entityIs 7 (triple 1) (tripleOf 20 1 1) ∷ entityIs 7 (triple 2) (tripleOf 1 3 2) ∷
+    entityIs 7 used 0 ∷ entityIs 7 (triple 0) (tripleOf 1 1 1) ∷ entityIs 7 (triple 1) (tripleOf 20 1 1) ∷ entityIs 7 (triple 2) (tripleOf 1 3 2) ∷
     entityIs 7 (triple 3) (tripleOf 1 3 1) ∷ entityIs 7 (triple 4) (tripleOf 1 2 1) ∷ entityIs 7 (triple 5) (tripleOf 1 6 1) ∷ entityIs 7 (triple 6) 0 ∷
-    entityIs 12 count 4 ∷ entityIs 12 (place 3) 7 ∷ entityIs 12 (place 2) 15 ∷ entityIs 12 value 70 ∷ [])
+    entityIs 12 used 4 ∷ entityIs 12 (place 3) 7 ∷ entityIs 12 (place 2) 15 ∷ entityIs 12 value 70 ∷ [])
     -- a plain container at the level of the marked one that it is made in: the mark is not copied
     ∷ expect [] (ask 1 1 (8 ∷ []) [] 2 513 0) 0 (entityIs 7 kind containerKind ∷ entityIs 7 type plainType ∷ entityIs 7 level 513 ∷ entityIs 7 mark 0 ∷
     entityIs 7 (triple 0) (tripleOf 6 4 1) ∷ entityIs 7 (triple 1) (tripleOf 6 7 1) ∷ entityIs 7 (triple 2) (tripleOf 1 7 1) ∷
-    entityIs 7 (triple 3) (tripleOf 1 1 1) ∷ entityIs 8 count 4 ∷ entityIs 8 (place 3) 7 ∷ entityIs 8 mark 1 ∷ [])
+    entityIs 7 (triple 3) (tripleOf 1 1 1) ∷ entityIs 8 used 4 ∷ entityIs 8 (place 3) 7 ∷ entityIs 8 mark 1 ∷ [])
     -- an object, by a house role that the requester now has
     ∷ expect [] (ask 2 1 (12 ∷ []) [] 1 0 0) 0 (entityIs 7 kind objectKind ∷ entityIs 7 type plainType ∷ entityIs 7 level 0 ∷
     entityIs 7 (triple 0) (tripleOf 1 1 1) ∷ entityIs 7 (triple 1) (tripleOf 20 1 1) ∷ entityIs 7 (triple 2) (tripleOf 1 3 2) ∷
-    entityIs 7 (triple 3) (tripleOf 1 3 1) ∷ entityIs 7 (triple 4) (tripleOf 1 2 1) ∷ entityIs 7 (triple 5) (tripleOf 1 6 1) ∷ entityIs 12 count 4 ∷
+    entityIs 7 (triple 3) (tripleOf 1 3 1) ∷ entityIs 7 (triple 4) (tripleOf 1 2 1) ∷ entityIs 7 (triple 5) (tripleOf 1 6 1) ∷ entityIs 12 used 4 ∷
     entityIs 12 (place 3) 7 ∷ userIs 2 held 0 ∷ [])
     -- under the marked container but named directly; eight triples are copied, the draft's type and value are not
     ∷ expect [] (ask 6 1 (10 ∷ []) [] 1 256 0) 0 (entityIs 7 kind objectKind ∷ entityIs 7 type plainType ∷ entityIs 7 level 256 ∷ entityIs 7 value 0 ∷
     entityIs 7 (triple 0) (tripleOf 6 1 1) ∷ entityIs 7 (triple 1) (tripleOf 6 3 2) ∷ entityIs 7 (triple 2) (tripleOf 6 5 2) ∷
     entityIs 7 (triple 3) (tripleOf 6 7 1) ∷ entityIs 7 (triple 4) (tripleOf 6 8 1) ∷ entityIs 7 (triple 5) (tripleOf 6 9 1) ∷
-    entityIs 7 (triple 6) (tripleOf 6 18 1) ∷ entityIs 7 (triple 7) (tripleOf 6 19 1) ∷ entityIs 10 count 2 ∷ entityIs 10 (place 1) 7 ∷
+    entityIs 7 (triple 6) (tripleOf 6 18 1) ∷ entityIs 7 (triple 7) (tripleOf 6 19 1) ∷ entityIs 10 used 2 ∷ entityIs 10 (place 1) 7 ∷
     entityIs 10 (place 0) 34 ∷ [])
     -- into the eighth place, once one has left the full container
-    ∷ expect (ask 1 3 (20 ∷ []) (14 ∷ []) 0 0 0 ∷ []) (ask 1 1 (19 ∷ []) [] 1 0 0) 0 (entityIs 19 count 8 ∷ entityIs 19 (place 7) 7 ∷ entityIs 19 (place 6) 27 ∷
+    ∷ expect (ask 1 3 (20 ∷ []) (14 ∷ []) 0 0 0 ∷ []) (ask 1 1 (19 ∷ []) [] 1 0 0) 0 (entityIs 19 used 8 ∷ entityIs 19 (place 7) 7 ∷ entityIs 19 (place 6) 27 ∷
     entityIs 7 kind objectKind ∷ entityIs 7 (triple 0) (tripleOf 1 1 1) ∷ entityIs 7 (triple 1) (tripleOf 1 3 1) ∷ entityIs 7 (triple 2) (tripleOf 1 3 2) ∷ [])
     -- 5: sort 0
     ∷ expect [] (ask 1 1 (12 ∷ []) [] 0 256 0) 5 (userIs 1 held 5 ∷ userIs 1 heldOp 1 ∷ userIs 1 missed 1 ∷ [])
@@ -45,17 +45,17 @@ createCases =
     -- 7: the number is in range, and absent
     ∷ expect [] (ask 1 1 (7 ∷ []) [] 1 0 0) 7 (userIs 1 held 7 ∷ userIs 1 heldOp 1 ∷ userIs 1 missed 1 ∷ entityIs 7 kind 0 ∷ [])
     -- 8: no triple names this user or a role; seen before the highest level is held against the container's
-    ∷ expect [] (ask 6 1 (12 ∷ []) [] 1 1023 0) 8 (userIs 6 held 8 ∷ userIs 6 heldOp 1 ∷ userIs 6 missed 1 ∷ entityIs 12 count 3 ∷ [])
+    ∷ expect [] (ask 6 1 (12 ∷ []) [] 1 1023 0) 8 (userIs 6 held 8 ∷ userIs 6 heldOp 1 ∷ userIs 6 missed 1 ∷ entityIs 12 used 3 ∷ [])
     -- 9: the container that the draft is reached through is marked, and its level has a compartment that the clearance lacks
-    ∷ expect [] (ask 6 1 (8 ∷ 2 ∷ []) [] 1 256 0) 9 (userIs 6 held 9 ∷ userIs 6 heldOp 1 ∷ userIs 6 missed 1 ∷ entityIs 10 count 1 ∷ [])
+    ∷ expect [] (ask 6 1 (8 ∷ 2 ∷ []) [] 1 256 0) 9 (userIs 6 held 9 ∷ userIs 6 heldOp 1 ∷ userIs 6 missed 1 ∷ entityIs 10 used 1 ∷ [])
     -- 10: an object
-    ∷ expect [] (ask 1 1 (13 ∷ []) [] 1 0 0) 10 (userIs 1 held 10 ∷ userIs 1 heldOp 1 ∷ userIs 1 missed 1 ∷ entityIs 13 count 0 ∷ [])
+    ∷ expect [] (ask 1 1 (13 ∷ []) [] 1 0 0) 10 (userIs 1 held 10 ∷ userIs 1 heldOp 1 ∷ userIs 1 missed 1 ∷ entityIs 13 used 0 ∷ [])
     -- 10: a device
-    ∷ expect [] (ask 1 1 (1 ∷ []) [] 1 0 0) 10 (userIs 1 held 10 ∷ userIs 1 heldOp 1 ∷ userIs 1 missed 1 ∷ entityIs 1 count 2 ∷ [])
+    ∷ expect [] (ask 1 1 (1 ∷ []) [] 1 0 0) 10 (userIs 1 held 10 ∷ userIs 1 heldOp 1 ∷ userIs 1 missed 1 ∷ entityIs 1 used 2 ∷ [])
     -- 13: 1 is a smaller number than 512, and not at most it
-    ∷ expect [] (ask 1 1 (12 ∷ []) [] 1 1 0) 13 (userIs 1 held 13 ∷ userIs 1 heldOp 1 ∷ userIs 1 missed 1 ∷ entityIs 12 count 3 ∷ entityIs 7 kind 0 ∷ [])
+    ∷ expect [] (ask 1 1 (12 ∷ []) [] 1 1 0) 13 (userIs 1 held 13 ∷ userIs 1 heldOp 1 ∷ userIs 1 missed 1 ∷ entityIs 12 used 3 ∷ entityIs 7 kind 0 ∷ [])
     -- 14: eight places are used
-    ∷ expect [] (ask 1 1 (19 ∷ []) [] 1 0 0) 14 (userIs 1 held 14 ∷ userIs 1 heldOp 1 ∷ userIs 1 missed 1 ∷ entityIs 19 count 8 ∷ entityIs 7 kind 0 ∷ [])
+    ∷ expect [] (ask 1 1 (19 ∷ []) [] 1 0 0) 14 (userIs 1 held 14 ∷ userIs 1 heldOp 1 ∷ userIs 1 missed 1 ∷ entityIs 19 used 8 ∷ entityIs 7 kind 0 ∷ [])
     -- 13 before 14: a higher rank than the full container's
     ∷ expect [] (ask 1 1 (19 ∷ []) [] 1 768 0) 13 (userIs 1 held 13 ∷ userIs 1 heldOp 1 ∷ userIs 1 missed 1 ∷ [])
     ∷ []
@@ -65,7 +65,7 @@ deleteCases =
     -- the first of three, by way of its container: its record is all zero, and the later ones move up
     expect [] (ask 1 2 (12 ∷ 1 ∷ []) [] 0 0 0) 0 (entityIs 13 kind 0 ∷ entityIs 13 level 0 ∷ entityIs 13 value 0 ∷ entityIs 13 (triple 0) 0 ∷
     entityIs 13 (triple 1) 0 ∷ entityIs 13 (triple 2) 0 ∷ entityIs 13 (triple 3) 0 ∷ entityIs 13 (triple 4) 0 ∷ entityIs 13 (triple 5) 0 ∷
-    entityIs 13 (triple 6) 0 ∷ entityIs 13 (triple 7) 0 ∷ entityIs 12 count 2 ∷ entityIs 12 (place 0) 14 ∷ entityIs 12 (place 1) 15 ∷ entityIs 12 (place 2) 0 ∷
+    entityIs 13 (triple 6) 0 ∷ entityIs 13 (triple 7) 0 ∷ entityIs 12 used 2 ∷ entityIs 12 (place 0) 14 ∷ entityIs 12 (place 1) 15 ∷ entityIs 12 (place 2) 0 ∷
     entityIs 14 kind containerKind ∷ [])
     -- an empty draft that is in no container
     ∷ expect [] (ask 1 2 (29 ∷ []) [] 0 0 0) 0 (entityIs 29 kind 0 ∷ entityIs 29 type 0 ∷ entityIs 29 level 0 ∷ entityIs 29 value 0 ∷ entityIs 29 (triple 0) 0 ∷
@@ -73,7 +73,7 @@ deleteCases =
     entityIs 28 kind objectKind ∷ entityIs 30 kind containerKind ∷ [])
     -- the last of three, by the highest house role, which the requester now has
     ∷ expect [] (ask 2 2 (12 ∷ 3 ∷ []) [] 0 0 0) 0 (entityIs 15 kind 0 ∷ entityIs 15 level 0 ∷ entityIs 15 value 0 ∷ entityIs 15 (triple 0) 0 ∷
-    entityIs 15 (triple 1) 0 ∷ entityIs 15 (triple 2) 0 ∷ entityIs 15 (triple 3) 0 ∷ entityIs 12 count 2 ∷ entityIs 12 (place 0) 13 ∷
+    entityIs 15 (triple 1) 0 ∷ entityIs 15 (triple 2) 0 ∷ entityIs 15 (triple 3) 0 ∷ entityIs 12 used 2 ∷ entityIs 12 (place 0) 13 ∷
     entityIs 12 (place 1) 14 ∷ entityIs 12 (place 2) 0 ∷ [])
     -- 5: a is not used
     ∷ expect [] (ask 1 2 (29 ∷ []) [] 1 0 0) 5 (userIs 1 held 5 ∷ userIs 1 heldOp 2 ∷ userIs 1 missed 1 ∷ [])
@@ -88,12 +88,12 @@ deleteCases =
     -- 8: the requester's triple is for the second position
     ∷ expect [] (ask 1 2 (15 ∷ []) [] 0 0 0) 8 (userIs 1 held 8 ∷ userIs 1 heldOp 2 ∷ userIs 1 missed 1 ∷ entityIs 15 kind objectKind ∷ [])
     -- 9: through the marked container
-    ∷ expect [] (ask 6 2 (8 ∷ 1 ∷ []) [] 0 0 0) 9 (userIs 6 held 9 ∷ userIs 6 heldOp 2 ∷ userIs 6 missed 1 ∷ entityIs 9 kind objectKind ∷ entityIs 8 count 3 ∷ [])
+    ∷ expect [] (ask 6 2 (8 ∷ 1 ∷ []) [] 0 0 0) 9 (userIs 6 held 9 ∷ userIs 6 heldOp 2 ∷ userIs 6 missed 1 ∷ entityIs 9 kind objectKind ∷ entityIs 8 used 3 ∷ [])
     -- 10: a device
     ∷ expect [] (ask 1 2 (1 ∷ []) [] 0 0 0) 10 (userIs 1 held 10 ∷ userIs 1 heldOp 2 ∷ userIs 1 missed 1 ∷ entityIs 1 kind deviceKind ∷ [])
     -- 15: it has contents
     ∷ expect [] (ask 1 2 (16 ∷ []) [] 0 0 0) 15 (userIs 1 held 15 ∷ userIs 1 heldOp 2 ∷ userIs 1 missed 1 ∷ entityIs 16 kind containerKind ∷
-    entityIs 16 count 1 ∷ [])
+    entityIs 16 used 1 ∷ [])
     -- 15: it stands on a screen, and not the requester's
     ∷ expect [] (ask 1 2 (32 ∷ []) [] 0 0 0) 15 (userIs 1 held 15 ∷ userIs 1 heldOp 2 ∷ userIs 1 missed 1 ∷ entityIs 32 kind objectKind ∷
     entityIs 2 (place 0) 32 ∷ [])
@@ -105,15 +105,15 @@ deleteCases =
 unfoldable pub moveCases : List Case
 moveCases =
     -- from one container into the next: both references are read before anything leaves
-    expect [] (ask 1 3 (12 ∷ 1 ∷ []) (12 ∷ 2 ∷ []) 0 0 0) 0 (entityIs 12 count 2 ∷ entityIs 12 (place 0) 14 ∷ entityIs 12 (place 1) 15 ∷
-    entityIs 12 (place 2) 0 ∷ entityIs 14 count 1 ∷ entityIs 14 (place 0) 13 ∷ entityIs 13 kind objectKind ∷ entityIs 13 level 256 ∷ entityIs 13 value 40 ∷ [])
+    expect [] (ask 1 3 (12 ∷ 1 ∷ []) (12 ∷ 2 ∷ []) 0 0 0) 0 (entityIs 12 used 2 ∷ entityIs 12 (place 0) 14 ∷ entityIs 12 (place 1) 15 ∷
+    entityIs 12 (place 2) 0 ∷ entityIs 14 used 1 ∷ entityIs 14 (place 0) 13 ∷ entityIs 13 kind objectKind ∷ entityIs 13 level 256 ∷ entityIs 13 value 40 ∷ [])
     -- within one container: it becomes the last
-    ∷ expect [] (ask 1 3 (13 ∷ []) (12 ∷ []) 0 0 0) 0 (entityIs 12 count 3 ∷ entityIs 12 (place 0) 14 ∷ entityIs 12 (place 1) 15 ∷ entityIs 12 (place 2) 13 ∷ [])
+    ∷ expect [] (ask 1 3 (13 ∷ []) (12 ∷ []) 0 0 0) 0 (entityIs 12 used 3 ∷ entityIs 12 (place 0) 14 ∷ entityIs 12 (place 1) 15 ∷ entityIs 12 (place 2) 13 ∷ [])
     -- an entity in no container leaves nothing, and what it holds goes with it; a draft is a container too
-    ∷ expect [] (ask 1 3 (16 ∷ []) (29 ∷ []) 0 0 0) 0 (entityIs 29 count 1 ∷ entityIs 29 (place 0) 16 ∷ entityIs 29 type draftType ∷ entityIs 16 count 1 ∷
+    ∷ expect [] (ask 1 3 (16 ∷ []) (29 ∷ []) 0 0 0) 0 (entityIs 29 used 1 ∷ entityIs 29 (place 0) 16 ∷ entityIs 29 type draftType ∷ entityIs 16 used 1 ∷
     entityIs 16 (place 0) 17 ∷ [])
     -- within one full container: there is room, because it leaves first; it stays on the screens
-    ∷ expect [] (ask 1 3 (20 ∷ []) (19 ∷ []) 0 0 0) 0 (entityIs 19 count 8 ∷ entityIs 19 (place 0) 21 ∷ entityIs 19 (place 1) 22 ∷ entityIs 19 (place 2) 23 ∷
+    ∷ expect [] (ask 1 3 (20 ∷ []) (19 ∷ []) 0 0 0) 0 (entityIs 19 used 8 ∷ entityIs 19 (place 0) 21 ∷ entityIs 19 (place 1) 22 ∷ entityIs 19 (place 2) 23 ∷
     entityIs 19 (place 3) 24 ∷ entityIs 19 (place 4) 25 ∷ entityIs 19 (place 5) 26 ∷ entityIs 19 (place 6) 27 ∷ entityIs 19 (place 7) 20 ∷
     entityIs 5 (place 0) 20 ∷ entityIs 4 (place 1) 20 ∷ [])
     -- 5: a is not used
@@ -129,30 +129,30 @@ moveCases =
     -- the second operand's 7 before the first one's 8
     ∷ expect [] (ask 6 3 (12 ∷ []) (65 ∷ []) 0 0 0) 7 (userIs 6 held 7 ∷ userIs 6 heldOp 3 ∷ userIs 6 missed 1 ∷ [])
     -- 8: the first operand has the triple of the second position only
-    ∷ expect [] (ask 1 3 (18 ∷ []) (12 ∷ []) 0 0 0) 8 (userIs 1 held 8 ∷ userIs 1 heldOp 3 ∷ userIs 1 missed 1 ∷ entityIs 17 count 1 ∷ [])
+    ∷ expect [] (ask 1 3 (18 ∷ []) (12 ∷ []) 0 0 0) 8 (userIs 1 held 8 ∷ userIs 1 heldOp 3 ∷ userIs 1 missed 1 ∷ entityIs 17 used 1 ∷ [])
     -- 8: the second operand has the triple of the first position only
-    ∷ expect [] (ask 1 3 (13 ∷ []) (30 ∷ []) 0 0 0) 8 (userIs 1 held 8 ∷ userIs 1 heldOp 3 ∷ userIs 1 missed 1 ∷ entityIs 30 count 0 ∷ [])
+    ∷ expect [] (ask 1 3 (13 ∷ []) (30 ∷ []) 0 0 0) 8 (userIs 1 held 8 ∷ userIs 1 heldOp 3 ∷ userIs 1 missed 1 ∷ entityIs 30 used 0 ∷ [])
     -- 9: the first reference goes through the marked container
-    ∷ expect [] (ask 6 3 (8 ∷ 1 ∷ []) (10 ∷ []) 0 0 0) 9 (userIs 6 held 9 ∷ userIs 6 heldOp 3 ∷ userIs 6 missed 1 ∷ entityIs 10 count 1 ∷ [])
+    ∷ expect [] (ask 6 3 (8 ∷ 1 ∷ []) (10 ∷ []) 0 0 0) 9 (userIs 6 held 9 ∷ userIs 6 heldOp 3 ∷ userIs 6 missed 1 ∷ entityIs 10 used 1 ∷ [])
     -- 9: the second reference does
-    ∷ expect [] (ask 6 3 (9 ∷ []) (8 ∷ 2 ∷ []) 0 0 0) 9 (userIs 6 held 9 ∷ userIs 6 heldOp 3 ∷ userIs 6 missed 1 ∷ entityIs 10 count 1 ∷ [])
+    ∷ expect [] (ask 6 3 (9 ∷ []) (8 ∷ 2 ∷ []) 0 0 0) 9 (userIs 6 held 9 ∷ userIs 6 heldOp 3 ∷ userIs 6 missed 1 ∷ entityIs 10 used 1 ∷ [])
     -- the second operand's 8 before the first one's 9
     ∷ expect [] (ask 6 3 (8 ∷ 1 ∷ []) (12 ∷ []) 0 0 0) 8 (userIs 6 held 8 ∷ userIs 6 heldOp 3 ∷ userIs 6 missed 1 ∷ [])
     -- 10: a device is moved
-    ∷ expect [] (ask 1 3 (1 ∷ []) (12 ∷ []) 0 0 0) 10 (userIs 1 held 10 ∷ userIs 1 heldOp 3 ∷ userIs 1 missed 1 ∷ entityIs 12 count 3 ∷ [])
+    ∷ expect [] (ask 1 3 (1 ∷ []) (12 ∷ []) 0 0 0) 10 (userIs 1 held 10 ∷ userIs 1 heldOp 3 ∷ userIs 1 missed 1 ∷ entityIs 12 used 3 ∷ [])
     -- 10: into an object
-    ∷ expect [] (ask 1 3 (16 ∷ []) (13 ∷ []) 0 0 0) 10 (userIs 1 held 10 ∷ userIs 1 heldOp 3 ∷ userIs 1 missed 1 ∷ entityIs 13 count 0 ∷ [])
+    ∷ expect [] (ask 1 3 (16 ∷ []) (13 ∷ []) 0 0 0) 10 (userIs 1 held 10 ∷ userIs 1 heldOp 3 ∷ userIs 1 missed 1 ∷ entityIs 13 used 0 ∷ [])
     -- 10: into a device
-    ∷ expect [] (ask 1 3 (16 ∷ []) (1 ∷ []) 0 0 0) 10 (userIs 1 held 10 ∷ userIs 1 heldOp 3 ∷ userIs 1 missed 1 ∷ entityIs 1 count 2 ∷ [])
+    ∷ expect [] (ask 1 3 (16 ∷ []) (1 ∷ []) 0 0 0) 10 (userIs 1 held 10 ∷ userIs 1 heldOp 3 ∷ userIs 1 missed 1 ∷ entityIs 1 used 2 ∷ [])
     -- 13: 1 is a smaller number than 512, and not at most it
-    ∷ expect [] (ask 1 3 (31 ∷ []) (12 ∷ []) 0 0 0) 13 (userIs 1 held 13 ∷ userIs 1 heldOp 3 ∷ userIs 1 missed 1 ∷ entityIs 12 count 3 ∷ entityIs 8 count 3 ∷ [])
+    ∷ expect [] (ask 1 3 (31 ∷ []) (12 ∷ []) 0 0 0) 13 (userIs 1 held 13 ∷ userIs 1 heldOp 3 ∷ userIs 1 missed 1 ∷ entityIs 12 used 3 ∷ entityIs 8 used 3 ∷ [])
     -- 14: into another container that is full
-    ∷ expect [] (ask 1 3 (13 ∷ []) (19 ∷ []) 0 0 0) 14 (userIs 1 held 14 ∷ userIs 1 heldOp 3 ∷ userIs 1 missed 1 ∷ entityIs 19 count 8 ∷ entityIs 12 count 3 ∷ [])
+    ∷ expect [] (ask 1 3 (13 ∷ []) (19 ∷ []) 0 0 0) 14 (userIs 1 held 14 ∷ userIs 1 heldOp 3 ∷ userIs 1 missed 1 ∷ entityIs 19 used 8 ∷ entityIs 12 used 3 ∷ [])
     -- 15: into itself
     ∷ expect [] (ask 1 3 (16 ∷ []) (16 ∷ []) 0 0 0) 15 (userIs 1 held 15 ∷ userIs 1 heldOp 3 ∷ userIs 1 missed 1 ∷ entityIs 16 (place 0) 17 ∷ [])
     -- 15: into what stands two deep inside it
-    ∷ expect [] (ask 1 3 (16 ∷ []) (16 ∷ 1 ∷ 1 ∷ []) 0 0 0) 15 (userIs 1 held 15 ∷ userIs 1 heldOp 3 ∷ userIs 1 missed 1 ∷ entityIs 18 count 1 ∷
-    entityIs 16 count 1 ∷ [])
+    ∷ expect [] (ask 1 3 (16 ∷ []) (16 ∷ 1 ∷ 1 ∷ []) 0 0 0) 15 (userIs 1 held 15 ∷ userIs 1 heldOp 3 ∷ userIs 1 missed 1 ∷ entityIs 18 used 1 ∷
+    entityIs 16 used 1 ∷ [])
     -- 13 before 14: not at most the level of a full container
     ∷ expect [] (ask 1 3 (31 ∷ []) (19 ∷ []) 0 0 0) 13 (userIs 1 held 13 ∷ userIs 1 heldOp 3 ∷ userIs 1 missed 1 ∷ [])
     -- 13 before 15: into something lower that it holds

@@ -1,7 +1,7 @@
 -- Cases on state S2: level, mark, grant, revoke, show, clear, login, logout (rules 6.6 to 6.13).
 use mathlib.Core.List.{List, [], _∷_}
 use Rattle.cases.specs.Case.Cases.{Case, ask, entityIs, expect, raw, userIs}
-use Rattle.model.specs.Tables.Words.{authorised, clearance, count, current, device, draftType, held, heldOp, level, mark, missed}
+use Rattle.model.specs.Tables.Words.{authorised, clearance, used, current, device, draftType, held, heldOp, level, mark, missed}
 use Rattle.model.specs.Tables.Words.{place, shown, triple, tripleOf, type, value}
 
 -- every case: what was asked before (from S2 on), what is asked, the answer, and words that stand afterwards
@@ -55,7 +55,7 @@ markCases =
     -- a mark is set
     expect [] (ask 1 7 (14 ∷ []) [] 1 0 0) 0 (entityIs 14 mark 1 ∷ entityIs 14 level 256 ∷ entityIs 14 value 50 ∷ [])
     -- a mark is taken off
-    ∷ expect [] (ask 1 7 (8 ∷ []) [] 0 0 0) 0 (entityIs 8 mark 0 ∷ entityIs 8 level 513 ∷ entityIs 8 count 3 ∷ [])
+    ∷ expect [] (ask 1 7 (8 ∷ []) [] 0 0 0) 0 (entityIs 8 mark 0 ∷ entityIs 8 level 513 ∷ entityIs 8 used 3 ∷ [])
     -- a draft is a container too; it is named directly
     ∷ expect [] (ask 6 7 (10 ∷ []) [] 1 0 0) 0 (entityIs 10 mark 1 ∷ entityIs 10 type draftType ∷ [])
     -- once the mark is off, the way through the container is open
@@ -85,7 +85,7 @@ unfoldable pub grantCases : List Case
 grantCases =
     -- on a device, with the highest of each range: it becomes the last
     expect [] (ask 1 8 (4 ∷ []) [] 24 20 2) 0 (entityIs 4 (triple 3) (tripleOf 24 20 2) ∷ entityIs 4 (triple 2) (tripleOf 18 12 1) ∷ entityIs 4 (triple 4) 0 ∷
-    entityIs 4 count 7 ∷ [])
+    entityIs 4 used 7 ∷ [])
     -- on an object, with the lowest of each range: the eighth
     ∷ expect [] (ask 1 8 (33 ∷ []) [] 1 1 1) 0 (entityIs 33 (triple 7) (tripleOf 1 1 1) ∷ entityIs 33 (triple 0) (tripleOf 1 4 1) ∷
     entityIs 33 (triple 6) (tripleOf 23 3 2) ∷ [])
@@ -158,19 +158,19 @@ revokeCases =
 unfoldable pub showCases : List Case
 showCases =
     -- through the marked container with a clearance equal to its level: last on the screen
-    expect [] (ask 2 10 (8 ∷ 3 ∷ []) [] 3 0 0) 0 (entityIs 2 count 2 ∷ entityIs 2 (place 1) 31 ∷ entityIs 2 (shown 1) 3 ∷ entityIs 2 (place 0) 32 ∷
+    expect [] (ask 2 10 (8 ∷ 3 ∷ []) [] 3 0 0) 0 (entityIs 2 used 2 ∷ entityIs 2 (place 1) 31 ∷ entityIs 2 (shown 1) 3 ∷ entityIs 2 (place 0) 32 ∷
     entityIs 2 (shown 0) 3 ∷ [])
     -- already on the screen: the sum is replaced where it stands, and not on another screen
-    ∷ expect [] (ask 1 10 (28 ∷ []) [] 7 0 0) 0 (entityIs 1 count 2 ∷ entityIs 1 (place 1) 28 ∷ entityIs 1 (shown 1) 7 ∷ entityIs 1 (shown 0) 3 ∷
+    ∷ expect [] (ask 1 10 (28 ∷ []) [] 7 0 0) 0 (entityIs 1 used 2 ∷ entityIs 1 (place 1) 28 ∷ entityIs 1 (shown 1) 7 ∷ entityIs 1 (shown 0) 3 ∷
     entityIs 4 (shown 0) 2 ∷ [])
     -- already on a screen of eight, at the level of the device and of the clearance
-    ∷ expect [] (ask 7 10 (22 ∷ []) [] 2 0 0) 0 (entityIs 5 count 8 ∷ entityIs 5 (place 2) 22 ∷ entityIs 5 (shown 2) 2 ∷ entityIs 5 (shown 3) 6 ∷
+    ∷ expect [] (ask 7 10 (22 ∷ []) [] 2 0 0) 0 (entityIs 5 used 8 ∷ entityIs 5 (place 2) 22 ∷ entityIs 5 (shown 2) 2 ∷ entityIs 5 (shown 3) 6 ∷
     userIs 7 held 0 ∷ [])
     -- the ID alone, as the eighth
-    ∷ expect [] (ask 6 10 (9 ∷ []) [] 4 0 0) 0 (entityIs 4 count 8 ∷ entityIs 4 (place 7) 9 ∷ entityIs 4 (shown 7) 4 ∷ entityIs 4 (place 6) 26 ∷
+    ∷ expect [] (ask 6 10 (9 ∷ []) [] 4 0 0) 0 (entityIs 4 used 8 ∷ entityIs 4 (place 7) 9 ∷ entityIs 4 (shown 7) 4 ∷ entityIs 4 (place 6) 26 ∷
     entityIs 4 (shown 6) 2 ∷ [])
     -- a reference through what another's device shows
-    ∷ expect [] (ask 2 10 (1 ∷ 1 ∷ []) [] 6 0 0) 0 (entityIs 2 count 2 ∷ entityIs 2 (place 1) 31 ∷ entityIs 2 (shown 1) 6 ∷ entityIs 1 (shown 0) 3 ∷ [])
+    ∷ expect [] (ask 2 10 (1 ∷ 1 ∷ []) [] 6 0 0) 0 (entityIs 2 used 2 ∷ entityIs 2 (place 1) 31 ∷ entityIs 2 (shown 1) 6 ∷ entityIs 1 (shown 0) 3 ∷ [])
     -- 5: a sum of 0
     ∷ expect [] (ask 1 10 (28 ∷ []) [] 0 0 0) 5 (userIs 1 held 5 ∷ userIs 1 heldOp 10 ∷ userIs 1 missed 1 ∷ entityIs 1 (shown 1) 6 ∷ [])
     -- 5: a sum of 8
@@ -184,19 +184,19 @@ showCases =
     -- 7: place 0
     ∷ expect [] (ask 2 10 (8 ∷ 0 ∷ []) [] 3 0 0) 7 (userIs 2 held 7 ∷ userIs 2 heldOp 10 ∷ userIs 2 missed 1 ∷ [])
     -- 8: the requester is not among those named
-    ∷ expect [] (ask 1 10 (31 ∷ []) [] 3 0 0) 8 (userIs 1 held 8 ∷ userIs 1 heldOp 10 ∷ userIs 1 missed 1 ∷ entityIs 1 count 2 ∷ [])
+    ∷ expect [] (ask 1 10 (31 ∷ []) [] 3 0 0) 8 (userIs 1 held 8 ∷ userIs 1 heldOp 10 ∷ userIs 1 missed 1 ∷ entityIs 1 used 2 ∷ [])
     -- 9: a clearance that is a higher number than the mark's level, and not at least it
-    ∷ expect [] (ask 6 10 (8 ∷ 1 ∷ []) [] 3 0 0) 9 (userIs 6 held 9 ∷ userIs 6 heldOp 10 ∷ userIs 6 missed 1 ∷ entityIs 4 count 7 ∷ [])
+    ∷ expect [] (ask 6 10 (8 ∷ 1 ∷ []) [] 3 0 0) 9 (userIs 6 held 9 ∷ userIs 6 heldOp 10 ∷ userIs 6 missed 1 ∷ entityIs 4 used 7 ∷ [])
     -- 10: a device
-    ∷ expect [] (ask 1 10 (3 ∷ []) [] 3 0 0) 10 (userIs 1 held 10 ∷ userIs 1 heldOp 10 ∷ userIs 1 missed 1 ∷ entityIs 1 count 2 ∷ [])
+    ∷ expect [] (ask 1 10 (3 ∷ []) [] 3 0 0) 10 (userIs 1 held 10 ∷ userIs 1 heldOp 10 ∷ userIs 1 missed 1 ∷ entityIs 1 used 2 ∷ [])
     -- 13: at most the device's level, and not at most the clearance, which is a higher number
-    ∷ expect [] (ask 6 10 (31 ∷ []) [] 2 0 0) 13 (userIs 6 held 13 ∷ userIs 6 heldOp 10 ∷ userIs 6 missed 1 ∷ entityIs 4 count 7 ∷ [])
+    ∷ expect [] (ask 6 10 (31 ∷ []) [] 2 0 0) 13 (userIs 6 held 13 ∷ userIs 6 heldOp 10 ∷ userIs 6 missed 1 ∷ entityIs 4 used 7 ∷ [])
     -- 13: at most the clearance, and not at most the device's level
-    ∷ expect [] (ask 2 10 (29 ∷ []) [] 2 0 0) 13 (userIs 2 held 13 ∷ userIs 2 heldOp 10 ∷ userIs 2 missed 1 ∷ entityIs 2 count 1 ∷ [])
+    ∷ expect [] (ask 2 10 (29 ∷ []) [] 2 0 0) 13 (userIs 2 held 13 ∷ userIs 2 heldOp 10 ∷ userIs 2 missed 1 ∷ entityIs 2 used 1 ∷ [])
     -- 14: eight others are shown
-    ∷ expect [] (ask 7 10 (14 ∷ []) [] 3 0 0) 14 (userIs 7 held 14 ∷ userIs 7 heldOp 10 ∷ userIs 7 missed 1 ∷ entityIs 5 count 8 ∷ entityIs 5 (place 7) 27 ∷ [])
+    ∷ expect [] (ask 7 10 (14 ∷ []) [] 3 0 0) 14 (userIs 7 held 14 ∷ userIs 7 heldOp 10 ∷ userIs 7 missed 1 ∷ entityIs 5 used 8 ∷ entityIs 5 (place 7) 27 ∷ [])
     -- 15: the value without the label
-    ∷ expect [] (ask 2 10 (31 ∷ []) [] 1 0 0) 15 (userIs 2 held 15 ∷ userIs 2 heldOp 10 ∷ userIs 2 missed 1 ∷ entityIs 2 count 1 ∷ [])
+    ∷ expect [] (ask 2 10 (31 ∷ []) [] 1 0 0) 15 (userIs 2 held 15 ∷ userIs 2 heldOp 10 ∷ userIs 2 missed 1 ∷ entityIs 2 used 1 ∷ [])
     -- 15: the value and the ID without the label, of one already shown
     ∷ expect [] (ask 1 10 (28 ∷ []) [] 5 0 0) 15 (userIs 1 held 15 ∷ userIs 1 heldOp 10 ∷ userIs 1 missed 1 ∷ entityIs 1 (shown 1) 6 ∷ [])
     -- 13 before 14 and 15: above the level of a full screen, and no label
@@ -208,19 +208,19 @@ showCases =
 unfoldable pub clearCases : List Case
 clearCases =
     -- the requester's screen is emptied; another screen with the same object on it is not
-    expect [] (ask 1 11 [] [] 0 0 0) 0 (entityIs 1 count 0 ∷ entityIs 1 (place 0) 0 ∷ entityIs 1 (place 1) 0 ∷ entityIs 1 (shown 0) 0 ∷ entityIs 1 (shown 1) 0 ∷
-    userIs 1 device 1 ∷ entityIs 4 (place 0) 28 ∷ entityIs 4 count 7 ∷ [])
+    expect [] (ask 1 11 [] [] 0 0 0) 0 (entityIs 1 used 0 ∷ entityIs 1 (place 0) 0 ∷ entityIs 1 (place 1) 0 ∷ entityIs 1 (shown 0) 0 ∷ entityIs 1 (shown 1) 0 ∷
+    userIs 1 device 1 ∷ entityIs 4 (place 0) 28 ∷ entityIs 4 used 7 ∷ [])
     -- a full screen; the container with the same eight is not emptied
-    ∷ expect [] (ask 7 11 [] [] 0 0 0) 0 (entityIs 5 count 0 ∷ entityIs 5 (place 0) 0 ∷ entityIs 5 (place 1) 0 ∷ entityIs 5 (place 2) 0 ∷
+    ∷ expect [] (ask 7 11 [] [] 0 0 0) 0 (entityIs 5 used 0 ∷ entityIs 5 (place 0) 0 ∷ entityIs 5 (place 1) 0 ∷ entityIs 5 (place 2) 0 ∷
     entityIs 5 (place 3) 0 ∷ entityIs 5 (place 4) 0 ∷ entityIs 5 (place 5) 0 ∷ entityIs 5 (place 6) 0 ∷ entityIs 5 (place 7) 0 ∷ entityIs 5 (shown 0) 0 ∷
     entityIs 5 (shown 1) 0 ∷ entityIs 5 (shown 2) 0 ∷ entityIs 5 (shown 3) 0 ∷ entityIs 5 (shown 4) 0 ∷ entityIs 5 (shown 5) 0 ∷ entityIs 5 (shown 6) 0 ∷
-    entityIs 5 (shown 7) 0 ∷ entityIs 19 count 8 ∷ entityIs 19 (place 7) 27 ∷ [])
+    entityIs 5 (shown 7) 0 ∷ entityIs 19 used 8 ∷ entityIs 19 (place 7) 27 ∷ [])
     -- a screen that is empty already; the notice stays
-    ∷ expect [] (ask 4 11 [] [] 0 0 0) 0 (entityIs 3 count 0 ∷ userIs 4 held 9 ∷ userIs 4 heldOp 10 ∷ userIs 4 missed 65535 ∷ [])
+    ∷ expect [] (ask 4 11 [] [] 0 0 0) 0 (entityIs 3 used 0 ∷ userIs 4 held 9 ∷ userIs 4 heldOp 10 ∷ userIs 4 missed 65535 ∷ [])
     -- 5: a is not used
-    ∷ expect [] (ask 1 11 [] [] 1 0 0) 5 (userIs 1 held 5 ∷ userIs 1 heldOp 11 ∷ userIs 1 missed 1 ∷ entityIs 1 count 2 ∷ [])
+    ∷ expect [] (ask 1 11 [] [] 1 0 0) 5 (userIs 1 held 5 ∷ userIs 1 heldOp 11 ∷ userIs 1 missed 1 ∷ entityIs 1 used 2 ∷ [])
     -- 5: a reference
-    ∷ expect [] (ask 1 11 (1 ∷ []) [] 0 0 0) 5 (userIs 1 held 5 ∷ userIs 1 heldOp 11 ∷ userIs 1 missed 1 ∷ entityIs 1 count 2 ∷ [])
+    ∷ expect [] (ask 1 11 (1 ∷ []) [] 0 0 0) 5 (userIs 1 held 5 ∷ userIs 1 heldOp 11 ∷ userIs 1 missed 1 ∷ entityIs 1 used 2 ∷ [])
     -- 6: the requester is off
     ∷ expect [] (ask 3 11 [] [] 0 0 0) 6 (userIs 3 held 6 ∷ userIs 3 heldOp 11 ∷ userIs 3 missed 1 ∷ [])
     ∷ []
@@ -228,7 +228,7 @@ clearCases =
 unfoldable pub loginCases : List Case
 loginCases =
     -- a user who is off, on a free device
-    expect [] (ask 3 12 (6 ∷ []) [] 0 0 0) 0 (userIs 3 device 6 ∷ userIs 3 current 0 ∷ userIs 3 held 0 ∷ entityIs 6 count 0 ∷ [])
+    expect [] (ask 3 12 (6 ∷ []) [] 0 0 0) 0 (userIs 3 device 6 ∷ userIs 3 current 0 ∷ userIs 3 held 0 ∷ entityIs 6 used 0 ∷ [])
     -- 5: a is not used
     ∷ expect [] (ask 3 12 (6 ∷ []) [] 1 0 0) 5 (userIs 3 held 5 ∷ userIs 3 heldOp 12 ∷ userIs 3 missed 1 ∷ userIs 3 device 0 ∷ [])
     -- 5: no name
@@ -252,7 +252,7 @@ loginCases =
 unfoldable pub logoutCases : List Case
 logoutCases =
     -- screen, device and current roles go; authorised roles and clearance stay
-    expect [] (ask 1 13 [] [] 0 0 0) 0 (userIs 1 device 0 ∷ userIs 1 current 0 ∷ userIs 1 authorised 7 ∷ userIs 1 clearance 1023 ∷ entityIs 1 count 0 ∷
+    expect [] (ask 1 13 [] [] 0 0 0) 0 (userIs 1 device 0 ∷ userIs 1 current 0 ∷ userIs 1 authorised 7 ∷ userIs 1 clearance 1023 ∷ entityIs 1 used 0 ∷
     entityIs 1 (place 0) 0 ∷ entityIs 1 (place 1) 0 ∷ entityIs 1 (shown 0) 0 ∷ entityIs 1 (shown 1) 0 ∷ entityIs 1 level 1023 ∷ [])
     -- the notice stays
     ∷ expect [] (ask 4 13 [] [] 0 0 0) 0 (userIs 4 device 0 ∷ userIs 4 held 9 ∷ userIs 4 heldOp 10 ∷ userIs 4 missed 65535 ∷ [])

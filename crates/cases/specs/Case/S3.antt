@@ -4,7 +4,7 @@ use Prim.Native.Nat.{ℕ}
 use lib.ListN.{replicate}
 use Rattle.cases.specs.Case.Cases.{Case, ask, entityIs, expect, item, userIs}
 use Rattle.model.specs.Tables.Sheet.{Sheet, sheetTables}
-use Rattle.model.specs.Tables.Words.{Tables, containerKind, count, deviceKind, draftType, held, heldOp, kind, missed, objectKind}
+use Rattle.model.specs.Tables.Words.{Tables, containerKind, used, deviceKind, draftType, held, heldOp, kind, missed, objectKind}
 use Rattle.model.specs.Tables.Words.{place, plainType, triple, tripleOf, type, value}
 
 -- an object with nothing in it
@@ -33,10 +33,10 @@ s3 = sheetTables s3Sheet
 unfoldable pub fullCases : List Case
 fullCases =
     -- 14: the container has room, and no number is free
-    expect [] (ask 1 1 (2 ∷ []) [] 1 0 0) 14 (userIs 1 held 14 ∷ userIs 1 heldOp 1 ∷ userIs 1 missed 1 ∷ entityIs 2 count 0 ∷ [])
+    expect [] (ask 1 1 (2 ∷ []) [] 1 0 0) 14 (userIs 1 held 14 ∷ userIs 1 heldOp 1 ∷ userIs 1 missed 1 ∷ entityIs 2 used 0 ∷ [])
     -- 13 before 14
     ∷ expect [] (ask 1 1 (2 ∷ []) [] 1 1 0) 13 (userIs 1 held 13 ∷ userIs 1 heldOp 1 ∷ userIs 1 missed 1 ∷ [])
     -- the number of one that was deleted is free again, and nothing of the old record is left in it
     ∷ expect (ask 1 2 (40 ∷ []) [] 0 0 0 ∷ []) (ask 1 1 (2 ∷ []) [] 3 0 0) 0 (entityIs 40 kind containerKind ∷ entityIs 40 type draftType ∷ entityIs 40 value 0 ∷
-    entityIs 40 (triple 0) (tripleOf 1 1 1) ∷ entityIs 40 (triple 1) 0 ∷ entityIs 2 count 1 ∷ entityIs 2 (place 0) 40 ∷ entityIs 64 kind objectKind ∷ [])
+    entityIs 40 (triple 0) (tripleOf 1 1 1) ∷ entityIs 40 (triple 1) 0 ∷ entityIs 2 used 1 ∷ entityIs 2 (place 0) 40 ∷ entityIs 64 kind objectKind ∷ [])
     ∷ []

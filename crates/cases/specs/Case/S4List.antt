@@ -7,7 +7,7 @@ use lib.ListN.{drop, length}
 use Rattle.cases.specs.Case.Opened.{openedList}
 use Rattle.cases.specs.Case.S4.{s4, s4Sheet}
 use Rattle.model.specs.List.AdmittedLaws.{barred-checked}
-use Rattle.model.specs.List.Listing.{Lists, barred, entries, roomShort, screenFull, showing}
+use Rattle.model.specs.List.Listing.{Lists, barred, entries, showing}
 use Rattle.model.specs.List.ListingLaws.{lists-found, lists-found-short}
 use Rattle.model.specs.List.Ways.{found}
 use Rattle.model.specs.Request.Ladder.{answer}
@@ -21,6 +21,7 @@ use Rattle.model.specs.Tables.Sheet.{sheetTables, sheetWords}
 use Rattle.model.specs.Tables.SheetLaws.{sheet-bounded, sheet-tables, sheetWords-length}
 use Rattle.model.specs.Tables.Words.{Tables}
 use Rattle.model.specs.Theorem.Steps.{answerOf-sized, sized-agrees}
+use Rattle.model.specs.Request.Refusals as refusal
 
 -- S4 is well-formed and secure.
 pub s4-judged : judge s4 ≡ 0
@@ -64,7 +65,7 @@ module _ (room : List ℕ) where
   s4-list = lists-found s4Words 1 room s4Found s4-barred (ap (λ (d : Tables). found d 1) s4Words-tables ∙ s4-found)
 
   -- and a room of fewer than forty-five words is too small for it.
-  pub s4-list-short : length room < 45 → Lists s4Words 1 room roomShort 9 room
+  pub s4-list-short : length room < 45 → Lists s4Words 1 room refusal.tooShort 9 room
   s4-list-short = lists-found-short s4Words 1 room s4Found s4-barred (ap (λ (d : Tables). found d 1) s4Words-tables ∙ s4-found)
 
 -- what the step answers on the words is what it answers on S4
@@ -75,7 +76,7 @@ s4-answer r = answerOf-sized s4Words (showing 1 r) (sized-agrees s4Words (showin
 
 -- Rule 10.3: the full screen keeps away what each entry names, but for 1.1 and 6, which name what is on the screen already;
 pub s4-answers : map (λ r. answerOf s4Words (showing 1 r)) s4Found
-    ≡ 0 ∷ screenFull ∷ screenFull ∷ screenFull ∷ screenFull ∷ screenFull ∷ screenFull ∷ 0 ∷ screenFull ∷ []
+    ≡ 0 ∷ refusal.noRoom ∷ refusal.noRoom ∷ refusal.noRoom ∷ refusal.noRoom ∷ refusal.noRoom ∷ refusal.noRoom ∷ 0 ∷ refusal.noRoom ∷ []
 unfolding openedList s4 s4Sheet
 s4-answers = ap (λ (f : List ℕ → ℕ). map f s4Found) (fun-ext s4-answer)
 

@@ -3,7 +3,7 @@ use mathlib.Core.Bool.{Bool, false, true}
 use Prim.Native.Nat.{suc, ℕ}
 use lib.Dec.{eqb, ltb}
 use Rattle.model.specs.Tables.Edits.{Edit, _and_, onUser, userWord}
-use Rattle.model.specs.Tables.Words.{Tables, UserWord, held, heldOp, missed, missedLimit}
+use Rattle.model.specs.Tables.Words.{Tables, UserWord, held, heldOp, missed, missedMost}
 
 -- A word of the notice, by whether nothing was held: then what comes now, else what stands there;
 abbrev pub keepFirst : Bool → ℕ → ℕ → ℕ
@@ -11,15 +11,15 @@ keepFirst true new old = new
 keepFirst false new old = old
 
 -- the count, by whether it is still under its limit: one more, else it stops.
-abbrev pub countOn : Bool → ℕ → ℕ
-countOn true m = suc m
-countOn false m = missedLimit
+abbrev pub missedMore : Bool → ℕ → ℕ
+missedMore true m = suc m
+missedMore false m = missedMost
 
 -- The notice of u after a refusal r of an operation o.
 abbrev pub noticing : ℕ → ℕ → ℕ → Tables → Edit UserWord
 noticing u r o d = userWord held (keepFirst (eqb (d .user u held) 0) r (d .user u held))
     and userWord heldOp (keepFirst (eqb (d .user u held) 0) o (d .user u heldOp))
-    and userWord missed (countOn (ltb (d .user u missed) missedLimit) (d .user u missed))
+    and userWord missed (missedMore (ltb (d .user u missed) missedMost) (d .user u missed))
 
 abbrev pub notice : ℕ → ℕ → ℕ → Tables → Tables
 notice u r o d = onUser u (noticing u r o d) d

@@ -5,19 +5,19 @@ use Prim.Native.Nat.{_≤_, ℕ}
 use native.Mathlib.Omega.{arith}
 use lib.Dec.{eqb, ltb}
 use Rattle.model.specs.Basics.Choice.{Below, Same, below, it, other, over, same, under}
-use Rattle.model.specs.Effect.Notice.{countOn, keepFirst, notice, noticing}
+use Rattle.model.specs.Effect.Notice.{missedMore, keepFirst, notice, noticing}
 use Rattle.model.specs.State.Secure.{Secure}
 use Rattle.model.specs.State.WellFormed.{Notice, UserOk, WellFormed}
 use Rattle.model.specs.Tables.EditLaws.{each}
 use Rattle.model.specs.Tables.Edits.{written}
-use Rattle.model.specs.Tables.Words.{Tables, firstNoticed, held, heldOp, lastNoticed, missed, missedLimit, operationCount, present}
+use Rattle.model.specs.Tables.Words.{Tables, firstNoticed, held, heldOp, lastNoticed, missed, missedMost, operationCount, present}
 
 -- A notice goes on being one.
 notice-next : (h p m r o : ℕ) → (firstNoticed ≤ r) × (r ≤ lastNoticed) → o ≤ operationCount → Notice h p m
-    → Notice (keepFirst (eqb h 0) r h) (keepFirst (eqb h 0) o p) (countOn (ltb m missedLimit) m)
-notice-next h p m r o hr ho a = go (eqb h 0) (ltb m missedLimit) (same h 0) (below m missedLimit)
+    → Notice (keepFirst (eqb h 0) r h) (keepFirst (eqb h 0) o p) (missedMore (ltb m missedMost) m)
+notice-next h p m r o hr ho a = go (eqb h 0) (ltb m missedMost) (same h 0) (below m missedMost)
   where
-    go : (x y : Bool) → Same h 0 x → Below m missedLimit y → Notice (keepFirst x r h) (keepFirst x o p) (countOn y m)
+    go : (x y : Bool) → Same h 0 x → Below m missedMost y → Notice (keepFirst x r h) (keepFirst x o p) (missedMore y m)
     go true true (it q) (under l) = search (arith, inr)
     go true false (it q) (over l) = absurd (omega (arith, a .none .0 q))
     go false true (other q) (under l) = search (arith, inr)

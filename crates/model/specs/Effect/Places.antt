@@ -4,19 +4,19 @@ use lib.Dec.{eqb}
 use Rattle.model.specs.Basics.Choice.{pick}
 use Rattle.model.specs.Tables.Edits.{Edit, _and_, blank, onEntities, onEntity, row, word}
 use Rattle.model.specs.Tables.Rows.{left, replace, seek, without}
-use Rattle.model.specs.Tables.Words.{EntityWord, Tables, absentKind, containerKind, count, counts, draftType, entityCount, kind}
+use Rattle.model.specs.Tables.Words.{EntityWord, Tables, absentKind, containerKind, used, usedPlaces, draftType, entityCount, kind}
 use Rattle.model.specs.Tables.Words.{kinds, level, objectKind, place, places, plainType, shown, sums, triple, triples, type}
 
 -- Rule 6, put last: e stands in the next place of c, with the sum s shown of it.
 abbrev pub putting : ℕ → ℕ → ℕ → Tables → Edit EntityWord
-putting c e s d = word count (suc (counts d c)) and row place (replace (counts d c) e (places d c)) and row shown (replace (counts d c) s (sums d c))
+putting c e s d = word used (suc (usedPlaces d c)) and row place (replace (usedPlaces d c) e (places d c)) and row shown (replace (usedPlaces d c) s (sums d c))
 
 abbrev pub put : ℕ → ℕ → ℕ → Tables → Tables
 put c e s d = onEntity c (putting c e s d) d
 
 -- Rule 6, closing up: e leaves the container that it is in.
 abbrev pub leaving : ℕ → Tables → ℕ → Edit EntityWord
-leaving e d x = word count (left e (places d x) (counts d x)) and row place (without e (places d x) (counts d x))
+leaving e d x = word used (left e (places d x) (usedPlaces d x)) and row place (without e (places d x) (usedPlaces d x))
 
 abbrev pub leave : ℕ → Tables → Tables
 leave e d = onEntities (λ x. eqb (kinds d x) containerKind) (leaving e d) d

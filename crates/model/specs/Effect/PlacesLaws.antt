@@ -21,7 +21,7 @@ use Rattle.model.specs.Tables.EditLaws.{case, each}
 use Rattle.model.specs.Tables.Edits.{blank, written}
 use Rattle.model.specs.Tables.RowLaws.{sought}
 use Rattle.model.specs.Tables.Rows.{Sought, seek}
-use Rattle.model.specs.Tables.Words.{EntityWord, Tables, absentKind, clearance, containerKind, count, counts, deviceKind, devices}
+use Rattle.model.specs.Tables.Words.{EntityWord, Tables, absentKind, clearance, containerKind, used, usedPlaces, deviceKind, devices}
 use Rattle.model.specs.Tables.Words.{draftType, entityCount, kinds, level, mark, maximum, objectKind, placeCount, places, plainType}
 use Rattle.model.specs.Tables.Words.{releaser, shown, sums, value}
 
@@ -48,7 +48,7 @@ module _ (d : Tables) (w : WellFormed d) (e c k t l : ℕ) (gone : kinds d e ≡
       let b = zero-here value in
       let f = zero-here releaser in
       let g = zero-here maximum in
-      let h = zero-here count in
+      let h = zero-here used in
       let z : (i : ℕ) → d .entity e (shown i) ≡ 0 = λ i. zero-here (shown i) in
       let acc = w .entities c .access in
       let ty : (t ≤ 1) × (t ≢ 0 → k ≡ containerKind) = typing draft in
@@ -59,7 +59,7 @@ module _ (d : Tables) (w : WellFormed d) (e c k t l : ℕ) (gone : kinds d e ≡
       typing (inr q) = (omega arith, λ z. q .0)
 
   nothing : (x : ℕ) → Holds d e x → ⊥
-  nothing x h = omega (arith, h .1, zero-here count)
+  nothing x h = omega (arith, h .1, zero-here used)
 
   nowhere : (x : ℕ) → Holds d x e → ⊥
   nowhere x h = omega (arith, w .links .contents x e h)
@@ -70,7 +70,7 @@ module _ (d : Tables) (w : WellFormed d) (e c k t l : ℕ) (gone : kinds d e ≡
     entityNumbers = λ x. case (λ (y : ℕ). y ≢ 0 → (1 ≤ x) × (x ≤ entityCount)) x e k (kinds d x) (λ q z. rw q range) (λ q. w .entityNumbers x);
     users = w .users;
     entities = each EntityOk (bearing c k t l d) e (d .entity) (w .entities) (born-ok (w .entities e));
-    links = appear (kinds d) (counts d) (places d) (devices d) (w .links) e k gone (zero-here count) sort;
+    links = appear (kinds d) (usedPlaces d) (places d) (devices d) (w .links) e k gone (zero-here used) sort;
   }
 
   pub fresh-secure : Secure d → Secure (fresh e c k t l d)
@@ -87,14 +87,14 @@ module _ (d : Tables) (w : WellFormed d) (e c k t l : ℕ) (gone : kinds d e ≡
       same-kind x = case (λ (y : ℕ). y ≡ deviceKind → kinds d x ≡ deviceKind) x e k (kinds d x) (λ q z. absurd (omega arith)) (λ q z. z)
 
 -- a record is zeroed
-module _ (d : Tables) (w : WellFormed d) (e : ℕ) (thing : kinds d e ≤ containerKind) (empty : counts d e ≡ 0) (nowhere : (x : ℕ) → Holds d x e → ⊥) where
+module _ (d : Tables) (w : WellFormed d) (e : ℕ) (thing : kinds d e ≤ containerKind) (empty : usedPlaces d e ≡ 0) (nowhere : (x : ℕ) → Holds d x e → ⊥) where
   pub erase-wellFormed : WellFormed (erase e d)
   erase-wellFormed = record {
     userNumbers = w .userNumbers;
     entityNumbers = λ x. case (λ (y : ℕ). y ≢ 0 → (1 ≤ x) × (x ≤ entityCount)) x e 0 (kinds d x) (λ q z. absurd (z refl)) (λ q. w .entityNumbers x);
     users = w .users;
     entities = each EntityOk (blank) e (d .entity) (w .entities) zero-ok;
-    links = vanish (kinds d) (counts d) (places d) (devices d) (w .links) e nowhere thing;
+    links = vanish (kinds d) (usedPlaces d) (places d) (devices d) (w .links) e nowhere thing;
   }
 
   pub erase-secure : Secure d → Secure (erase e d)
@@ -107,9 +107,9 @@ module _ (d : Tables) (w : WellFormed d) (e : ℕ) (thing : kinds d e ≤ contai
   }
     where
       there : (x c : ℕ) → Holds (erase e d) x c → Holds d x c
-      there x c h = still (kinds d) (counts d) (places d) (devices d) (w .links) e nowhere thing x c h
+      there x c h = still (kinds d) (usedPlaces d) (places d) (devices d) (w .links) e nowhere thing x c h
 
-      shows : (x i : ℕ) (b : Bool) → pick b 0 (kinds d x) ≡ deviceKind → i < pick b 0 (counts d x) → T (labelled (pick b 0 (sums d x i)))
+      shows : (x i : ℕ) (b : Bool) → pick b 0 (kinds d x) ≡ deviceKind → i < pick b 0 (usedPlaces d x) → T (labelled (pick b 0 (sums d x i)))
       shows x i true h l = absurd (not-suc-le-zero l)
       shows x i false h l = s .valueLabelled x i h l
 
@@ -118,7 +118,7 @@ module _ (d : Tables) (w : WellFormed d) (e : ℕ) (thing : kinds d e ≤ contai
       top x false h = s .ceiling x h
 
 -- 2 delete: an entity with no contents, on no device
-module _ (d : Tables) (w : WellFormed d) (s : Secure d) (e : ℕ) (thing : kinds d e ≤ containerKind) (empty : counts d e ≡ 0)
+module _ (d : Tables) (w : WellFormed d) (s : Secure d) (e : ℕ) (thing : kinds d e ≤ containerKind) (empty : usedPlaces d e ≡ 0)
     (unseen : (x : ℕ) → kinds d x ≡ deviceKind → Holds d x e → ⊥) where
   nowhere-now : (x : ℕ) → Holds (leave e d) x e → ⊥
   nowhere-now x h =
@@ -126,10 +126,10 @@ module _ (d : Tables) (w : WellFormed d) (s : Secure d) (e : ℕ) (thing : kinds
       let not3 : kinds d x ≢ deviceKind = λ q. unseen x q (m .0) in
       let not2 : kinds d x ≢ containerKind = λ q. m .1 q refl in
       let not1 : kinds d x ≢ 1 = λ q. omega (arith, w .entities x .filled .objectEmpty q, m .0 .1) in
-      let not0 : kinds d x ≢ 0 = λ q. omega (arith, w .entities x .absent q count, m .0 .1) in
+      let not0 : kinds d x ≢ 0 = λ q. omega (arith, w .entities x .absent q used, m .0 .1) in
       omega (arith, w .entities x .shape .kindIn)
 
-  empty-now : counts (leave e d) e ≡ 0
+  empty-now : usedPlaces (leave e d) e ≡ 0
   empty-now = omega (arith, fewer-there d w e e)
 
   pub delete-wellFormed : WellFormed (delete e d)
@@ -145,10 +145,10 @@ on-none d w c u h q =
     omega (arith, w .links .deviceIs u (omega arith), ap (kinds d) q)
 
 -- 3 move
-module _ (d : Tables) (w : WellFormed d) (s : Secure d) (e c : ℕ) (thing : Thing d e) (box : kinds d c ≡ containerKind) (room : counts (leave e d) c < placeCount)
+module _ (d : Tables) (w : WellFormed d) (s : Secure d) (e c : ℕ) (thing : Thing d e) (box : kinds d c ≡ containerKind) (room : usedPlaces (leave e d) c < placeCount)
     (apart : Within (InTables d) c e → ⊥) (low : AtMost (d .entity e level) (d .entity c level)) where
   Inner : ℕ → ℕ → Type 0
-  Inner = In (kinds (leave e d)) (counts (leave e d)) (places (leave e d))
+  Inner = In (kinds (leave e d)) (usedPlaces (leave e d)) (places (leave e d))
 
   apart-now : Within Inner c e → ⊥
   unfolding Inner
@@ -179,7 +179,7 @@ module _ (d : Tables) (w : WellFormed d) (s : Secure d) (e c : ℕ) (thing : Thi
 -- 1 create
 module _ (d : Tables) (w : WellFormed d) (s : Secure d) (e c k t l : ℕ) (gone : kinds d e ≡ 0) (range : (1 ≤ e) × (e ≤ entityCount))
     (sort : (objectKind ≤ k) × (k ≤ containerKind)) (draft : (t ≡ 0) ⊎ ((k ≡ containerKind) × (t ≡ 1))) (lev : l < levelCount)
-    (box : kinds d c ≡ containerKind) (room : counts d c < placeCount) (low : AtMost l (d .entity c level)) where
+    (box : kinds d c ≡ containerKind) (room : usedPlaces d c < placeCount) (low : AtMost l (d .entity c level)) where
   abbrev with-it : Tables
   with-it = fresh e c k t l d
 
@@ -195,7 +195,7 @@ module _ (d : Tables) (w : WellFormed d) (s : Secure d) (e c k t l : ℕ) (gone 
   level-e : l ≡ with-it .entity e level
   level-e = case (λ (y : ℕ). l ≡ y) e e l (d .entity e level) (λ q. refl) (λ q. absurd (q refl))
 
-  separate : Within (In (kinds with-it) (counts with-it) (places with-it)) c e → ⊥
+  separate : Within (In (kinds with-it) (usedPlaces with-it) (places with-it)) c e → ⊥
   separate (inl q) = apart-c q
   separate (inr p) = let x = holds-one p in nothing d w e c k t l gone range sort draft lev (x .0) (x .1 .1)
 

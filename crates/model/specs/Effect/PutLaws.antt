@@ -16,16 +16,16 @@ use Rattle.model.specs.Tables.EditLaws.{all, case, each}
 use Rattle.model.specs.Tables.Edits.{written}
 use Rattle.model.specs.Tables.RowLaws.{append-packed, without-fewer, without-member, without-packed}
 use Rattle.model.specs.Tables.Rows.{Member, left, replace, without}
-use Rattle.model.specs.Tables.Words.{Tables, clearance, containerKind, counts, deviceKind, devices, kinds, level, placeCount, places}
-use Rattle.model.specs.Tables.Words.{sumLimit, sums}
+use Rattle.model.specs.Tables.Words.{Tables, clearance, containerKind, usedPlaces, deviceKind, devices, kinds, level, placeCount, places}
+use Rattle.model.specs.Tables.Words.{sumMost, sums}
 
 -- e is put last in c, with the sum s
 put-filled : (k n e s : ℕ) (at sum : ℕ → ℕ) → (containerKind ≤ k) → n < placeCount → 1 ≤ e → ((i : ℕ) → i < n → at i ≢ e)
-    → (k ≡ deviceKind → (1 ≤ s) × (s ≤ sumLimit)) → (k ≢ deviceKind → s ≡ 0) → Filled k n at sum → Filled k (suc n) (replace n e at) (replace n s sum)
+    → (k ≡ deviceKind → (1 ≤ s) × (s ≤ sumMost)) → (k ≢ deviceKind → s ≡ 0) → Filled k n at sum → Filled k (suc n) (replace n e at) (replace n s sum)
 put-filled k n e s at sum hk fits he new on off f = record {
   packed = append-packed at n e (f .packed) fits he new;
   objectEmpty = λ q. absurd (omega arith);
-  sums = λ q i l. case (λ (y : ℕ). (1 ≤ y) × (y ≤ sumLimit)) i n s (sum i) (λ z. on q) (λ z. f .sums q i (omega arith));
+  sums = λ q i l. case (λ (y : ℕ). (1 ≤ y) × (y ≤ sumMost)) i n s (sum i) (λ z. on q) (λ z. f .sums q i (omega arith));
   noSums = λ q i. case (λ (y : ℕ). y ≡ 0) i n s (sum i) (λ z. off q) (λ z. f .noSums q i);
   restSums = λ i l. case (λ (y : ℕ). y ≡ 0) i n s (sum i) (λ z. absurd (omega arith)) (λ z. f .restSums i (omega arith));
 }
@@ -34,19 +34,19 @@ put-filled k n e s at sum hk fits he new on off f = record {
 pub record Takes (d : Tables) (c e s : ℕ) : Type 0 where
   pub thing : Thing d e
   pub holder : containerKind ≤ kinds d c
-  pub room : counts d c < placeCount
-  pub new : (i : ℕ) → i < counts d c → places d c i ≢ e
+  pub room : usedPlaces d c < placeCount
+  pub new : (i : ℕ) → i < usedPlaces d c → places d c i ≢ e
   pub free : kinds d c ≡ containerKind → (b : ℕ) → InTables d b e → ⊥
   pub apart : Within (InTables d) c e → ⊥
   pub onIt : kinds d c ≡ deviceKind → (u : ℕ) × (devices d u ≡ c)
-  pub sumOn : kinds d c ≡ deviceKind → (1 ≤ s) × (s ≤ sumLimit)
+  pub sumOn : kinds d c ≡ deviceKind → (1 ≤ s) × (s ≤ sumMost)
   pub sumOff : kinds d c ≢ deviceKind → s ≡ 0
 
 module _ (d : Tables) (w : WellFormed d) (c e s : ℕ) (t : Takes d c e s) where
   put-ok : EntityOk (d .entity c) → EntityOk (written (putting c e s d) (d .entity c))
   put-ok o =
       let n = w .entityNumbers e (omega (arith, t .thing)) in
-      let f = put-filled (kinds d c) (counts d c) e s (places d c) (sums d c) (t .holder) (t .room) (n .0) (t .new) (t .sumOn) (t .sumOff) (o .filled) in
+      let f = put-filled (kinds d c) (usedPlaces d c) e s (places d c) (sums d c) (t .holder) (t .room) (n .0) (t .new) (t .sumOn) (t .sumOff) (o .filled) in
       let h = t .holder in
       search arith
 
@@ -56,11 +56,11 @@ module _ (d : Tables) (w : WellFormed d) (c e s : ℕ) (t : Takes d c e s) where
     entityNumbers = w .entityNumbers;
     users = w .users;
     entities = each EntityOk (putting c e s d) c (d .entity) (w .entities) (put-ok (w .entities c));
-    links = attach (kinds d) (counts d) (places d) (devices d) (w .links) c e (t .thing) (t .free) (t .apart) (t .onIt);
+    links = attach (kinds d) (usedPlaces d) (places d) (devices d) (w .links) c e (t .thing) (t .free) (t .apart) (t .onIt);
   }
 
   put-grown : (x a : ℕ) → Holds (put c e s d) x a → Holds d x a ⊎ ((x ≡ c) × (a ≡ e))
-  put-grown x a h = grown (kinds d) (counts d) (places d) (devices d) (w .links) c e x a h
+  put-grown x a h = grown (kinds d) (usedPlaces d) (places d) (devices d) (w .links) c e x a h
 
   pub put-secure : Secure d → AtMost (d .entity e level) (d .entity c level)
       → ((u : ℕ) → devices d u ≡ c → AtMost (d .entity e level) (d .user u clearance)) → (kinds d c ≡ deviceKind → T (labelled s))
@@ -81,9 +81,9 @@ module _ (d : Tables) (w : WellFormed d) (c e s : ℕ) (t : Takes d c e s) where
       on-it u a on (inl h) = o .seen u a on h
       on-it u a on (inr q) = rw (q .1) (clear u (q .0))
 
-      shows : (x i : ℕ) → kinds d x ≡ deviceKind → (b : Bool) → Same x c b → i < pick b (suc (counts d c)) (counts d x)
-          → T (labelled (pick b (replace (counts d c) s (sums d c) i) (sums d x i)))
-      shows x i k true (it q) l = case (λ (y : ℕ). T (labelled y)) i (counts d c) s (sums d c i) (λ z. label (ap (kinds d) (sym q) ∙ k))
+      shows : (x i : ℕ) → kinds d x ≡ deviceKind → (b : Bool) → Same x c b → i < pick b (suc (usedPlaces d c)) (usedPlaces d x)
+          → T (labelled (pick b (replace (usedPlaces d c) s (sums d c) i) (sums d x i)))
+      shows x i k true (it q) l = case (λ (y : ℕ). T (labelled y)) i (usedPlaces d c) s (sums d c i) (λ z. label (ap (kinds d) (sym q) ∙ k))
           (λ z. o .valueLabelled c i (ap (kinds d) (sym q) ∙ k) (omega arith))
       shows x i k false (other q) l = o .valueLabelled x i k l
 
@@ -99,21 +99,21 @@ leave-filled k n e at sum h f = record {
 
 module _ (d : Tables) (w : WellFormed d) (e : ℕ) where
   leave-ok : (x : ℕ) → kinds d x ≡ containerKind → EntityOk (d .entity x) → EntityOk (written (leaving e d x) (d .entity x))
-  leave-ok x h o = let f = leave-filled (kinds d x) (counts d x) e (places d x) (sums d x) h (o .filled) in search arith
+  leave-ok x h o = let f = leave-filled (kinds d x) (usedPlaces d x) e (places d x) (sums d x) h (o .filled) in search arith
 
   -- what is still there, and that e is in no container
   pub stayed : (x c : ℕ) → Holds (leave e d) x c → Holds d x c × (kinds d x ≡ containerKind → c ≢ e)
   stayed x c = go (eqb (kinds d x) containerKind) (same (kinds d x) containerKind)
     where
       go : (b : Bool) → Same (kinds d x) 2 b
-          → Member (λ i. pick b (without e (places d x) (counts d x) i) (places d x i)) (pick b (left e (places d x) (counts d x)) (counts d x)) c
+          → Member (λ i. pick b (without e (places d x) (usedPlaces d x) i) (places d x i)) (pick b (left e (places d x) (usedPlaces d x)) (usedPlaces d x)) c
           → Holds d x c × (kinds d x ≡ containerKind → c ≢ e)
-      go true (it q) m = let y = without-member e (places d x) (counts d x) (w .entities x .filled .packed) c m in (y .0, λ z. y .1)
+      go true (it q) m = let y = without-member e (places d x) (usedPlaces d x) (w .entities x .filled .packed) c m in (y .0, λ z. y .1)
       go false (other q) m = (m, λ z. absurd (q z))
 
-  pub fewer-there : (x : ℕ) → counts (leave e d) x ≤ counts d x
-  fewer-there x = case (λ (y : ℕ). y ≤ counts d x) (kinds d x) 2 (left e (places d x) (counts d x)) (counts d x)
-      (λ q. without-fewer e (places d x) (counts d x) (w .entities x .filled .packed)) (λ q. omega arith)
+  pub fewer-there : (x : ℕ) → usedPlaces (leave e d) x ≤ usedPlaces d x
+  fewer-there x = case (λ (y : ℕ). y ≤ usedPlaces d x) (kinds d x) 2 (left e (places d x) (usedPlaces d x)) (usedPlaces d x)
+      (λ q. without-fewer e (places d x) (usedPlaces d x) (w .entities x .filled .packed)) (λ q. omega arith)
 
   pub leave-wellFormed : WellFormed (leave e d)
   leave-wellFormed = record {
@@ -122,7 +122,7 @@ module _ (d : Tables) (w : WellFormed d) (e : ℕ) where
     users = w .users;
     entities = all EntityOk (λ x. eqb (kinds d x) containerKind) (leaving e d) (d .entity) (w .entities)
         (λ x t. leave-ok x (eqb→eq (kinds d x) containerKind t) (w .entities x));
-    links = shrink (kinds d) (counts d) (places d) (devices d) (w .links) (counts (leave e d)) (places (leave e d)) (λ x c h. stayed x c h .0) fewer-there;
+    links = shrink (kinds d) (usedPlaces d) (places d) (devices d) (w .links) (usedPlaces (leave e d)) (places (leave e d)) (λ x c h. stayed x c h .0) fewer-there;
   }
 
   pub leave-secure : Secure d → Secure (leave e d)

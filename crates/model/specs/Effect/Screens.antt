@@ -4,23 +4,23 @@ use lib.Dec.{ltb}
 use Rattle.model.specs.Basics.Choice.{pick}
 use Rattle.model.specs.Tables.Edits.{Edit, _and_, onEntity, onUser, row, userWord, word}
 use Rattle.model.specs.Tables.Rows.{replace, seek}
-use Rattle.model.specs.Tables.Words.{EntityWord, Tables, UserWord, count, counts, current, device, devices, place, places, shown}
+use Rattle.model.specs.Tables.Words.{EntityWord, Tables, UserWord, used, usedPlaces, current, device, devices, place, places, shown}
 use Rattle.model.specs.Tables.Words.{sums}
 
 -- the place of e on the device v, or the next free one
 abbrev pub spot : ℕ → ℕ → Tables → ℕ
-spot v e d = seek e (places d v) (counts d v)
+spot v e d = seek e (places d v) (usedPlaces d v)
 
 abbrev pub showing : ℕ → ℕ → ℕ → Tables → ℕ → ℕ → Edit EntityWord
-showing v e s d k n = word count n and row place (replace k e (places d v)) and row shown (replace k s (sums d v))
+showing v e s d k n = word used n and row place (replace k e (places d v)) and row shown (replace k s (sums d v))
 
 -- Rule 6.10: the device v shows e with the sum s: last, or in its place, where it has one.
 abbrev pub show : ℕ → ℕ → ℕ → Tables → Tables
-show v e s d = onEntity v (showing v e s d (spot v e d) (pick (ltb (spot v e d) (counts d v)) (counts d v) (suc (counts d v)))) d
+show v e s d = onEntity v (showing v e s d (spot v e d) (pick (ltb (spot v e d) (usedPlaces d v)) (usedPlaces d v) (suc (usedPlaces d v)))) d
 
 -- Rule 6.11: the device v shows nothing.
 abbrev pub clearing : Edit EntityWord
-clearing = word count 0 and row place (λ i. 0) and row shown (λ i. 0)
+clearing = word used 0 and row place (λ i. 0) and row shown (λ i. 0)
 
 abbrev pub clear : ℕ → Tables → Tables
 clear v = onEntity v clearing

@@ -16,7 +16,7 @@ use Rattle.model.specs.State.WellFormed.{EntityOk, Filled, Holds, UserOk
 use Rattle.model.specs.Tables.EditLaws.{case, each, member-emptied}
 use Rattle.model.specs.Tables.Edits.{userWord, written}
 use Rattle.model.specs.Tables.RowLaws.{packed-none}
-use Rattle.model.specs.Tables.Words.{Tables, authorised, clearance, counts, current, device, deviceKind, devices, kinds, level}
+use Rattle.model.specs.Tables.Words.{Tables, authorised, clearance, usedPlaces, current, device, deviceKind, devices, kinds, level}
 use Rattle.model.specs.Tables.Words.{places, present, sums}
 
 -- 11 clear
@@ -28,10 +28,10 @@ module _ (d : Tables) (w : WellFormed d) (v : ℕ) where
   clear-ok h o = let f = empty-filled (kinds d v) in search arith
 
   emptied : (x c : ℕ) → Holds (clear v d) x c → Holds d x c
-  emptied x c = member-emptied x v c (counts d x) (places d x)
+  emptied x c = member-emptied x v c (usedPlaces d x) (places d x)
 
-  none-more : (x : ℕ) → counts (clear v d) x ≤ counts d x
-  none-more x = case (λ (y : ℕ). y ≤ counts d x) x v 0 (counts d x) (λ q. omega arith) (λ q. omega arith)
+  none-more : (x : ℕ) → usedPlaces (clear v d) x ≤ usedPlaces d x
+  none-more x = case (λ (y : ℕ). y ≤ usedPlaces d x) x v 0 (usedPlaces d x) (λ q. omega arith) (λ q. omega arith)
 
   pub clear-wellFormed : 1 ≤ kinds d v → WellFormed (clear v d)
   clear-wellFormed h = record {
@@ -39,7 +39,7 @@ module _ (d : Tables) (w : WellFormed d) (v : ℕ) where
     entityNumbers = w .entityNumbers;
     users = w .users;
     entities = each EntityOk clearing v (d .entity) (w .entities) (clear-ok h (w .entities v));
-    links = shrink (kinds d) (counts d) (places d) (devices d) (w .links) (counts (clear v d)) (places (clear v d)) emptied none-more;
+    links = shrink (kinds d) (usedPlaces d) (places d) (devices d) (w .links) (usedPlaces (clear v d)) (places (clear v d)) emptied none-more;
   }
 
   pub clear-secure : Secure d → Secure (clear v d)
@@ -51,7 +51,7 @@ module _ (d : Tables) (w : WellFormed d) (v : ℕ) where
     ceiling = o .ceiling;
   }
     where
-      shows : (x i : ℕ) → kinds d x ≡ deviceKind → (b : Bool) → i < pick b 0 (counts d x) → T (labelled (pick b 0 (sums d x i)))
+      shows : (x i : ℕ) → kinds d x ≡ deviceKind → (b : Bool) → i < pick b 0 (usedPlaces d x) → T (labelled (pick b 0 (sums d x i)))
       shows x i k true l = absurd (not-suc-le-zero l)
       shows x i k false l = o .valueLabelled x i k l
 
@@ -69,7 +69,7 @@ module _ (d : Tables) (w : WellFormed d) (s : Secure d) (u v : ℕ) (p : d .user
     entityNumbers = w .entityNumbers;
     users = each UserOk (userWord device v) u (d .user) (w .users) (login-ok (w .entityNumbers v (omega arith) .0) off (w .users u));
     entities = w .entities;
-    links = arrive (kinds d) (counts d) (places d) (devices d) (w .links) u v none-at-0 off h free;
+    links = arrive (kinds d) (usedPlaces d) (places d) (devices d) (w .links) u v none-at-0 off h free;
   }
 
   pub login-secure : kinds d v ≡ deviceKind → ((x : ℕ) → devices d x ≢ v) → Secure (login u v d)
@@ -86,13 +86,13 @@ module _ (d : Tables) (w : WellFormed d) (s : Secure d) (u : ℕ) (p : d .user u
   off-ok : UserOk (d .user u) → UserOk (written departing (d .user u))
   off-ok o = search arith
 
-  off-wellFormed : counts d (devices d u) ≡ 0 → WellFormed (off u d)
+  off-wellFormed : usedPlaces d (devices d u) ≡ 0 → WellFormed (off u d)
   off-wellFormed none = record {
     userNumbers = w .userNumbers;
     entityNumbers = w .entityNumbers;
     users = each UserOk departing u (d .user) (w .users) (off-ok (w .users u));
     entities = w .entities;
-    links = depart (kinds d) (counts d) (places d) (devices d) (w .links) u none;
+    links = depart (kinds d) (usedPlaces d) (places d) (devices d) (w .links) u none;
   }
 
   off-secure : Secure (off u d)
@@ -107,8 +107,8 @@ module _ (d : Tables) (w : WellFormed d) (s : Secure d) (u : ℕ) (p : d .user u
   }
 
 module _ (d : Tables) (w : WellFormed d) (s : Secure d) (u : ℕ) (p : d .user u present ≢ 0) (on : devices d u ≢ 0) where
-  none-left : counts (clear (devices d u) d) (devices d u) ≡ 0
-  none-left = case (λ (y : ℕ). y ≡ 0) (devices d u) (devices d u) 0 (counts d (devices d u)) (λ q. refl) (λ q. absurd (q refl))
+  none-left : usedPlaces (clear (devices d u) d) (devices d u) ≡ 0
+  none-left = case (λ (y : ℕ). y ≡ 0) (devices d u) (devices d u) 0 (usedPlaces d (devices d u)) (λ q. refl) (λ q. absurd (q refl))
 
   pub logout-wellFormed : WellFormed (logout u d)
   logout-wellFormed =

@@ -14,6 +14,7 @@ use Rattle.model.specs.Request.Step.{answerOf}
 use Rattle.model.specs.Request.Words.{requestOf}
 use Rattle.model.specs.State.Check.{check}
 use Rattle.model.specs.Tables.Layout.{tablesOf}
+use Rattle.model.specs.Request.Refusals as refusal
 
 -- Rule 10.4: an entry is five words, the length and four names, zero behind the length.
 abbrev pub entryWords : ℕ
@@ -27,19 +28,6 @@ unfoldable pub entries : List (List ℕ) → List ℕ
 entries [] = []
 entries (r ∷ rs) = entry r ++ entries rs
 
--- The refusals that the list gives or looks for (rules 7.4, 7.6, 7.14 and 7.17).
-abbrev pub noSuchUser : ℕ
-noSuchUser = 4
-
-abbrev pub loggedOff : ℕ
-loggedOff = 6
-
-abbrev pub screenFull : ℕ
-screenFull = 14
-
-abbrev pub roomShort : ℕ
-roomShort = 17
-
 -- Rule 10.3: value and label are what a reader needs to see.
 abbrev pub valueAndLabel : ℕ
 valueAndLabel = 3
@@ -50,22 +38,22 @@ showing u r = u ∷ numberOf toShow ∷ (entry r ++ (0 ∷ 0 ∷ 0 ∷ 0 ∷ 0 �
 
 -- Rule 10.3: the step accepts that request, or refuses it for want of room on the screen and for nothing else.
 abbrev pub Opens : List ℕ → ℕ → List ℕ → Type 0
-Opens t u r = (answerOf t (showing u r) ≡ 0) ⊎ (answerOf t (showing u r) ≡ screenFull)
+Opens t u r = (answerOf t (showing u r) ≡ 0) ⊎ (answerOf t (showing u r) ≡ refusal.noRoom)
 
 unfoldable pub opens : List ℕ → ℕ → List ℕ → Bool
-opens t u r = eqb (answerOf t (showing u r)) 0 || eqb (answerOf t (showing u r)) screenFull
+opens t u r = eqb (answerOf t (showing u r)) 0 || eqb (answerOf t (showing u r)) refusal.noRoom
 
 -- Rule 10.2: the lowest of 1, 2, 3, 4 and 6 that applies, or 0. Rungs 4 and 6 ask only who requests, so no name is needed for them.
 unfoldable pub barred : List ℕ → ℕ → ℕ
 barred t u =
     pick (eqb (check t) 0)
-    (pick (unknownUser (tablesOf t) (requestOf (showing u []))) noSuchUser
-    (pick (notLoggedOn (tablesOf t) (requestOf (showing u []))) loggedOff 0))
+    (pick (unknownUser (tablesOf t) (requestOf (showing u []))) refusal.unknownRequester
+    (pick (notLoggedOn (tablesOf t) (requestOf (showing u []))) refusal.notLoggedOn 0))
     (check t)
 
 -- Rules 10.2 and 7.17: the answer where b is that refusal, l the complete list and n the words of room,
 abbrev pub listAnswer : ℕ → List (List ℕ) → ℕ → ℕ
-listAnswer b l n = pick (eqb b 0) (pick (leb (entryWords * length l) n) 0 roomShort) b
+listAnswer b l n = pick (eqb b 0) (pick (leb (entryWords * length l) n) 0 refusal.tooShort) b
 
 -- and its number: the entries written or needed, and none with another refusal.
 abbrev pub listNumber : ℕ → List (List ℕ) → ℕ

@@ -15,7 +15,7 @@ use Rattle.model.specs.List.AdmittedLaws.{barred-admitted}
 use Rattle.model.specs.List.BoundLaws.{walk-bound}
 use Rattle.model.specs.List.Complete.{Complete}
 use Rattle.model.specs.List.CompleteLaws.{complete-none, complete-unique}
-use Rattle.model.specs.List.Listing.{Lists, barred, entries, entryWords, listAnswer, listNumber, opens, roomAfter, roomShort}
+use Rattle.model.specs.List.Listing.{Lists, barred, entries, entryWords, listAnswer, listNumber, opens, roomAfter}
 use Rattle.model.specs.List.Reach.{mostEntries}
 use Rattle.model.specs.List.ShowLaws.{barred-opens, shown-reached}
 use Rattle.model.specs.List.WalkLaws.{walk-complete}
@@ -24,7 +24,8 @@ use Rattle.model.specs.Request.Ladder.{bars}
 use Rattle.model.specs.Request.Reference.{standing}
 use Rattle.model.specs.State.WellFormed.{WellFormed}
 use Rattle.model.specs.Tables.Layout.{tablesOf}
-use Rattle.model.specs.Tables.Words.{Tables, clearance, counts, entityCount, placeCount}
+use Rattle.model.specs.Tables.Words.{Tables, clearance, usedPlaces, entityCount, placeCount}
+use Rattle.model.specs.Request.Refusals as refusal
 
 -- Rules 10.3 to 10.6: where the list is not refused, the walk makes the complete list.
 pub found-complete : (t : List ℕ) (u : ℕ) → barred t u ≡ 0 → Complete (opens t u) (found (tablesOf t) u)
@@ -37,11 +38,11 @@ pub none-complete : (t : List ℕ) (u : ℕ) → barred t u ≢ 0 → Complete (
 none-complete t u h = complete-none (opens t u) (λ r low high. barred-opens t u r low high h)
 
 -- No more places lead on than are used,
-pub ways-used : (d : Tables) (u e : ℕ) → ways d u e ≤ counts d e
+pub ways-used : (d : Tables) (u e : ℕ) → ways d u e ≤ usedPlaces d e
 unfolding ways
 ways-used d u e = go (bars d (d .user u clearance) (e ∷ []))
   where
-    go : (b : Bool) → pick b 0 (counts d e) ≤ counts d e
+    go : (b : Bool) → pick b 0 (usedPlaces d e) ≤ usedPlaces d e
     go true = omega arith
     go false = omega arith
 
@@ -88,7 +89,7 @@ module _ (t : List ℕ) (u : ℕ) (room : List ℕ) where
       let f = agrees-not (agrees-eq (barred t u) 0) .from h in record {
         list = [];
         complete = none-complete t u h;
-        answer = sym (pick-false (eqb (barred t u) 0) (pick (leb 0 (length room)) 0 roomShort) (barred t u) f);
+        answer = sym (pick-false (eqb (barred t u) 0) (pick (leb 0 (length room)) 0 refusal.tooShort) (barred t u) f);
         number = sym (pick-same (eqb (barred t u) 0) 0);
         words = sym (pick-false (eqb (barred t u) 0) (entries [] ++ drop (length (entries [])) room) room f);
       }
@@ -100,18 +101,18 @@ module _ (t : List ℕ) (u : ℕ) (room : List ℕ) where
   counted : barred t u ≡ 0 → length l ≡ listNumber (barred t u) l
   counted h = sym (pick-true (eqb (barred t u) 0) (length l) 0 (agrees-eq (barred t u) 0 .from h))
 
-  answered : (a : ℕ) → barred t u ≡ 0 → pick (leb (entryWords * length l) (length room)) 0 roomShort ≡ a → a ≡ listAnswer (barred t u) l (length room)
+  answered : (a : ℕ) → barred t u ≡ 0 → pick (leb (entryWords * length l) (length room)) 0 refusal.tooShort ≡ a → a ≡ listAnswer (barred t u) l (length room)
   answered a h e =
       let f = agrees-eq (barred t u) 0 .from h in
-      sym (pick-true (eqb (barred t u) 0) (pick (leb (entryWords * length l) (length room)) 0 roomShort) (barred t u) f ∙ e)
+      sym (pick-true (eqb (barred t u) 0) (pick (leb (entryWords * length l) (length room)) 0 refusal.tooShort) (barred t u) f ∙ e)
 
   -- Too little room is answered 17, with the number of entries that there are, and stays as it was.
-  pub lists-short : barred t u ≡ 0 → length room < entryWords * length (found (tablesOf t) u) → Lists t u room roomShort (length (found (tablesOf t) u)) room
+  pub lists-short : barred t u ≡ 0 → length room < entryWords * length (found (tablesOf t) u) → Lists t u room refusal.tooShort (length (found (tablesOf t) u)) room
   unfolding l
   lists-short h k = record {
     list = l;
     complete = found-complete t u h;
-    answer = answered roomShort h (pick-false (leb (entryWords * length l) (length room)) 0 roomShort (fails-le (entryWords * length l) (length room) .from k));
+    answer = answered refusal.tooShort h (pick-false (leb (entryWords * length l) (length room)) 0 refusal.tooShort (fails-le (entryWords * length l) (length room) .from k));
     number = counted h;
     words = refl;
   }
@@ -123,7 +124,7 @@ module _ (t : List ℕ) (u : ℕ) (room : List ℕ) where
   lists-written r h k e = record {
     list = l;
     complete = found-complete t u h;
-    answer = answered 0 h (pick-true (leb (entryWords * length l) (length room)) 0 roomShort (agrees-le (entryWords * length l) (length room) .from k));
+    answer = answered 0 h (pick-true (leb (entryWords * length l) (length room)) 0 refusal.tooShort (agrees-le (entryWords * length l) (length room) .from k));
     number = counted h;
     words = e;
   }
@@ -136,5 +137,5 @@ module _ (t : List ℕ) (u : ℕ) (room : List ℕ) where
       (λ k. lists-written (entries (found (tablesOf t) u) ++ drop (length (entries (found (tablesOf t) u))) room) h k refl)
 
   pub lists-found-short : (l : List (List ℕ)) → barred t u ≡ 0 → found (tablesOf t) u ≡ l → length room < entryWords * length l
-      → Lists t u room roomShort (length l) room
-  lists-found-short l h e = subst (λ (k : List (List ℕ)). length room < entryWords * length k → Lists t u room roomShort (length k) room) e (lists-short h)
+      → Lists t u room refusal.tooShort (length l) room
+  lists-found-short l h e = subst (λ (k : List (List ℕ)). length room < entryWords * length k → Lists t u room refusal.tooShort (length k) room) e (lists-short h)

@@ -15,7 +15,7 @@ use Rattle.model.specs.Level.{atMost}
 use Rattle.model.specs.List.AdmittedLaws.{barred-admitted, barred-range}
 use Rattle.model.specs.List.AnswerLaws.{show-answer}
 use Rattle.model.specs.List.Further.{asks, further}
-use Rattle.model.specs.List.Listing.{Opens, barred, opens, screenFull, showing}
+use Rattle.model.specs.List.Listing.{Opens, barred, opens, showing}
 use Rattle.model.specs.List.Walk.{arrives, reached}
 use Rattle.model.specs.List.Ways.{showable, ways}
 use Rattle.model.specs.Request.Asked.{asked}
@@ -28,12 +28,13 @@ use Rattle.model.specs.Request.Step.{answerOf}
 use Rattle.model.specs.Request.Words.{nameCount, requestOf}
 use Rattle.model.specs.State.WellFormed.{WellFormed}
 use Rattle.model.specs.Tables.Layout.{tablesOf}
-use Rattle.model.specs.Tables.Words.{Tables, absentKind, clearance, count, counts, devices, entityCount, kinds, level, mark}
+use Rattle.model.specs.Tables.Words.{Tables, absentKind, clearance, used, usedPlaces, devices, entityCount, kinds, level, mark}
+use Rattle.model.specs.Request.Refusals as refusal
 
 -- Rule 10.3: the test of a reference is its statement.
 pub opens-agrees : (t : List ℕ) (u : ℕ) (r : List ℕ) → Agrees (opens t u r) (Opens t u r)
 unfolding opens
-opens-agrees t u r = agrees-or (agrees-eq (answerOf t (showing u r)) 0) (agrees-eq (answerOf t (showing u r)) screenFull)
+opens-agrees t u r = agrees-or (agrees-eq (answerOf t (showing u r)) 0) (agrees-eq (answerOf t (showing u r)) refusal.noRoom)
 
 -- Rule 10.2: where the list is refused, the step gives the same refusal, whatever reference of one to four names is asked for.
 pub barred-answer : (t : List ℕ) (u : ℕ) (r : List ℕ) → 1 ≤ length r → length r ≤ nameCount → barred t u ≢ 0 → answerOf t (showing u r) ≡ barred t u
@@ -54,7 +55,7 @@ no-way p = fails-false (leb 1 p && leb p 0) (fails-agreed (agrees-and (agrees-le
 pub opens-asks : (t : List ℕ) (u : ℕ) (r : List ℕ) → 1 ≤ length r → length r ≤ nameCount → barred t u ≡ 0
     → opens t u r ≡ asks (tablesOf t) u (resolve (tablesOf t) r) (bars (tablesOf t) (tablesOf t .user u clearance) (basis (tablesOf t) r))
 unfolding opens further
-opens-asks t u r low high h = ap (λ (a : ℕ). eqb a 0 || eqb a screenFull)
+opens-asks t u r low high h = ap (λ (a : ℕ). eqb a 0 || eqb a refusal.noRoom)
     (show-answer t u r low high ∙ pick-true (eqb (barred t u) 0) (further (tablesOf t) u r) (barred t u) (agrees-eq (barred t u) 0 .from h))
     ∙ go (eqb e 0) (permits d u (numberOf toShow) 1 e) (bars d (d .user u clearance) (basis d r)) (isEntity d e)
     (atMost (levelOf d e) (d .user u clearance)) (atMost (levelOf d e) (levelOf d (devices d u))) (showNoRoom d (asked d (requestOf (showing u r))))
@@ -66,7 +67,7 @@ opens-asks t u r low high h = ap (λ (a : ℕ). eqb a 0 || eqb a screenFull)
     e = resolve (tablesOf t) r
 
     go : (z g c k a b f : Bool) → (eqb (pick z 7 (pick (not g) 8 (pick c 9 (pick (not k) 10 (pick (not a || not b) 13 (pick f 14 0)))))) 0
-        || eqb (pick z 7 (pick (not g) 8 (pick c 9 (pick (not k) 10 (pick (not a || not b) 13 (pick f 14 0)))))) screenFull)
+        || eqb (pick z 7 (pick (not g) 8 (pick c 9 (pick (not k) 10 (pick (not a || not b) 13 (pick f 14 0)))))) refusal.noRoom)
         ≡ (not z && (g && (not c && (k && (a && b)))))
     go true g c k a b f = refl
     go false false c k a b f = refl
@@ -96,7 +97,7 @@ module _ (d : Tables) (w : WellFormed d) (u : ℕ) where
       none : (k c : Bool) → k ≡ false → (k && c) ≡ false
       none k c h = ap (λ (b : Bool). b && c) h
   absent-arrives e (p ∷ ps) z = ap (λ (n : ℕ). (leb 1 p && leb p n) && arrives (ways d u) (standing d) (showable d u) (standing d e p) ps)
-      (ap (pick (bars d (d .user u clearance) (e ∷ [])) 0) (w .entities e .absent z count) ∙ pick-same (bars d (d .user u clearance) (e ∷ [])) 0)
+      (ap (pick (bars d (d .user u clearance) (e ∷ [])) 0) (w .entities e .absent z used) ∙ pick-same (bars d (d .user u clearance) (e ∷ [])) 0)
       ∙ ap (λ (b : Bool). b && arrives (ways d u) (standing d) (showable d u) (standing d e p) ps) (no-way p)
 
   -- At the end of a way that is open the ladder asks what the walk does;
@@ -147,10 +148,10 @@ module _ (d : Tables) (w : WellFormed d) (u : ℕ) where
       step false ih = refl
 
       go : (b : Bool) → asks d u x c ≡ m
-          → asks d u (elim (leb 1 p && leb p (counts d e)) [ true ↦ x | false ↦ 0 ]) (elim b [ true ↦ true | false ↦ c ])
-          ≡ ((leb 1 p && leb p (pick (elim b [ true ↦ true | false ↦ false ]) 0 (counts d e))) && m)
-      go true ih = asks-barred (elim (leb 1 p && leb p (counts d e)) [ true ↦ x | false ↦ 0 ]) ∙ sym (ap (λ (b : Bool). b && m) (no-way p))
-      go false ih = step (leb 1 p && leb p (counts d e)) ih
+          → asks d u (elim (leb 1 p && leb p (usedPlaces d e)) [ true ↦ x | false ↦ 0 ]) (elim b [ true ↦ true | false ↦ c ])
+          ≡ ((leb 1 p && leb p (pick (elim b [ true ↦ true | false ↦ false ]) 0 (usedPlaces d e))) && m)
+      go true ih = asks-barred (elim (leb 1 p && leb p (usedPlaces d e)) [ true ↦ x | false ↦ 0 ]) ∙ sym (ap (λ (b : Bool). b && m) (no-way p))
+      go false ih = step (leb 1 p && leb p (usedPlaces d e)) ih
 
   -- and of a whole reference.
   resolve-asks : (r : List ℕ)

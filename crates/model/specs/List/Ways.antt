@@ -10,11 +10,11 @@ use Rattle.model.specs.Request.Ladder.{bars, permits}
 use Rattle.model.specs.Request.Operations.{numberOf, toShow}
 use Rattle.model.specs.Request.Reference.{standing}
 use Rattle.model.specs.Request.Words.{nameCount}
-use Rattle.model.specs.Tables.Words.{Tables, clearance, counts, devices, entityCount}
+use Rattle.model.specs.Tables.Words.{Tables, clearance, usedPlaces, devices, entityCount}
 
 -- Rules 7.7 and 7.9: the places of e by which a reference of user u leads on; none where e is marked and its level is not at most the clearance.
 unfoldable pub ways : Tables → ℕ → ℕ → ℕ
-ways d u e = pick (bars d (d .user u clearance) (e ∷ [])) 0 (counts d e)
+ways d u e = pick (bars d (d .user u clearance) (e ∷ [])) 0 (usedPlaces d e)
 
 -- Rules 6.10, 7.8 and 7.10: what show asks of the entity itself.
 unfoldable pub showable : Tables → ℕ → ℕ → Bool

@@ -21,9 +21,9 @@ use Rattle.model.specs.State.Depth.{Within}
 use Rattle.model.specs.State.Secure.{Secure, labelled}
 use Rattle.model.specs.State.WellFormed.{GoodTriple, Holds, InTables, Thing}
 use Rattle.model.specs.Tables.Rows.{Member, seek}
-use Rattle.model.specs.Tables.Words.{Tables, authorised, clearance, containerKind, counts, current, deviceKind, devices, draftType}
+use Rattle.model.specs.Tables.Words.{Tables, authorised, clearance, containerKind, usedPlaces, current, deviceKind, devices, draftType}
 use Rattle.model.specs.Tables.Words.{entityCount, held, kinds, level, mark, missed, objectKind, placeCount, present, releasedType}
-use Rattle.model.specs.Tables.Words.{sumLimit, tripleOf, triples, type, userCount, whoRole}
+use Rattle.model.specs.Tables.Words.{sumMost, tripleOf, triples, type, userCount, whoRole}
 
 -- Rule 7.4: the requester is one of the users that are there.
 pub record Known (d : Tables) (u : ℕ) : Type 0 where
@@ -68,12 +68,12 @@ pub record MayCreate (s : Asked) (d : Tables) : Type 0 where
   pub levelIn : s .b < levelCount
   pub low : AtMost (s .b) (levelOf d (s .first))
   pub number : vacant d ≤ entityCount
-  pub room : counts d (s .first) < placeCount
+  pub room : usedPlaces d (s .first) < placeCount
 
 -- Rule 6.2.
 pub record MayDelete (s : Asked) (d : Tables) : Type 0 where
   pub thing : Thing d (s .first)
-  pub empty : counts d (s .first) ≡ 0
+  pub empty : usedPlaces d (s .first) ≡ 0
   pub unseen : (x : ℕ) → kinds d x ≡ deviceKind → Holds d x (s .first) → ⊥
   pub kept : d .entity (s .first) type ≢ releasedType
 
@@ -82,7 +82,7 @@ pub record MayMove (s : Asked) (d : Tables) : Type 0 where
   pub thing : Thing d (s .first)
   pub box : kinds d (s .second) ≡ containerKind
   pub low : AtMost (levelOf d (s .first)) (levelOf d (s .second))
-  pub room : counts (leave (s .first) d) (s .second) < placeCount
+  pub room : usedPlaces (leave (s .first) d) (s .second) < placeCount
   pub apart : Within (InTables d) (s .second) (s .first) → ⊥
 
 -- Rule 6.5.
@@ -117,11 +117,11 @@ pub record MayRevoke (s : Asked) (d : Tables) : Type 0 where
 pub record MayShow (s : Asked) (d : Tables) : Type 0 where
   pub on : own d s ≢ 0
   pub thing : Thing d (s .first)
-  pub sum : Between 1 sumLimit (s .a)
+  pub sum : Between 1 sumMost (s .a)
   pub low : AtMost (levelOf d (s .first)) (levelOf d (own d s))
   pub clear : AtMost (levelOf d (s .first)) (d .user (s .user) clearance)
   pub label : T (labelled (s .a))
-  pub room : counts d (own d s) ≤ spot (own d s) (s .first) d → counts d (own d s) < placeCount
+  pub room : usedPlaces d (own d s) ≤ spot (own d s) (s .first) d → usedPlaces d (own d s) < placeCount
 
 -- Rule 6.12.
 pub record MayLogin (s : Asked) (d : Tables) : Type 0 where
@@ -175,7 +175,7 @@ pub record MayRelease (s : Asked) (d : Tables) : Type 0 where
 pub record MayAcknowledge (s : Asked) (d : Tables) : Type 0 where
   pub holding : d .user (s .user) held ≢ 0
   pub refusal : s .a ≡ d .user (s .user) held
-  pub count : s .b ≡ d .user (s .user) missed
+  pub used : s .b ≡ d .user (s .user) missed
 
 abbrev pub Allowed : Op → Asked → Tables → Type 0
 Allowed toCreate s d = MayCreate s d

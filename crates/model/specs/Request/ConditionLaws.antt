@@ -24,7 +24,7 @@ use Rattle.model.specs.State.Secure.{Secure, labelled}
 use Rattle.model.specs.State.WellFormed.{Holds, InTables, Thing, WellFormed}
 use Rattle.model.specs.Tables.RowLaws.{sought}
 use Rattle.model.specs.Tables.Rows.{Sought, seek}
-use Rattle.model.specs.Tables.Words.{Tables, authorised, clearance, containerKind, counts, current, deviceKind, devices, draftType}
+use Rattle.model.specs.Tables.Words.{Tables, authorised, clearance, containerKind, usedPlaces, current, deviceKind, devices, draftType}
 use Rattle.model.specs.Tables.Words.{entityCount, held, kinds, missed, objectKind, placeCount, present, releasedType, triples, type}
 
 -- Rule 5.5: `any` is an object, a container or a device,
@@ -69,9 +69,9 @@ module _ (d : Tables) (s : Asked) where
   createAbove-fails = fails-not (agrees-T (atMost (s .b) (levelOf d (s .first))))
 
   -- and no 14 where a number is left and the container has a free place.
-  pub createNoRoom-fails : Fails (createNoRoom d s) ((vacant d ≤ entityCount) × (counts d (s .first) < placeCount))
+  pub createNoRoom-fails : Fails (createNoRoom d s) ((vacant d ≤ entityCount) × (usedPlaces d (s .first) < placeCount))
   unfolding createNoRoom
-  createNoRoom-fails = fails-or (fails-not (agrees-le (vacant d) entityCount)) (fails-le placeCount (counts d (s .first)))
+  createNoRoom-fails = fails-or (fails-not (agrees-le (vacant d) entityCount)) (fails-le placeCount (usedPlaces d (s .first)))
 
   -- Rules 6.3 and 6.5: no refusal 13 where the first's level is at most the second's.
   pub firstAbove-fails : Fails (firstAbove d s) (AtMost (levelOf d (s .first)) (levelOf d (s .second)))
@@ -79,9 +79,9 @@ module _ (d : Tables) (s : Asked) where
   firstAbove-fails = fails-not (agrees-T (atMost (levelOf d (s .first)) (levelOf d (s .second))))
 
   -- Rule 6.3: no refusal 14 where the container has a free place once the entity has left.
-  pub moveNoRoom-fails : Fails (moveNoRoom d s) (counts (leave (s .first) d) (s .second) < placeCount)
+  pub moveNoRoom-fails : Fails (moveNoRoom d s) (usedPlaces (leave (s .first) d) (s .second) < placeCount)
   unfolding moveNoRoom
-  moveNoRoom-fails = fails-le placeCount (counts (leave (s .first) d) (s .second))
+  moveNoRoom-fails = fails-le placeCount (usedPlaces (leave (s .first) d) (s .second))
 
   -- Rule 6.6: no refusal 12 where a strictly lower level is set by a downgrader.
   pub levelLowered-fails : Fails (levelLowered d s) (Lower (s .a) (levelOf d (s .first)) → HasRole d (s .user) downgrader)
@@ -113,9 +113,9 @@ module _ (d : Tables) (s : Asked) where
       (fails-not (agrees-T (atMost (levelOf d (s .first)) (levelOf d (own d s)))))
 
   -- no 14 where the device shows the entity already, or has a free place;
-  pub showNoRoom-fails : Fails (showNoRoom d s) (counts d (own d s) ≤ spot (own d s) (s .first) d → counts d (own d s) < placeCount)
+  pub showNoRoom-fails : Fails (showNoRoom d s) (usedPlaces d (own d s) ≤ spot (own d s) (s .first) d → usedPlaces d (own d s) < placeCount)
   unfolding showNoRoom
-  showNoRoom-fails = fails-and (agrees-le (counts d (own d s)) (spot (own d s) (s .first) d)) (fails-le placeCount (counts d (own d s)))
+  showNoRoom-fails = fails-and (agrees-le (usedPlaces d (own d s)) (spot (own d s) (s .first) d)) (fails-le placeCount (usedPlaces d (own d s)))
 
   -- and no 15 where the value comes with its label.
   pub showUnlabelled-fails : Fails (showUnlabelled d s) (T (labelled (s .a)))
@@ -168,9 +168,9 @@ module _ (d : Tables) (s : Asked) where
   module _ (w : WellFormed d) where
     -- Rule 6.2: no refusal 15 where the entity holds nothing, no device shows it, and it is not released.
     pub deleteForbidden-fails : Fails (deleteForbidden d s)
-        ((counts d (s .first) ≡ 0) × (((x : ℕ) → kinds d x ≡ deviceKind → Holds d x (s .first) → ⊥) × (d .entity (s .first) type ≢ releasedType)))
+        ((usedPlaces d (s .first) ≡ 0) × (((x : ℕ) → kinds d x ≡ deviceKind → Holds d x (s .first) → ⊥) × (d .entity (s .first) type ≢ releasedType)))
     unfolding deleteForbidden
-    deleteForbidden-fails = fails-or (fails-not (agrees-eq (counts d (s .first)) 0))
+    deleteForbidden-fails = fails-or (fails-not (agrees-eq (usedPlaces d (s .first)) 0))
         (fails-or (fails-where (onScreen d (s .first)) (screen-agrees d w (s .first))) (fails-agreed (agrees-eq (d .entity (s .first) type) releasedType)))
 
     -- Rule 6.3: no refusal 15 where the container is neither the entity nor inside it.

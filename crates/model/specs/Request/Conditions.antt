@@ -11,9 +11,9 @@ use Rattle.model.specs.State.Check.{parent, secureTest}
 use Rattle.model.specs.State.Climb.{climb}
 use Rattle.model.specs.State.Secure.{labelled}
 use Rattle.model.specs.Tables.Rows.{seek}
-use Rattle.model.specs.Tables.Words.{Tables, authorised, clearance, containerKind, counts, current, deviceKind, devices, draftType}
+use Rattle.model.specs.Tables.Words.{Tables, authorised, clearance, containerKind, usedPlaces, current, deviceKind, devices, draftType}
 use Rattle.model.specs.Tables.Words.{entityCount, held, kinds, level, missed, objectKind, operationCount, placeCount, places}
-use Rattle.model.specs.Tables.Words.{positionCount, present, releasedType, sumLimit, triples, type, userCount, whoLimit}
+use Rattle.model.specs.Tables.Words.{positionCount, present, releasedType, sumMost, triples, type, userCount, whoMost}
 
 -- Rule 5.5.
 abbrev pub Kind : Type 0
@@ -63,10 +63,10 @@ unfoldable pub aFlag : Range
 aFlag n = leb n 1
 
 unfoldable pub aSum : Range
-aSum n = between 1 sumLimit n
+aSum n = between 1 sumMost n
 
 unfoldable pub aWho : Range
-aWho n = between 1 whoLimit n
+aWho n = between 1 whoMost n
 
 unfoldable pub anOperation : Range
 anOperation n = between 1 operationCount n
@@ -90,16 +90,16 @@ unfoldable pub createAbove : Condition
 createAbove d s = not (atMost (s .b) (levelOf d (s .first)))
 
 unfoldable pub createNoRoom : Condition
-createNoRoom d s = not (leb (vacant d) entityCount) || leb placeCount (counts d (s .first))
+createNoRoom d s = not (leb (vacant d) entityCount) || leb placeCount (usedPlaces d (s .first))
 
 -- Rule 6.2: e stands on a device, whoever's.
 unfoldable pub onScreen : Tables → ℕ → Bool
 onScreen d e = not (every entityCount (λ v. imp (eqb (kinds d (suc v)) deviceKind)
-    (not (ltb (seek e (places d (suc v)) (counts d (suc v))) (counts d (suc v))))))
+    (not (ltb (seek e (places d (suc v)) (usedPlaces d (suc v))) (usedPlaces d (suc v))))))
 
 -- Rule 6.2, 15: it holds something, is on a screen, or is released.
 unfoldable pub deleteForbidden : Condition
-deleteForbidden d s = not (eqb (counts d (s .first)) 0) || (onScreen d (s .first) || eqb (d .entity (s .first) type) releasedType)
+deleteForbidden d s = not (eqb (usedPlaces d (s .first)) 0) || (onScreen d (s .first) || eqb (d .entity (s .first) type) releasedType)
 
 -- Rules 6.3 and 6.5, 13: the first operand is too high for the second.
 unfoldable pub firstAbove : Condition
@@ -107,10 +107,10 @@ firstAbove d s = not (atMost (levelOf d (s .first)) (levelOf d (s .second)))
 
 -- Rule 6.3, 14: full even when the entity has left its old place; 15: the container is the entity or lies in it.
 unfoldable pub moveNoRoom : Condition
-moveNoRoom d s = leb placeCount (counts (leave (s .first) d) (s .second))
+moveNoRoom d s = leb placeCount (usedPlaces (leave (s .first) d) (s .second))
 
 unfoldable pub moveInside : Condition
-moveInside d s = climb (parent (kinds d) (counts d) (places d)) (suc entityCount) (s .second) (s .first)
+moveInside d s = climb (parent (kinds d) (usedPlaces d) (places d)) (suc entityCount) (s .second) (s .first)
 
 -- Rule 6.6, 12: a downgrade by one who may not.
 unfoldable pub levelLowered : Condition
@@ -129,7 +129,7 @@ unfoldable pub showAbove : Condition
 showAbove d s = not (atMost (levelOf d (s .first)) (d .user (s .user) clearance)) || not (atMost (levelOf d (s .first)) (levelOf d (own d s)))
 
 unfoldable pub showNoRoom : Condition
-showNoRoom d s = leb (counts d (own d s)) (spot (own d s) (s .first) d) && leb placeCount (counts d (own d s))
+showNoRoom d s = leb (usedPlaces d (own d s)) (spot (own d s) (s .first) d) && leb placeCount (usedPlaces d (own d s))
 
 unfoldable pub showUnlabelled : Condition
 showUnlabelled d s = not (labelled (s .a))

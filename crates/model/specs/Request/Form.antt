@@ -7,7 +7,7 @@ use Rattle.model.specs.Request.Operations.{Op, toAcknowledge, toAuthoris
 use Rattle.model.specs.Request.Operations.{toDelete, toDeviceLevel, toEdit, toGrant, toLevel, toLogin, toLogout, toMark, toMaximum}
 use Rattle.model.specs.Request.Operations.{toMove, toRelease, toRevoke, toShow}
 use Rattle.model.specs.Request.Words.{Reference, Request, nameCount}
-use Rattle.model.specs.Tables.Words.{operationCount, positionCount, sumLimit, userCount, whoLimit}
+use Rattle.model.specs.Tables.Words.{operationCount, positionCount, sumMost, userCount, whoMost}
 
 -- Rule 5.4: a reference that an operation takes has 1 to 4 names, and its name words behind them are zero;
 abbrev pub Named : Reference → Type 0
@@ -58,9 +58,9 @@ InRange toEdit a b c = (b ≡ 0) × (c ≡ 0)
 InRange toCopy a b c = (a ≡ 0) × ((b ≡ 0) × (c ≡ 0))
 InRange toLevel a b c = (a < levelCount) × ((b ≡ 0) × (c ≡ 0))
 InRange toMark a b c = (a ≤ 1) × ((b ≡ 0) × (c ≡ 0))
-InRange toGrant a b c = Between 1 whoLimit a × (Between 1 operationCount b × Between 1 positionCount c)
-InRange toRevoke a b c = Between 1 whoLimit a × (Between 1 operationCount b × Between 1 positionCount c)
-InRange toShow a b c = Between 1 sumLimit a × ((b ≡ 0) × (c ≡ 0))
+InRange toGrant a b c = Between 1 whoMost a × (Between 1 operationCount b × Between 1 positionCount c)
+InRange toRevoke a b c = Between 1 whoMost a × (Between 1 operationCount b × Between 1 positionCount c)
+InRange toShow a b c = Between 1 sumMost a × ((b ≡ 0) × (c ≡ 0))
 InRange toClear a b c = (a ≡ 0) × ((b ≡ 0) × (c ≡ 0))
 InRange toLogin a b c = (a ≡ 0) × ((b ≡ 0) × (c ≡ 0))
 InRange toLogout a b c = (a ≡ 0) × ((b ≡ 0) × (c ≡ 0))

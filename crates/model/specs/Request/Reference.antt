@@ -4,7 +4,7 @@ use mathlib.Core.List.{List, [], _∷_}
 use mathlib.Core.Logic.{_≢_}
 use Prim.Native.Nat.{_≤_, pred, ℕ}
 use lib.Dec.{eqb, leb}
-use Rattle.model.specs.Tables.Words.{Tables, absentKind, counts, entityCount, kind, kinds, places}
+use Rattle.model.specs.Tables.Words.{Tables, absentKind, usedPlaces, entityCount, kind, kinds, places}
 
 -- e is one of the entities that are there
 unfoldable pub presentTest : Tables → ℕ → Bool
@@ -12,7 +12,7 @@ presentTest d e = (leb 1 e && leb e entityCount) && not (eqb (kinds d e) absentK
 
 -- p is a used place of e, counted from 1
 unfoldable pub placeTest : Tables → ℕ → ℕ → Bool
-placeTest d e p = leb 1 p && leb p (counts d e)
+placeTest d e p = leb 1 p && leb p (usedPlaces d e)
 
 -- what stands in place p of e, counted from 1
 abbrev pub standing : Tables → ℕ → ℕ → ℕ
@@ -41,7 +41,7 @@ basis d (e ∷ ps) = passed d e ps
 -- Rule 5.3 as a relation: from e, the names ps pass by the entities w and end at x.
 pub data Reads (d : Tables) : ℕ → List ℕ → List ℕ → ℕ → Type 0 where
   here : {e : ℕ} → Reads d e [] [] e
-  further : {e p : ℕ} {ps w : List ℕ} {x : ℕ} → 1 ≤ p → p ≤ counts d e → Reads d (standing d e p) ps w x → Reads d e (p ∷ ps) (e ∷ w) x
+  further : {e p : ℕ} {ps w : List ℕ} {x : ℕ} → 1 ≤ p → p ≤ usedPlaces d e → Reads d (standing d e p) ps w x → Reads d e (p ∷ ps) (e ∷ w) x
 
 pub record Present (d : Tables) (e : ℕ) : Type 0 where
   pub low : 1 ≤ e

@@ -10,11 +10,11 @@ use Rattle.model.specs.Basics.Agree.{Agrees, agrees-and, agrees-as, agre
 use Rattle.model.specs.Request.Reference.{Leads, Present, Reads, basis, begins, follow, further, here, passed, placeTest, presentTest}
 use Rattle.model.specs.Request.Reference.{resolve, standing}
 use Rattle.model.specs.State.WellFormed.{Holds, WellFormed}
-use Rattle.model.specs.Tables.Words.{Tables, absentKind, containerKind, counts, entityCount, kinds, objectKind}
+use Rattle.model.specs.Tables.Words.{Tables, absentKind, containerKind, usedPlaces, entityCount, kinds, objectKind}
 
-pub place-agrees : (d : Tables) (e p : ℕ) → Agrees (placeTest d e p) ((1 ≤ p) × (p ≤ counts d e))
+pub place-agrees : (d : Tables) (e p : ℕ) → Agrees (placeTest d e p) ((1 ≤ p) × (p ≤ usedPlaces d e))
 unfolding placeTest
-place-agrees d e p = agrees-and (agrees-le 1 p) (agrees-le p (counts d e))
+place-agrees d e p = agrees-and (agrees-le 1 p) (agrees-le p (usedPlaces d e))
 
 pub present-agrees : (d : Tables) (e : ℕ) → Agrees (presentTest d e) (Present d e)
 unfolding presentTest
@@ -28,7 +28,7 @@ unfolding follow passed
 follow-reads d e [] h = here
 follow-reads d e (p ∷ ps) h = go (placeTest d e p) (place-agrees d e p .to) h (follow-reads d (standing d e p) ps)
   where
-    go : (b : Bool) → (T b → (1 ≤ p) × (p ≤ counts d e)) → _≢_ {A = ℕ} (elim b [ true ↦ follow d (standing d e p) ps | false ↦ 0 ]) 0
+    go : (b : Bool) → (T b → (1 ≤ p) × (p ≤ usedPlaces d e)) → _≢_ {A = ℕ} (elim b [ true ↦ follow d (standing d e p) ps | false ↦ 0 ]) 0
         → (follow d (standing d e p) ps ≢ 0 → Reads d (standing d e p) ps (passed d (standing d e p) ps) (follow d (standing d e p) ps))
         → Reads d e (p ∷ ps) (e ∷ passed d (standing d e p) ps) (elim b [ true ↦ follow d (standing d e p) ps | false ↦ 0 ])
     go true f n ih = further (f tt .0) (f tt .1) (ih n)

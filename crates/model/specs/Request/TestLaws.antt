@@ -25,7 +25,7 @@ use Rattle.model.specs.State.ParentLaws.{parent-held, parent-none, paren
 use Rattle.model.specs.State.WellFormed.{Holds, InTables, WellFormed}
 use Rattle.model.specs.Tables.Layout.{Bounded}
 use Rattle.model.specs.Tables.Rows.{Member, seek}
-use Rattle.model.specs.Tables.Words.{Tables, clearance, counts, current, device, deviceKind, devices, entityCount, kind, kinds}
+use Rattle.model.specs.Tables.Words.{Tables, clearance, usedPlaces, current, device, deviceKind, devices, entityCount, kind, kinds}
 use Rattle.model.specs.Tables.Words.{level, mark, placeCount, places, tripleOf, triples, userCount, whoRole}
 
 -- Rule 5.6: the test is of current roles.
@@ -76,9 +76,9 @@ module _ (d : Tables) (w : WellFormed d) where
   pub screen-agrees : (e : ℕ) → Agrees (not (onScreen d e)) ((x : ℕ) → kinds d x ≡ deviceKind → Holds d x e → ⊥)
   unfolding onScreen
   screen-agrees e =
-      agrees-twice (agrees-range entityCount (λ v. imp (eqb (kinds d v) deviceKind) (not (ltb (seek e (places d v) (counts d v)) (counts d v))))
+      agrees-twice (agrees-range entityCount (λ v. imp (eqb (kinds d v) deviceKind) (not (ltb (seek e (places d v) (usedPlaces d v)) (usedPlaces d v))))
       (λ x. kinds d x ≡ deviceKind → Holds d x e → ⊥)
-      (λ v. agrees-imp (agrees-eq (kinds d v) deviceKind) (agrees-not (member-agrees (places d v) (counts d v) e)))
+      (λ v. agrees-imp (agrees-eq (kinds d v) deviceKind) (agrees-not (member-agrees (places d v) (usedPlaces d v) e)))
       (λ k. absurd (omega (arith, bound .entityOut 0 (inl refl) kind))) (λ x r k. absurd (omega (arith, bound .entityOut x (inr r) kind))))
 
   -- Rule 6.12: nobody is on the device v.
@@ -87,7 +87,7 @@ module _ (d : Tables) (w : WellFormed d) where
       (λ r. omega (arith, bound .userOut 0 (inl refl) device)) (λ u z r. omega (arith, bound .userOut u (inr z) device))
 
   -- Rule 6.3: the container is the entity, or inside it at any depth.
-  pub inside-agrees : (c e : ℕ) → Agrees (climb (parent (kinds d) (counts d) (places d)) (suc entityCount) c e) (Within (InTables d) c e)
+  pub inside-agrees : (c e : ℕ) → Agrees (climb (parent (kinds d) (usedPlaces d) (places d)) (suc entityCount) c e) (Within (InTables d) c e)
   inside-agrees c e = record {
     to = climb-sound entityCount (InTables d) par (parent-none d w) (parent-held d w) one (parent-range d w) (suc entityCount) c e;
     from = climb-complete entityCount (InTables d) par (parent-none d w) (parent-held d w) one (parent-range d w) (suc entityCount) c e
@@ -95,7 +95,7 @@ module _ (d : Tables) (w : WellFormed d) where
   }
     where
       par : ℕ → ℕ
-      par = parent (kinds d) (counts d) (places d)
+      par = parent (kinds d) (usedPlaces d) (places d)
 
       one : (a x y : ℕ) → InTables d x a → InTables d y a → x ≡ y
       one = w .links .oneContainer

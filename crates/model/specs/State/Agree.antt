@@ -13,7 +13,7 @@ use Rattle.model.specs.State.Tests.{entityTest, userTest}
 use Rattle.model.specs.State.WellFormed.{EntityOk, Links, UserOk, WellFormed}
 use Rattle.model.specs.Tables.Layout.{Bounded}
 use Rattle.model.specs.Tables.RowLaws.{packed-none}
-use Rattle.model.specs.Tables.Words.{Tables, count, counts, device, devices, entityCount, kind, kinds, places, present, userCount}
+use Rattle.model.specs.Tables.Words.{Tables, used, usedPlaces, device, devices, entityCount, kind, kinds, places, present, userCount}
 
 -- A record of zeros is in order.
 pub zero-ok : EntityOk (λ f. 0)
@@ -47,7 +47,7 @@ module _ (d : Tables) (o : Bounded d) where
       (zero-users 0 (inl refl)) (λ u q. zero-users u (inr q)))
       (agrees-then (agrees-range entityCount (λ e. entityTest (d .entity e)) (λ e. EntityOk (d .entity e))
       (λ e. entity-agrees (d .entity e) (eights e)) (zero-entities 0 (inl refl)) (λ e q. zero-entities e (inr q)))
-      (λ ok. links-agrees (kinds d) (counts d) (places d) (devices d) (λ e q. (o .entityOut e q kind, o .entityOut e q count))
+      (λ ok. links-agrees (kinds d) (usedPlaces d) (places d) (devices d) (λ e q. (o .entityOut e q kind, o .entityOut e q used))
       (λ u q. o .userOut u q device) (λ e. ok e .filled .packed .room))))
     where
       number-u : (u : ℕ) → d .user u present ≢ 0 → (1 ≤ u) × (u ≤ userCount)

@@ -14,11 +14,11 @@ use Rattle.model.specs.State.Tests.{tripleTest, userTest}
 use Rattle.model.specs.State.WellFormed.{Access, EntityOk, Filled, GoodTriple, Notice, Shape, UserOk}
 use Rattle.model.specs.Tables.RowLaws.{first-zero}
 use Rattle.model.specs.Tables.Rows.{Packed, seek}
-use Rattle.model.specs.Tables.Words.{EntityWord, UserWord, authorised, clearance, containerKind, count, current, device, deviceKind}
-use Rattle.model.specs.Tables.Words.{firstNoticed, held, heldOp, kind, lastNoticed, level, mark, maximum, missed, missedLimit}
+use Rattle.model.specs.Tables.Words.{EntityWord, UserWord, authorised, clearance, containerKind, used, current, device, deviceKind}
+use Rattle.model.specs.Tables.Words.{firstNoticed, held, heldOp, kind, lastNoticed, level, mark, maximum, missed, missedMost}
 use Rattle.model.specs.Tables.Words.{objectKind, operationCount, operationIn, place, placeCount, plainType, positionCount, positionOf}
-use Rattle.model.specs.Tables.Words.{present, releasedType, releaser, shown, spare, sumLimit, triple, type, userCount, value}
-use Rattle.model.specs.Tables.Words.{whoLimit, whoOf}
+use Rattle.model.specs.Tables.Words.{present, releasedType, releaser, shown, spare, sumMost, triple, type, userCount, value}
+use Rattle.model.specs.Tables.Words.{whoMost, whoOf}
 
 -- Rules 3.3 and 3.8 to 3.11.
 pub shape-agrees : (k t l m v r x : ℕ) → Agrees (shapeTest k t l m v r x) (Shape k t l m v r x)
@@ -65,14 +65,14 @@ pub notice-agrees : (h o n : ℕ) → Agrees (noticeTest h o n) (Notice h o n)
 unfolding noticeTest
 notice-agrees h o n = agrees-as
     {P = ((h ≡ 0) ⊎ ((firstNoticed ≤ h) × (h ≤ lastNoticed))) × ((o ≤ operationCount)
-    × ((n ≤ missedLimit) × ((h ≡ 0 → n ≡ 0) × ((n ≡ 0 → h ≡ 0) × (h ≡ 0 → o ≡ 0)))))}
+    × ((n ≤ missedMost) × ((h ≡ 0 → n ≡ 0) × ((n ≡ 0 → h ≡ 0) × (h ≡ 0 → o ≡ 0)))))}
     (λ z. search) (λ s. search) (search agreement depth 20)
 
 -- Rules 3.4, 3.7 and 3.12.
 pub filled-agrees : (k n : ℕ) (at sum : ℕ → ℕ) → Eight at → Eight sum → Agrees (filledTest k n at sum) (Filled k n at sum)
 unfolding filledTest
 filled-agrees k n at sum ea es = agrees-as
-    {P = Packed at n × ((k ≡ objectKind → n ≡ 0) × ((k ≡ deviceKind → (i : ℕ) → i < placeCount → i < n → (1 ≤ sum i) × (sum i ≤ sumLimit))
+    {P = Packed at n × ((k ≡ objectKind → n ≡ 0) × ((k ≡ deviceKind → (i : ℕ) → i < placeCount → i < n → (1 ≤ sum i) × (sum i ≤ sumMost))
     × ((k ≢ deviceKind → (i : ℕ) → i < placeCount → sum i ≡ 0) × ((i : ℕ) → i < placeCount → n ≤ i → sum i ≡ 0))))}
     (λ z. record {
       packed = z .0;
@@ -88,7 +88,7 @@ filled-agrees k n at sum ea es = agrees-as
 pub good-agrees : (t : ℕ) → Agrees (tripleTest t) (GoodTriple t)
 unfolding tripleTest
 good-agrees t = agrees-as
-    {P = ((1 ≤ whoOf t) × (whoOf t ≤ whoLimit)) × (((1 ≤ operationIn t) × (operationIn t ≤ operationCount)) × ((1 ≤ positionOf t) × (positionOf t ≤ positionCount)))}
+    {P = ((1 ≤ whoOf t) × (whoOf t ≤ whoMost)) × (((1 ≤ operationIn t) × (operationIn t ≤ operationCount)) × ((1 ≤ positionOf t) × (positionOf t ≤ positionCount)))}
     (λ z. search) (λ s. search) (search agreement depth 20)
 
 -- Rule 3.5.
@@ -110,7 +110,7 @@ pub record Eights (w : EntityWord → ℕ) : Type 0 where
 absent-entity-agrees : (w : EntityWord → ℕ) → Eights w → Agrees (noneTest w) ((f : EntityWord) → w f ≡ 0)
 unfolding noneTest
 absent-entity-agrees w o = agrees-as
-    {P = (w kind ≡ 0) × ((w type ≡ 0) × ((w level ≡ 0) × ((w mark ≡ 0) × ((w value ≡ 0) × ((w releaser ≡ 0) × ((w maximum ≡ 0) × ((w count ≡ 0)
+    {P = (w kind ≡ 0) × ((w type ≡ 0) × ((w level ≡ 0) × ((w mark ≡ 0) × ((w value ≡ 0) × ((w releaser ≡ 0) × ((w maximum ≡ 0) × ((w used ≡ 0)
     × (((i : ℕ) → i < placeCount → w (place i) ≡ 0) × (((i : ℕ) → i < placeCount → w (shown i) ≡ 0) × ((i : ℕ) → i < placeCount → w (triple i) ≡ 0))))))))))}
     (λ z. elim [
       | kind ↦ z .0
@@ -120,12 +120,12 @@ absent-entity-agrees w o = agrees-as
       | value ↦ z .1 .1 .1 .1 .0
       | releaser ↦ z .1 .1 .1 .1 .1 .0
       | maximum ↦ z .1 .1 .1 .1 .1 .1 .0
-      | count ↦ z .1 .1 .1 .1 .1 .1 .1 .0
+      | used ↦ z .1 .1 .1 .1 .1 .1 .1 .0
       | place i ↦ within (λ j. w (place j)) (o .place8) (z .1 .1 .1 .1 .1 .1 .1 .1 .0) i
       | shown i ↦ within (λ j. w (shown j)) (o .shown8) (z .1 .1 .1 .1 .1 .1 .1 .1 .1 .0) i
       | triple i ↦ within (λ j. w (triple j)) (o .triple8) (z .1 .1 .1 .1 .1 .1 .1 .1 .1 .1) i
     ])
-    (λ f. (f kind, (f type, (f level, (f mark, (f value, (f releaser, (f maximum, (f count, (λ i h. f (place i), (λ i h. f (shown i), λ i h. f (triple i))))))))))))
+    (λ f. (f kind, (f type, (f level, (f mark, (f value, (f releaser, (f maximum, (f used, (λ i h. f (place i), (λ i h. f (shown i), λ i h. f (triple i))))))))))))
     (search agreement depth 20)
 
 -- An entity's record by itself.
@@ -133,12 +133,12 @@ pub entity-agrees : (w : EntityWord → ℕ) → Eights w → Agrees (entityTest
 unfolding entityTest
 entity-agrees w o = agrees-as
     {P = (w kind ≡ 0 → (f : EntityWord) → w f ≡ 0) × (Shape (w kind) (w type) (w level) (w mark) (w value) (w releaser) (w maximum)
-    × (Filled (w kind) (w count) (λ i. w (place i)) (λ i. w (shown i)) × ((n : ℕ) × Access n (λ i. w (triple i)))))}
+    × (Filled (w kind) (w used) (λ i. w (place i)) (λ i. w (shown i)) × ((n : ℕ) × Access n (λ i. w (triple i)))))}
     (λ z. record { absent = z .0; shape = z .1 .0; filled = z .1 .1 .0; access = z .1 .1 .1 })
     (λ e. (e .absent, (e .shape, (e .filled, e .access))))
     (agrees-and (agrees-imp (agrees-eq (w kind) 0) (absent-entity-agrees w o)) (agrees-and
     (shape-agrees (w kind) (w type) (w level) (w mark) (w value) (w releaser) (w maximum))
-    (agrees-and (filled-agrees (w kind) (w count) (λ i. w (place i)) (λ i. w (shown i)) (o .place8) (o .shown8)) (access-agrees (λ i. w (triple i)) (o .triple8)))))
+    (agrees-and (filled-agrees (w kind) (w used) (λ i. w (place i)) (λ i. w (shown i)) (o .place8) (o .shown8)) (access-agrees (λ i. w (triple i)) (o .triple8)))))
 
 -- Rule 3.1 of a user.
 absent-user-agrees : (w : UserWord → ℕ) → Agrees (nobodyTest w)

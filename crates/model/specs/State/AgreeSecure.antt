@@ -20,7 +20,7 @@ use Rattle.model.specs.State.WellFormed.{Holds, WellFormed}
 use Rattle.model.specs.Tables.EditLaws.{case}
 use Rattle.model.specs.Tables.Layout.{Bounded, tablesOf, wordCount}
 use Rattle.model.specs.Tables.LayoutLaws.{bounded}
-use Rattle.model.specs.Tables.Words.{Tables, authorised, clearance, counts, current, device, deviceKind, devices, entityCount}
+use Rattle.model.specs.Tables.Words.{Tables, authorised, clearance, usedPlaces, current, device, deviceKind, devices, entityCount}
 use Rattle.model.specs.Tables.Words.{kinds, level, maximum, placeCount, places, sums, userCount}
 
 module _ (d : Tables) (w : WellFormed d) where
@@ -29,7 +29,7 @@ module _ (d : Tables) (w : WellFormed d) where
 
   contained-agrees : (e : ℕ) → Agrees (containedTest d e) ((c : ℕ) → Holds d e c → AtMost (d .entity c level) (d .entity e level))
   unfolding containedTest
-  contained-agrees e = agrees-as {P = (i : ℕ) → i < placeCount → i < counts d e → AtMost (d .entity (places d e i) level) (d .entity e level)}
+  contained-agrees e = agrees-as {P = (i : ℕ) → i < placeCount → i < usedPlaces d e → AtMost (d .entity (places d e i) level) (d .entity e level)}
       (λ f c m. subst (λ (y : ℕ). AtMost (d .entity y level) (d .entity e level)) (m .2) (f (m .0) (omega (arith, m .1, row-room d w e)) (m .1)))
       (λ s i h l. s (places d e i) (i, l, refl))
       (search (agreement, agrees-T))
@@ -37,15 +37,15 @@ module _ (d : Tables) (w : WellFormed d) where
   seen-agrees : (u : ℕ)
       → Agrees (seenTest d u) ((c : ℕ) → devices d u ≢ 0 → Holds d (devices d u) c → AtMost (d .entity c level) (d .user u clearance))
   unfolding seenTest
-  seen-agrees u = agrees-as {P = devices d u ≢ 0 → (i : ℕ) → i < placeCount → i < counts d (devices d u) → AtMost
+  seen-agrees u = agrees-as {P = devices d u ≢ 0 → (i : ℕ) → i < placeCount → i < usedPlaces d (devices d u) → AtMost
       (d .entity (places d (devices d u) i) level) (d .user u clearance)}
       (λ f c n m. subst (λ (y : ℕ). AtMost (d .entity y level) (d .user u clearance)) (m .2) (f n (m .0) (omega (arith, m .1, row-room d w (devices d u))) (m .1)))
       (λ s n i h l. s (places d (devices d u) i) n (i, l, refl))
       (search (agreement, agrees-T))
 
-  labelled-agrees : (e : ℕ) → Agrees (labelledTest d e) ((i : ℕ) → kinds d e ≡ deviceKind → i < counts d e → T (labelled (sums d e i)))
+  labelled-agrees : (e : ℕ) → Agrees (labelledTest d e) ((i : ℕ) → kinds d e ≡ deviceKind → i < usedPlaces d e → T (labelled (sums d e i)))
   unfolding labelledTest
-  labelled-agrees e = agrees-as {P = kinds d e ≡ deviceKind → (i : ℕ) → i < placeCount → i < counts d e → T (labelled (sums d e i))}
+  labelled-agrees e = agrees-as {P = kinds d e ≡ deviceKind → (i : ℕ) → i < placeCount → i < usedPlaces d e → T (labelled (sums d e i))}
       (λ f i k l. f k i (omega (arith, row-room d w e)) l)
       (λ s k i h l. s i k l)
       (search (agreement, agrees-T))
@@ -64,7 +64,7 @@ module _ (d : Tables) (w : WellFormed d) where
   secure-agrees = agrees-as
       {P = ((e c : ℕ) → Holds d e c → AtMost (d .entity c level) (d .entity e level))
       × (((u c : ℕ) → devices d u ≢ 0 → Holds d (devices d u) c → AtMost (d .entity c level) (d .user u clearance))
-      × (((e i : ℕ) → kinds d e ≡ deviceKind → i < counts d e → T (labelled (sums d e i)))
+      × (((e i : ℕ) → kinds d e ≡ deviceKind → i < usedPlaces d e → T (labelled (sums d e i)))
       × (((u : ℕ) → Subset roleCount (d .user u current) (d .user u authorised))
       × ((e : ℕ) → kinds d e ≡ deviceKind → AtMost (d .entity e level) (d .entity e maximum)))))}
       (λ z. record { contained = z .0; seen = z .1 .0; valueLabelled = z .1 .1 .0; roles = z .1 .1 .1 .0; ceiling = z .1 .1 .1 .1 })
@@ -74,7 +74,7 @@ module _ (d : Tables) (w : WellFormed d) where
       (agrees-and (agrees-range userCount (seenTest d) (λ u. (c : ℕ) → devices d u ≢ 0 → Holds d (devices d u) c → AtMost (d .entity c level)
       (d .user u clearance)) seen-agrees
       (λ c n m. absurd (n (o .userOut 0 (inl refl) device))) (λ u q c n m. absurd (n (o .userOut u (inr q) device))))
-      (agrees-and (agrees-range entityCount (labelledTest d) (λ e. (i : ℕ) → kinds d e ≡ deviceKind → i < counts d e → T (labelled (sums d e i))) labelled-agrees
+      (agrees-and (agrees-range entityCount (labelledTest d) (λ e. (i : ℕ) → kinds d e ≡ deviceKind → i < usedPlaces d e → T (labelled (sums d e i))) labelled-agrees
       (λ i k l. absurd (omega (arith, entity-out d w 0 (inl refl)))) (λ e q i k l. absurd (omega (arith, entity-out d w e (inr q)))))
       (agrees-and (agrees-range userCount (rolesTest d) (λ u. Subset roleCount (d .user u current) (d .user u authorised)) roles-agrees
       (no-roles 0 (inl refl)) (λ u q. no-roles u (inr q)))

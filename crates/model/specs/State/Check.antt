@@ -13,7 +13,7 @@ use Rattle.model.specs.State.Secure.{labelled}
 use Rattle.model.specs.State.Tests.{entityTest, userTest}
 use Rattle.model.specs.Tables.Layout.{tablesOf, wordCount}
 use Rattle.model.specs.Tables.Rows.{seek}
-use Rattle.model.specs.Tables.Words.{Tables, authorised, clearance, containerKind, counts, current, deviceKind, devices, entityCount}
+use Rattle.model.specs.Tables.Words.{Tables, authorised, clearance, containerKind, usedPlaces, current, deviceKind, devices, entityCount}
 use Rattle.model.specs.Tables.Words.{kinds, level, maximum, objectKind, placeCount, places, sums, userCount}
 
 -- a stands directly in the container b
@@ -64,20 +64,20 @@ linksTest k n at dev = contentsTest k n at dev && (oneTest k n at dev && (loopTe
 -- Rule 3, all of it.
 unfoldable pub wellFormedTest : Tables → Bool
 wellFormedTest d = every userCount (λ u. userTest (d .user (suc u)))
-    && (every entityCount (λ e. entityTest (d .entity (suc e))) && linksTest (kinds d) (counts d) (places d) (devices d))
+    && (every entityCount (λ e. entityTest (d .entity (suc e))) && linksTest (kinds d) (usedPlaces d) (places d) (devices d))
 
 -- Rule 4.1: nothing stands in or on what is not at least its level.
 unfoldable pub containedTest : Tables → ℕ → Bool
-containedTest d e = every placeCount (λ i. imp (ltb i (counts d e)) (atMost (d .entity (places d e i) level) (d .entity e level)))
+containedTest d e = every placeCount (λ i. imp (ltb i (usedPlaces d e)) (atMost (d .entity (places d e i) level) (d .entity e level)))
 
 -- Rule 4.2: nobody is shown what they are not cleared for.
 unfoldable pub seenTest : Tables → ℕ → Bool
 seenTest d u = imp (not (eqb (devices d u) 0))
-    (every placeCount (λ i. imp (ltb i (counts d (devices d u))) (atMost (d .entity (places d (devices d u) i) level) (d .user u clearance))))
+    (every placeCount (λ i. imp (ltb i (usedPlaces d (devices d u))) (atMost (d .entity (places d (devices d u) i) level) (d .user u clearance))))
 
 -- Rule 4.3: no value without its label.
 unfoldable pub labelledTest : Tables → ℕ → Bool
-labelledTest d e = imp (eqb (kinds d e) deviceKind) (every placeCount (λ i. imp (ltb i (counts d e)) (labelled (sums d e i))))
+labelledTest d e = imp (eqb (kinds d e) deviceKind) (every placeCount (λ i. imp (ltb i (usedPlaces d e)) (labelled (sums d e i))))
 
 -- Rule 4.4: nobody acts with a role that is not authorised.
 unfoldable pub rolesTest : Tables → ℕ → Bool

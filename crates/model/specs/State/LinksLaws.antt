@@ -31,13 +31,13 @@ module _ (k n : ℕ → ℕ) (at : ℕ → ℕ → ℕ) (dev : ℕ → ℕ) (l :
 
   -- e is put last in c
   module _ (c e : ℕ) where
-    abbrev pub count+ : ℕ → ℕ
-    count+ x = pick (eqb x c) (suc (n c)) (n x)
+    abbrev pub used+ : ℕ → ℕ
+    used+ x = pick (eqb x c) (suc (n c)) (n x)
 
     abbrev pub place+ : ℕ → ℕ → ℕ
     place+ x i = pick (eqb x c) (replace (n c) e (at c) i) (at x i)
 
-    pub grown : (x a : ℕ) → Member (place+ x) (count+ x) a → Member (at x) (n x) a ⊎ ((x ≡ c) × (a ≡ e))
+    pub grown : (x a : ℕ) → Member (place+ x) (used+ x) a → Member (at x) (n x) a ⊎ ((x ≡ c) × (a ≡ e))
     grown x a h = go (member-cases x c a (suc (n c)) (n x) (replace (n c) e (at c)) (at x) h)
       where
         go : ((x ≡ c) × Member (replace (n c) e (at c)) (suc (n c)) a) ⊎ ((x ≢ c) × Member (at x) (n x) a)
@@ -49,7 +49,7 @@ module _ (k n : ℕ → ℕ) (at : ℕ → ℕ → ℕ) (dev : ℕ → ℕ) (l :
             last (inl m) = inl (subst (λ (y : ℕ). Member (at y) (n y) a) (sym (q .0)) m)
             last (inr z) = inr (q .0, z)
 
-    one-more : OneMore (In k n at) (In k count+ place+) c e
+    one-more : OneMore (In k n at) (In k used+ place+) c e
     one-more b a p = go (grown b a (p .1))
       where
         go : Member (at b) (n b) a ⊎ ((b ≡ c) × (a ≡ e)) → In k n at b a ⊎ ((b ≡ c) × (a ≡ e))
@@ -57,11 +57,11 @@ module _ (k n : ℕ → ℕ) (at : ℕ → ℕ → ℕ) (dev : ℕ → ℕ) (l :
         go (inr q) = inr q
 
     pub attach : (objectKind ≤ k e) × (k e ≤ containerKind) → (k c ≡ containerKind → (b : ℕ) → In k n at b e → ⊥) → (Within (In k n at) c e → ⊥)
-        → (k c ≡ deviceKind → (u : ℕ) × (dev u ≡ c)) → Linked k count+ place+ dev
+        → (k c ≡ deviceKind → (u : ℕ) × (dev u ≡ c)) → Linked k used+ place+ dev
     attach thing free apart on = record {
       contents = λ x a h. whole x a (grown x a h);
       oneContainer = λ a x y p q. alone a x y p q (one-more x a p) (one-more y a q);
-      noLoop = no-loop (In k n at) (In k count+ place+) c e one-more (l .noLoop) apart;
+      noLoop = no-loop (In k n at) (In k used+ place+) c e one-more (l .noLoop) apart;
       deviceIs = l .deviceIs;
       oneUser = l .oneUser;
       idle = λ x h z. case (λ (y : ℕ). y ≡ 0) x c (suc (n c)) (n x) (λ q. let o = on (subst (λ (y : ℕ). k y ≡ deviceKind) q h) in absurd
@@ -72,7 +72,7 @@ module _ (k n : ℕ → ℕ) (at : ℕ → ℕ → ℕ) (dev : ℕ → ℕ) (l :
         whole x a (inl m) = l .contents x a m
         whole x a (inr q) = rw (q .1) thing
 
-        alone : (a x y : ℕ) → In k count+ place+ x a → In k count+ place+ y a → In k n at x a ⊎ ((x ≡ c) × (a ≡ e))
+        alone : (a x y : ℕ) → In k used+ place+ x a → In k used+ place+ y a → In k n at x a ⊎ ((x ≡ c) × (a ≡ e))
             → In k n at y a ⊎ ((y ≡ c) × (a ≡ e)) → x ≡ y
         alone a x y p′ q′ (inl p) (inl q) = l .oneContainer a x y p q
         alone a x y p′ q′ (inl p) (inr q) = absurd (free (ap k (sym (q .0)) ∙ q′ .0) x (rw (q .1) at p))
@@ -108,20 +108,20 @@ module _ (k n : ℕ → ℕ) (at : ℕ → ℕ → ℕ) (dev : ℕ → ℕ) (l :
     abbrev pub kind- : ℕ → ℕ
     kind- x = pick (eqb x e) 0 (k x)
 
-    abbrev pub count- : ℕ → ℕ
-    count- x = pick (eqb x e) 0 (n x)
+    abbrev pub used- : ℕ → ℕ
+    used- x = pick (eqb x e) 0 (n x)
 
     abbrev pub place- : ℕ → ℕ → ℕ
     place- x i = pick (eqb x e) 0 (at x i)
 
-    pub still : (x c : ℕ) → Member (place- x) (count- x) c → Member (at x) (n x) c
+    pub still : (x c : ℕ) → Member (place- x) (used- x) c → Member (at x) (n x) c
     still x c = member-emptied x e c (n x) (at x)
 
-    still-in : (b c : ℕ) → In kind- count- place- b c → In k n at b c
+    still-in : (b c : ℕ) → In kind- used- place- b c → In k n at b c
     still-in b c p =
         (case (λ (y : ℕ). y ≡ containerKind → k b ≡ containerKind) b e 0 (k b) (λ q z. absurd (omega arith)) (λ q z. z) (p .0), still b c (p .1))
 
-    pub vanish : Linked kind- count- place- dev
+    pub vanish : Linked kind- used- place- dev
     vanish = record {
       contents =
           λ x c h. case (λ (y : ℕ). (objectKind ≤ y) × (y ≤ containerKind)) c e 0 (k c) (λ q. absurd (nowhere x (subst (Member (at x) (n x)) q (still x c h))))

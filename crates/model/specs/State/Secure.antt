@@ -7,7 +7,7 @@ use lib.Dec.{T}
 use Rattle.model.specs.Basics.Tests.{imp}
 use Rattle.model.specs.Level.{AtMost, Subset, bit, roleCount}
 use Rattle.model.specs.State.WellFormed.{Holds, WellFormed}
-use Rattle.model.specs.Tables.Words.{Tables, authorised, clearance, counts, current, deviceKind, devices, kinds, labelBit, level}
+use Rattle.model.specs.Tables.Words.{Tables, authorised, clearance, usedPlaces, current, deviceKind, devices, kinds, labelBit, level}
 use Rattle.model.specs.Tables.Words.{maximum, sums, valueBit}
 
 -- the value is shown only where the label is
@@ -20,7 +20,7 @@ pub record Secure (d : Tables) : Type 0 where
   -- rule 4.2: nobody is shown what they are not cleared for
   pub seen : (u c : ℕ) → devices d u ≢ 0 → Holds d (devices d u) c → AtMost (d .entity c level) (d .user u clearance)
   -- rule 4.3: no value without its label
-  pub valueLabelled : (e i : ℕ) → kinds d e ≡ deviceKind → i < counts d e → T (labelled (sums d e i))
+  pub valueLabelled : (e i : ℕ) → kinds d e ≡ deviceKind → i < usedPlaces d e → T (labelled (sums d e i))
   -- rule 4.4: nobody acts with a role that is not authorised
   pub roles : (u : ℕ) → Subset roleCount (d .user u current) (d .user u authorised)
   -- rule 4.5: no device is set above its maximum

@@ -5,11 +5,11 @@ use lib.Dec.{eqb, leb, ltb}
 use Rattle.model.specs.Basics.Tests.{every, imp}
 use Rattle.model.specs.Level.{levelCount, roleSets}
 use Rattle.model.specs.Tables.Rows.{seek}
-use Rattle.model.specs.Tables.Words.{EntityWord, UserWord, absentKind, authorised, clearance, containerKind, count, current, device}
+use Rattle.model.specs.Tables.Words.{EntityWord, UserWord, absentKind, authorised, clearance, containerKind, used, current, device}
 use Rattle.model.specs.Tables.Words.{deviceKind, firstNoticed, held, heldOp, kind, lastNoticed, level, mark, maximum, missed}
-use Rattle.model.specs.Tables.Words.{missedLimit, objectKind, operationCount, operationIn, place, placeCount, plainType}
-use Rattle.model.specs.Tables.Words.{positionCount, positionOf, present, releasedType, releaser, shown, spare, spareCount, sumLimit}
-use Rattle.model.specs.Tables.Words.{triple, type, userCount, value, whoLimit, whoOf}
+use Rattle.model.specs.Tables.Words.{missedMost, objectKind, operationCount, operationIn, place, placeCount, plainType}
+use Rattle.model.specs.Tables.Words.{positionCount, positionOf, present, releasedType, releaser, shown, spare, spareCount, sumMost}
+use Rattle.model.specs.Tables.Words.{triple, type, userCount, value, whoMost, whoOf}
 
 -- Rules 3.4 and 3.5: the first n places used, distinct, the rest zero.
 unfoldable pub packedTest : (ℕ → ℕ) → ℕ → Bool
@@ -27,12 +27,12 @@ shapeTest k t l m v r x =
 -- Rules 3.4, 3.7 and 3.12: contents and what is shown of them.
 unfoldable pub filledTest : ℕ → ℕ → (ℕ → ℕ) → (ℕ → ℕ) → Bool
 filledTest k n at sum = packedTest at n && (imp (eqb k objectKind) (eqb n 0)
-    && (imp (eqb k deviceKind) (every placeCount (λ i. imp (ltb i n) (leb 1 (sum i) && leb (sum i) sumLimit)))
+    && (imp (eqb k deviceKind) (every placeCount (λ i. imp (ltb i n) (leb 1 (sum i) && leb (sum i) sumMost)))
     && (imp (not (eqb k deviceKind)) (every placeCount (λ i. eqb (sum i) 0)) && every placeCount (λ i. imp (leb n i) (eqb (sum i) 0)))))
 
 -- Rule 3.22: what a triple may name.
 unfoldable pub tripleTest : ℕ → Bool
-tripleTest t = (leb 1 (whoOf t) && leb (whoOf t) whoLimit)
+tripleTest t = (leb 1 (whoOf t) && leb (whoOf t) whoMost)
     && ((leb 1 (operationIn t) && leb (operationIn t) operationCount) && (leb 1 (positionOf t) && leb (positionOf t) positionCount))
 
 -- Rule 3.5: the triples before the first zero.
@@ -42,7 +42,7 @@ accessTest r = packedTest r (seek 0 r placeCount) && every placeCount (λ i. imp
 -- Rule 3.1: an absent entity's record.
 unfoldable pub noneTest : (EntityWord → ℕ) → Bool
 noneTest w = eqb (w kind) 0 && (eqb (w type) 0 && (eqb (w level) 0 && (eqb (w mark) 0
-    && (eqb (w value) 0 && (eqb (w releaser) 0 && (eqb (w maximum) 0 && (eqb (w count) 0
+    && (eqb (w value) 0 && (eqb (w releaser) 0 && (eqb (w maximum) 0 && (eqb (w used) 0
     && (every placeCount (λ i. eqb (w (place i)) 0)
     && (every placeCount (λ i. eqb (w (shown i)) 0)
     && every placeCount (λ i. eqb (w (triple i)) 0))))))))))
@@ -50,11 +50,11 @@ noneTest w = eqb (w kind) 0 && (eqb (w type) 0 && (eqb (w level) 0 && (eqb (w ma
 -- An entity's record by itself.
 unfoldable pub entityTest : (EntityWord → ℕ) → Bool
 entityTest w = imp (eqb (w kind) absentKind) (noneTest w) && (shapeTest (w kind) (w type) (w level) (w mark) (w value) (w releaser) (w maximum)
-    && (filledTest (w kind) (w count) (λ i. w (place i)) (λ i. w (shown i)) && accessTest (λ i. w (triple i))))
+    && (filledTest (w kind) (w used) (λ i. w (place i)) (λ i. w (shown i)) && accessTest (λ i. w (triple i))))
 
 -- Rules 3.2 and 3.19 to 3.21: a notice.
 unfoldable pub noticeTest : ℕ → ℕ → ℕ → Bool
-noticeTest h o n = (eqb h 0 || (leb firstNoticed h && leb h lastNoticed)) && (leb o operationCount && (leb n missedLimit
+noticeTest h o n = (eqb h 0 || (leb firstNoticed h && leb h lastNoticed)) && (leb o operationCount && (leb n missedMost
     && (imp (eqb h 0) (eqb n 0) && (imp (eqb n 0) (eqb h 0) && imp (eqb h 0) (eqb o 0)))))
 
 -- Rule 3.1: an absent user's record, but for the spare words, which are zero anyway.

@@ -6,15 +6,15 @@ use Prim.Native.Nat.{_<_, _≤_, ℕ}
 use Rattle.model.specs.Level.{levelCount, roleSets}
 use Rattle.model.specs.State.Depth.{Inside}
 use Rattle.model.specs.Tables.Rows.{Member, Packed}
-use Rattle.model.specs.Tables.Words.{EntityWord, Tables, UserWord, absentKind, authorised, clearance, containerKind, count, counts}
+use Rattle.model.specs.Tables.Words.{EntityWord, Tables, UserWord, absentKind, authorised, clearance, containerKind, used, usedPlaces}
 use Rattle.model.specs.Tables.Words.{current, device, deviceKind, devices, entityCount, firstNoticed, held, heldOp, kind, kinds}
-use Rattle.model.specs.Tables.Words.{lastNoticed, level, mark, maximum, missed, missedLimit, objectKind, operationCount, operationIn}
+use Rattle.model.specs.Tables.Words.{lastNoticed, level, mark, maximum, missed, missedMost, objectKind, operationCount, operationIn}
 use Rattle.model.specs.Tables.Words.{place, places, plainType, positionCount, positionOf, present, releasedType, releaser, shown}
-use Rattle.model.specs.Tables.Words.{spare, sumLimit, triple, type, userCount, value, whoLimit, whoOf}
+use Rattle.model.specs.Tables.Words.{spare, sumMost, triple, type, userCount, value, whoMost, whoOf}
 
 -- Rule 3.22: what a triple may name.
 pub record GoodTriple (t : ℕ) : Type 0 where
-  pub who : (1 ≤ whoOf t) × (whoOf t ≤ whoLimit)
+  pub who : (1 ≤ whoOf t) × (whoOf t ≤ whoMost)
   pub operation : (1 ≤ operationIn t) × (operationIn t ≤ operationCount)
   pub position : (1 ≤ positionOf t) × (positionOf t ≤ positionCount)
 
@@ -44,7 +44,7 @@ pub record Filled (k n : ℕ) (at sum : ℕ → ℕ) : Type 0 where
   -- rule 3.7: nothing stands in an object
   pub objectEmpty : k ≡ objectKind → n ≡ 0
   -- rule 3.12: a device says how much it shows of each; nothing else does
-  pub sums : k ≡ deviceKind → (i : ℕ) → i < n → (1 ≤ sum i) × (sum i ≤ sumLimit)
+  pub sums : k ≡ deviceKind → (i : ℕ) → i < n → (1 ≤ sum i) × (sum i ≤ sumMost)
   pub noSums : k ≢ deviceKind → (i : ℕ) → sum i ≡ 0
   pub restSums : (i : ℕ) → n ≤ i → sum i ≡ 0
 
@@ -58,7 +58,7 @@ pub record EntityOk (w : EntityWord → ℕ) : Type 0 where
   -- rule 3.1: what is absent has nothing
   pub absent : w kind ≡ absentKind → (f : EntityWord) → w f ≡ 0
   pub shape : Shape (w kind) (w type) (w level) (w mark) (w value) (w releaser) (w maximum)
-  pub filled : Filled (w kind) (w count) (λ i. w (place i)) (λ i. w (shown i))
+  pub filled : Filled (w kind) (w used) (λ i. w (place i)) (λ i. w (shown i))
   pub access : (n : ℕ) × Access n (λ i. w (triple i))
 
 -- A notice: the refusal held h, its operation o, the count n.
@@ -68,7 +68,7 @@ pub record Notice (h o n : ℕ) : Type 0 where
   -- rule 3.2: the operation refused, or 0
   pub operationIn : o ≤ operationCount
   -- rule 3.21: the count has an end
-  pub countIn : n ≤ missedLimit
+  pub missedIn : n ≤ missedMost
   -- rule 3.20: nothing is held just where nothing is counted, and then there is no operation
   pub none : (h ≡ 0) ↔ (n ≡ 0)
   pub quiet : h ≡ 0 → o ≡ 0
@@ -107,15 +107,15 @@ pub record Linked (k n : ℕ → ℕ) (at : ℕ → ℕ → ℕ) (dev : ℕ → 
   pub idle : (e : ℕ) → k e ≡ deviceKind → ((u : ℕ) → dev u ≢ e) → n e ≡ 0
 
 abbrev pub Links : Tables → Type 0
-Links d = Linked (kinds d) (counts d) (places d) (devices d)
+Links d = Linked (kinds d) (usedPlaces d) (places d) (devices d)
 
 -- c stands in a used place of e: in a container, or on a device
 abbrev pub Holds : Tables → ℕ → ℕ → Type 0
-Holds d e c = Member (places d e) (counts d e) c
+Holds d e c = Member (places d e) (usedPlaces d e) c
 
 -- e directly in a container, of given tables
 abbrev pub InTables : Tables → ℕ → ℕ → Type 0
-InTables d = In (kinds d) (counts d) (places d)
+InTables d = In (kinds d) (usedPlaces d) (places d)
 
 -- rule 5.5: e is an object or a container
 abbrev pub Thing : Tables → ℕ → Type 0

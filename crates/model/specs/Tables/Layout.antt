@@ -7,7 +7,7 @@ use Prim.Native.Nat.{_*_, _+_, _-_, _<_, _≤_, ℕ}
 use lib.Dec.{leb, ltb}
 use lib.ListN.{getD}
 use Rattle.model.specs.Basics.Choice.{pick}
-use Rattle.model.specs.Tables.Words.{EntityWord, Tables, UserWord, authorised, clearance, count, current, device, entityCount, held}
+use Rattle.model.specs.Tables.Words.{EntityWord, Tables, UserWord, authorised, clearance, used, current, device, entityCount, held}
 use Rattle.model.specs.Tables.Words.{heldOp, index, kind, level, mark, maximum, missed, place, placeCount, present, releaser, shown}
 use Rattle.model.specs.Tables.Words.{spare, spareCount, triple, type, userCount, value}
 
@@ -46,7 +46,7 @@ offset mark = 3
 offset value = 4
 offset releaser = 5
 offset maximum = 6
-offset count = 7
+offset used = 7
 offset (place i) = 8 + i
 offset (shown i) = 16 + i
 offset (triple i) = 24 + i

@@ -2,7 +2,7 @@
 use mathlib.Core.List.{[], _∷_}
 use Prim.Native.Nat.{_%_, _+_, _-_, _/_, min, ℕ}
 use lib.ListN.{getD}
-use Rattle.model.specs.Tables.Words.{EntityWord, UserWord, authorised, clearance, count, current, device, held, heldOp, kind, level}
+use Rattle.model.specs.Tables.Words.{EntityWord, UserWord, authorised, clearance, used, current, device, held, heldOp, kind, level}
 use Rattle.model.specs.Tables.Words.{mark, maximum, missed, place, present, releaser, shown, spare, triple, type, value}
 
 -- a user's word of a tag and, in a row, of a place
@@ -11,7 +11,7 @@ userWordOf t i = getD (present ∷ clearance ∷ authorised ∷ current ∷ devi
 
 -- an entity's word of a tag and, in a row, of a place
 unfoldable pub entityWordOf : ℕ → ℕ → EntityWord
-entityWordOf t i = getD (kind ∷ type ∷ level ∷ mark ∷ value ∷ releaser ∷ maximum ∷ count ∷ place i ∷ shown i ∷ triple i ∷ []) t kind
+entityWordOf t i = getD (kind ∷ type ∷ level ∷ mark ∷ value ∷ releaser ∷ maximum ∷ used ∷ place i ∷ shown i ∷ triple i ∷ []) t kind
 
 -- the word m words behind the start of a user's record: eight single words, then the spare ones
 unfoldable pub userWordAt : ℕ → UserWord

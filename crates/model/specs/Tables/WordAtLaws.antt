@@ -7,7 +7,7 @@ use Rattle.model.specs.Basics.Agree.{every-at}
 use Rattle.model.specs.Basics.Tests.{every}
 use Rattle.model.specs.Tables.Layout.{entityWidth, offset, userOffset, userWidth}
 use Rattle.model.specs.Tables.WordAt.{entityWordAt, entityWordOf, userWordAt, userWordOf}
-use Rattle.model.specs.Tables.Words.{EntityWord, UserWord, authorised, clearance, count, current, device, held, heldOp, index, kind}
+use Rattle.model.specs.Tables.Words.{EntityWord, UserWord, authorised, clearance, used, current, device, held, heldOp, index, kind}
 use Rattle.model.specs.Tables.Words.{level, mark, maximum, missed, place, placeCount, present, releaser, shown, spare, tag, triple}
 use Rattle.model.specs.Tables.Words.{type, userIndex, userTag, value}
 
@@ -34,7 +34,7 @@ entity-word-of mark = refl
 entity-word-of value = refl
 entity-word-of releaser = refl
 entity-word-of maximum = refl
-entity-word-of count = refl
+entity-word-of used = refl
 entity-word-of (place i) = refl
 entity-word-of (shown i) = refl
 entity-word-of (triple i) = refl
@@ -69,7 +69,7 @@ entity-parts mark h = omega arith
 entity-parts value h = omega arith
 entity-parts releaser h = omega arith
 entity-parts maximum h = omega arith
-entity-parts count h = omega arith
+entity-parts used h = omega arith
 entity-parts (place i) h = omega arith
 entity-parts (shown i) h = omega arith
 entity-parts (triple i) h = omega arith

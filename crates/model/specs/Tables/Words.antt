@@ -22,7 +22,7 @@ pub data UserWord : Type 0 where
 
 -- Rule 2.3: the words of an entity. `count` is the number of places used; the three rows are counted from 0.
 pub data EntityWord : Type 0 where
-  kind type level mark value releaser maximum count : EntityWord
+  kind type level mark value releaser maximum used : EntityWord
   place shown triple : ℕ → EntityWord
 
 -- Rule 2.1: one word of one record. Whatever stands outside the records and their rows is zero.
@@ -63,8 +63,8 @@ labelBit = 1
 abbrev pub idBit : ℕ
 idBit = 2
 
-abbrev pub sumLimit : ℕ
-sumLimit = 7
+abbrev pub sumMost : ℕ
+sumMost = 7
 
 -- Rule 2.5: an access triple is one number of three parts, who, operation and operand position, which weigh so much.
 abbrev pub operationWeight : ℕ
@@ -89,8 +89,8 @@ positionOf t = t % operationWeight
 abbrev pub whoRole : ℕ → ℕ
 whoRole r = suc userCount + r
 
-abbrev pub whoLimit : ℕ
-whoLimit = userCount + roleCount
+abbrev pub whoMost : ℕ
+whoMost = userCount + roleCount
 
 -- Rule 3.22: operations are 1 to 20, positions 1 and 2.
 abbrev pub operationCount : ℕ
@@ -106,15 +106,15 @@ firstNoticed = 5
 abbrev pub lastNoticed : ℕ
 lastNoticed = 16
 
-abbrev pub missedLimit : ℕ
-missedLimit = 65535
+abbrev pub missedMost : ℕ
+missedMost = 65535
 
 -- Columns: one word of every record.
 abbrev pub kinds : Tables → ℕ → ℕ
 kinds d e = d .entity e kind
 
-abbrev pub counts : Tables → ℕ → ℕ
-counts d e = d .entity e count
+abbrev pub usedPlaces : Tables → ℕ → ℕ
+usedPlaces d e = d .entity e used
 
 abbrev pub places : Tables → ℕ → ℕ → ℕ
 places d e i = d .entity e (place i)
@@ -159,7 +159,7 @@ tag mark = 3
 tag value = 4
 tag releaser = 5
 tag maximum = 6
-tag count = 7
+tag used = 7
 tag (place i) = 8
 tag (shown i) = 9
 tag (triple i) = 10
@@ -172,7 +172,7 @@ index mark = 0
 index value = 0
 index releaser = 0
 index maximum = 0
-index count = 0
+index used = 0
 index (place i) = i
 index (shown i) = i
 index (triple i) = i

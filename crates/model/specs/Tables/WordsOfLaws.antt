@@ -17,7 +17,7 @@ use Rattle.model.specs.Tables.Layout.{userOffset, userWidth, wordCount}
 use Rattle.model.specs.Tables.RangeLaws.{entity-in, guard-in, guard-is, in-entity, in-user, user-in}
 use Rattle.model.specs.Tables.WordAt.{entityWordAt, userWordAt}
 use Rattle.model.specs.Tables.WordAtLaws.{entity-word-back, index-below, offset-at, offset-below, user-offset-at, user-word-back}
-use Rattle.model.specs.Tables.Words.{EntityWord, Tables, UserWord, authorised, clearance, count, current, device, entityCount, held}
+use Rattle.model.specs.Tables.Words.{EntityWord, Tables, UserWord, authorised, clearance, used, current, device, entityCount, held}
 use Rattle.model.specs.Tables.Words.{heldOp, index, kind, level, mark, maximum, missed, place, placeCount, present, releaser, shown}
 use Rattle.model.specs.Tables.Words.{spare, triple, type, userCount, value}
 use Rattle.model.specs.Tables.WordsOf.{entityAtIndex, firstValues, userAtIndex, wordAtIndex, wordsOf}
@@ -112,7 +112,7 @@ module _ (d : Tables) (b : Bounded d) where
   entity-past e value h = omega arith
   entity-past e releaser h = omega arith
   entity-past e maximum h = omega arith
-  entity-past e count h = omega arith
+  entity-past e used h = omega arith
   entity-past e (place i) h = b .placesOut e i h
   entity-past e (shown i) h = b .shownOut e i h
   entity-past e (triple i) h = b .triplesOut e i h

@@ -10,7 +10,6 @@ use lib.ListN.{drop, length, length-append, take}
 use Rattle.model.specs.Basics.Agree.{agrees-not}
 use Rattle.model.specs.Basics.Cases.{cases, lt-or-le, true-or-false}
 use Rattle.model.specs.Basics.TestLaws.{fails-false}
-use Rattle.model.specs.List.Listing.{roomShort}
 use Rattle.model.specs.Request.Words.{nameCount, requestOf, requestWords}
 use Rattle.model.specs.Text.CallLaws.{gives-reads, gives-short, gives-writes, reads-gives, write-fits, write-short, write-without, writes-gives}
 use Rattle.model.specs.Text.Given.{HasText, Small}
@@ -28,6 +27,7 @@ use Rattle.model.specs.Text.Wording.{refKey, textOf, userKey, wordingOf}
 use Rattle.model.specs.Text.WordingLaws.{text-length}
 use Rattle.model.specs.Text.WordsLaws.{Textual, hasText-says}
 use Rattle.model.specs.Text.Writing.{Writes, bytesAfter, hasText, textOfWords, withoutText, writeNumber}
+use Rattle.model.specs.Request.Refusals as refusal
 
 -- ---- both ways
 
@@ -38,7 +38,7 @@ read-write x y l = gives-writes (reads-gives x) y l
 
 -- or, in a room that is too short, names its bytes and leaves the room as it was.
 pub read-short : {s v w room r : List ℕ} {a n k : ℕ} → Reads s v 0 n w → Writes w room a k r → length room < length s
-    → (a ≡ roomShort) × (k ≡ length s) × (r ≡ room)
+    → (a ≡ refusal.tooShort) × (k ≡ length s) × (r ≡ room)
 read-short x y l = gives-short (reads-gives x) y l
 
 -- All words that are written read back.
@@ -55,7 +55,7 @@ written-exactly {w} {room} {r} {a} h s y = (λ e x. refused e (gives-hasText (x 
     refused : a ≡ withoutText → hasText (requestOf w) ≡ true → ⊥
     refused e t =
         cases (lt-or-le (length room) (length (textOfWords w)))
-        (λ l. let z : a ≡ roomShort = y .answer ∙ write-short w h t (length room) l in omega arith)
+        (λ l. let z : a ≡ refusal.tooShort = y .answer ∙ write-short w h t (length room) l in omega arith)
         (λ l. let z : a ≡ 0 = y .answer ∙ write-fits w h t (length room) l in omega arith)
 
     failing : ¬ HasText w → hasText (requestOf w) ≡ false

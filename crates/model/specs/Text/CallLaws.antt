@@ -9,13 +9,13 @@ use lib.ListN.{drop, length, take}
 use lib.Seq.{take-at}
 use borrow.Author.Tests.{eq-eqb, eqb-true, le-leb, leb-true, lt-leb}
 use Rattle.model.specs.Basics.Cases.{cases, true-or-false}
-use Rattle.model.specs.List.Listing.{roomShort}
 use Rattle.model.specs.Request.Words.{requestOf, requestWords}
 use Rattle.model.specs.Text.Given.{Gives, Small}
 use Rattle.model.specs.Text.GivenLaws.{gives-hasText, gives-length, gives-own, gives-text}
 use Rattle.model.specs.Text.Reading.{Reads, answerIn, readAnswer, readNumber, wordsAfter}
 use Rattle.model.specs.Text.Wording.{Lines, Wording, atEnd, badLine, lines, readSeven, readText, sixteen}
 use Rattle.model.specs.Text.Writing.{Writes, bytesAfter, hasText, textOfWords, withoutText, writeAnswer, writeNumber, wrongSize}
+use Rattle.model.specs.Request.Refusals as refusal
 
 -- ---- the writer
 
@@ -30,7 +30,7 @@ module _ (w : List ℕ) (h : length w ≡ requestWords) (t : hasText (requestOf 
   unfolding writeAnswer
   write-fits n l = rw (eq-eqb (length w) requestWords h, t, le-leb (length (textOfWords w)) n l)
 
-  pub write-short : (n : ℕ) → n < length (textOfWords w) → writeAnswer w n ≡ roomShort
+  pub write-short : (n : ℕ) → n < length (textOfWords w) → writeAnswer w n ≡ refusal.tooShort
   unfolding writeAnswer
   write-short n l = rw (eq-eqb (length w) requestWords h, t, lt-leb (length (textOfWords w)) n l)
 
@@ -51,7 +51,7 @@ write-done w n e =
     (λ a. cases (true-or-false (hasText (requestOf w)))
     (λ b. cases (true-or-false (leb (length (textOfWords w)) n))
     (λ c. record { sixteen = eqb-true (length w) requestWords a; text = b; room = leb-true (length (textOfWords w)) n c })
-    (λ c. let z : 0 ≡ roomShort = rw (a, b, c) at e in absurd (omega arith)))
+    (λ c. let z : 0 ≡ refusal.tooShort = rw (a, b, c) at e in absurd (omega arith)))
     (λ b. let z : 0 ≡ withoutText = rw (a, b) at e in absurd (omega arith)))
     (λ a. let z : 0 ≡ wrongSize = rw a at e in absurd (omega arith))
 
@@ -69,11 +69,11 @@ gives-writes {s} {w} {room} {r} {a} {k} g x l =
 
 -- or not at all where it has no room.
 pub gives-short : {s w room r : List ℕ} {a k : ℕ} → Gives s w → Writes w room a k r → length room < length s
-    → (a ≡ roomShort) × (k ≡ length s) × (r ≡ room)
+    → (a ≡ refusal.tooShort) × (k ≡ length s) × (r ≡ room)
 gives-short {s} {w} {room} {r} {a} {k} g x l =
     let e : s ≡ textOfWords w = gives-text g in
     let f : length room < length (textOfWords w) = subst (λ (t : List ℕ). length room < length t) e l in
-    let z : a ≡ roomShort = x .answer ∙ write-short w (gives-length g) (gives-hasText g) (length room) f in (
+    let z : a ≡ refusal.tooShort = x .answer ∙ write-short w (gives-length g) (gives-hasText g) (length room) f in (
       z,
       x .number ∙ write-counts w (gives-length g) (gives-hasText g) ∙ ap length (sym e),
       x .bytes ∙ ap (λ (b : ℕ). bytesAfter b w room) z,

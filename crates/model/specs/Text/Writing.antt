@@ -6,10 +6,10 @@ use Prim.Native.Nat.{ℕ}
 use lib.Dec.{eqb, leb}
 use lib.ListN.{drop, length}
 use Rattle.model.specs.Basics.Choice.{pick}
-use Rattle.model.specs.List.Listing.{roomShort}
 use Rattle.model.specs.Request.Ladder.{namesFit}
 use Rattle.model.specs.Request.Words.{Request, nameCount, requestOf, requestWords}
 use Rattle.model.specs.Text.Wording.{textOf, wordingOf}
+use Rattle.model.specs.Request.Refusals as refusal
 
 -- Rule 11.3: the refusals of the writer beside 17. Its 5 is no refusal of a step, and leaves no notice.
 abbrev pub wrongSize : ℕ
@@ -32,7 +32,7 @@ textOfWords w = textOf (wordingOf (requestOf w))
 unfoldable pub writeAnswer : List ℕ → ℕ → ℕ
 writeAnswer w n =
     pick (eqb (length w) requestWords)
-    (pick (hasText (requestOf w)) (pick (leb (length (textOfWords w)) n) 0 roomShort) withoutText)
+    (pick (hasText (requestOf w)) (pick (leb (length (textOfWords w)) n) 0 refusal.tooShort) withoutText)
     wrongSize
 
 -- its number: the bytes written or needed, and none with another refusal;

@@ -13,7 +13,7 @@ use Rattle.model.specs.Request.Operations.{Op, numberOf, toCopy, toRelea
 use Rattle.model.specs.Request.Words.{Request}
 use Rattle.model.specs.State.Secure.{Good}
 use Rattle.model.specs.Tables.Layout.{Bounded}
-use Rattle.model.specs.Tables.Words.{EntityWord, Tables, UserWord, absentKind, authorised, clearance, counts, current, deviceKind}
+use Rattle.model.specs.Tables.Words.{EntityWord, Tables, UserWord, absentKind, authorised, clearance, usedPlaces, current, deviceKind}
 use Rattle.model.specs.Tables.Words.{devices, draftType, held, idBit, kinds, maximum, missed, places, releasedType, releaser, sums}
 use Rattle.model.specs.Tables.Words.{type, userTag}
 
@@ -61,7 +61,7 @@ CcrSecure d q d′ = Quiet d (q .user) d′
 
 -- device v shows the ID of x
 abbrev pub ShowsId : Tables → ℕ → ℕ → Type 0
-ShowsId d v x = (kinds d v ≡ deviceKind) × ((i : ℕ) × (i < counts d v) × (places d v i ≡ x) × T (bit idBit (sums d v i)))
+ShowsId d v x = (kinds d v ≡ deviceKind) × ((i : ℕ) × (i < usedPlaces d v) × (places d v i ≡ x) × T (bit idBit (sums d v i)))
 
 -- the request names x by a reference that passes no marked container above the requester's clearance
 abbrev pub NamedOpenly : Tables → Request → ℕ → Type 0

@@ -13,7 +13,7 @@ use Rattle.model.specs.Request.Operations.{toMove, toRelease, toRevoke, 
 use Rattle.model.specs.State.WellFormed.{WellFormed}
 use Rattle.model.specs.Tables.Edits.{_and_, row, word}
 use Rattle.model.specs.Tables.Rows.{replace, without}
-use Rattle.model.specs.Tables.Words.{Tables, authorised, clearance, count, current, device, held, heldOp, level, mark, maximum}
+use Rattle.model.specs.Tables.Words.{Tables, authorised, clearance, used, current, device, held, heldOp, level, mark, maximum}
 use Rattle.model.specs.Tables.Words.{missed, place, placeCount, places, releaser, shown, sums, triple, triples, type, value}
 use Rattle.model.specs.Theorem.FramedPlaces.{create-framed, delete-framed, move-framed}
 use Rattle.model.specs.Theorem.MayChange.{Frame, screenWord, wordOrRow}
@@ -25,10 +25,10 @@ regroup true b c t = tt
 regroup false b c t = t
 
 -- An edit of a screen touches its count, its places and their sums.
-screen-only : (n : ℕ) (at sum : ℕ → ℕ) → TouchesOnly (word count n and row place at and row shown sum) screenWord
+screen-only : (n : ℕ) (at sum : ℕ → ℕ) → TouchesOnly (word used n and row place at and row shown sum) screenWord
 screen-only n at sum =
-    let parts = both-only (word-only count {v = n}) (both-only (row-only place at) (row-only shown sum)) in
-    record { only = λ f t. regroup (wordOrRow count f) (wordOrRow (place 0) f) (wordOrRow (shown 0) f) (parts .only f t) }
+    let parts = both-only (word-only used {v = n}) (both-only (row-only place at) (row-only shown sum)) in
+    record { only = λ f t. regroup (wordOrRow used f) (wordOrRow (place 0) f) (wordOrRow (shown 0) f) (parts .only f t) }
 
 -- Of all twenty: every word outside what the operation's row may change is as before.
 pub framed : (o : Op) (d : Tables) → WellFormed d → (s : Asked) → Allowed o s d → Frame o s d (rowOf o .effect s d)

@@ -14,7 +14,7 @@ use Rattle.model.specs.Tables.EditLaws.{case}
 use Rattle.model.specs.Tables.Edits.{blank, written}
 use Rattle.model.specs.Tables.RowLaws.{without-none}
 use Rattle.model.specs.Tables.Rows.{left, without}
-use Rattle.model.specs.Tables.Words.{EntityWord, Tables, containerKind, count, counts, kind, kinds, level, mark, maximum, place}
+use Rattle.model.specs.Tables.Words.{EntityWord, Tables, containerKind, used, usedPlaces, kind, kinds, level, mark, maximum, place}
 use Rattle.model.specs.Tables.Words.{places, releaser, shown, sums, triple, triples, type, value}
 use Rattle.model.specs.Theorem.MayChange.{Frame, contentWord, holder, wordOrRow}
 use Rattle.model.specs.Theorem.Untouched.{TouchesOnly, both-only, entity-left, row-only, word-left, word-only}
@@ -41,9 +41,9 @@ leave-left d w e x f t =
     word-left (λ y. eqb (kinds d y) containerKind) (leaving e d) (d .entity) x f (λ k. stays f t (eqb→eq (kinds d x) containerKind k))
   where
     same-row : T (not (holder d e x && true)) → kinds d x ≡ containerKind
-        → (left e (places d x) (counts d x) ≡ counts d x) × (without e (places d x) (counts d x) ≡ places d x)
-    same-row t k = without-none e (places d x) (counts d x) (w .entities x .filled .packed)
-        (λ m. T-not (holder d e x) (alone (holder d e x) t) (in-agrees (kinds d) (counts d) (places d) x e .from (k, m)))
+        → (left e (places d x) (usedPlaces d x) ≡ usedPlaces d x) × (without e (places d x) (usedPlaces d x) ≡ places d x)
+    same-row t k = without-none e (places d x) (usedPlaces d x) (w .entities x .filled .packed)
+        (λ m. T-not (holder d e x) (alone (holder d e x) t) (in-agrees (kinds d) (usedPlaces d) (places d) x e .from (k, m)))
 
     stays : (f : EntityWord) → T (not (holder d e x && contentWord f)) → kinds d x ≡ containerKind
         → written (leaving e d x) (d .entity x) f ≡ d .entity x f
@@ -54,7 +54,7 @@ leave-left d w e x f t =
     stays value t k = refl
     stays releaser t k = refl
     stays maximum t k = refl
-    stays count t k = same-row t k .0
+    stays used t k = same-row t k .0
     stays (place i) t k = ap (λ (r : ℕ → ℕ). r i) (same-row t k .1)
     stays (shown i) t k = refl
     stays (triple i) t k = refl
@@ -72,10 +72,10 @@ put-left d c e none x f t = word-left (λ y. eqb y c) (λ y. putting c e 0 d) (d
     stays value t k = refl
     stays releaser t k = refl
     stays maximum t k = refl
-    stays count t k = absurd (T-not (eqb x c) (alone (eqb x c) t) k)
+    stays used t k = absurd (T-not (eqb x c) (alone (eqb x c) t) k)
     stays (place i) t k = absurd (T-not (eqb x c) (alone (eqb x c) t) k)
     stays (shown i) t k =
-        case (λ (y : ℕ). y ≡ 0) i (counts d c) 0 (sums d c i) (λ q. refl) (λ q. none i) ∙ sym (ap (λ (y : ℕ). sums d y i) (eqb→eq x c k) ∙ none i)
+        case (λ (y : ℕ). y ≡ 0) i (usedPlaces d c) 0 (sums d c i) (λ q. refl) (λ q. none i) ∙ sym (ap (λ (y : ℕ). sums d y i) (eqb→eq x c k) ∙ none i)
     stays (triple i) t k = refl
 
 -- the words that create gives a new record

@@ -17,7 +17,7 @@ use Rattle.model.specs.Request.Words.{Request}
 use Rattle.model.specs.Tables.EditLaws.{case}
 use Rattle.model.specs.Tables.RowLaws.{sought}
 use Rattle.model.specs.Tables.Rows.{Sought, left, replace, without}
-use Rattle.model.specs.Tables.Words.{Tables, containerKind, counts, deviceKind, devices, idBit, kinds, places, sums}
+use Rattle.model.specs.Tables.Words.{Tables, containerKind, usedPlaces, deviceKind, devices, idBit, kinds, places, sums}
 use Rattle.model.specs.Theorem.Definitions.{NamedOpenly, ShowsId}
 use Rattle.model.specs.Theorem.Statements.{Ids}
 
@@ -27,14 +27,14 @@ Shown n at sum x = (i : ℕ) × (i < n) × (at i ≡ x) × T (bit idBit (sum i))
 
 -- of the record v
 abbrev pub ShownOn : Tables → ℕ → ℕ → Type 0
-ShownOn d v x = Shown (counts d v) (places d v) (sums d v) x
+ShownOn d v x = Shown (usedPlaces d v) (places d v) (sums d v) x
 
 -- To take an entity out of its container shows nothing new.
 pub leave-ids : (e : ℕ) (d : Tables) (v x : ℕ) → ShowsId (leave e d) v x → ShowsId d v x
 leave-ids e d v x h = (h .0, go (eqb (kinds d v) containerKind) (same (kinds d v) containerKind) (h .1))
   where
     go : (b : Bool) → Same (kinds d v) containerKind b
-        → Shown (pick b (left e (places d v) (counts d v)) (counts d v)) (λ i. pick b (without e (places d v) (counts d v) i) (places d v i))
+        → Shown (pick b (left e (places d v) (usedPlaces d v)) (usedPlaces d v)) (λ i. pick b (without e (places d v) (usedPlaces d v) i) (places d v i))
         (sums d v) x → ShownOn d v x
     go true (it k) m = absurd (omega (arith, h .0))
     go false (other k) m = m
@@ -44,8 +44,8 @@ pub put-ids : (c e t : ℕ) (d : Tables) → kinds d c ≡ containerKind → (v 
 put-ids c e t d box v x h = (h .0, go (eqb v c) (same v c) (h .1))
   where
     go : (b : Bool) → Same v c b
-        → Shown (pick b (suc (counts d c)) (counts d v)) (λ i. pick b (replace (counts d c) e (places d c) i) (places d v i))
-        (λ i. pick b (replace (counts d c) t (sums d c) i) (sums d v i)) x
+        → Shown (pick b (suc (usedPlaces d c)) (usedPlaces d v)) (λ i. pick b (replace (usedPlaces d c) e (places d c) i) (places d v i))
+        (λ i. pick b (replace (usedPlaces d c) t (sums d c) i) (sums d v i)) x
         → ShownOn d v x
     go true (it k) m = absurd (omega (arith, h .0, ap (kinds d) k))
     go false (other k) m = m
@@ -54,7 +54,7 @@ put-ids c e t d box v x h = (h .0, go (eqb v c) (same v c) (h .1))
 pub erase-ids : (e : ℕ) (d : Tables) (v x : ℕ) → ShowsId (erase e d) v x → ShowsId d v x
 erase-ids e d v x h = go (eqb v e) (h .0) (h .1)
   where
-    go : (b : Bool) → pick b 0 (kinds d v) ≡ deviceKind → Shown (pick b 0 (counts d v)) (λ i. pick b 0 (places d v i)) (λ i. pick b 0 (sums d v i)) x
+    go : (b : Bool) → pick b 0 (kinds d v) ≡ deviceKind → Shown (pick b 0 (usedPlaces d v)) (λ i. pick b 0 (places d v i)) (λ i. pick b 0 (sums d v i)) x
         → ShowsId d v x
     go true k m = absurd (not-suc-le-zero (m .1))
     go false k m = (k, m)
@@ -63,7 +63,7 @@ erase-ids e d v x h = go (eqb v e) (h .0) (h .1)
 pub clear-ids : (e : ℕ) (d : Tables) (v x : ℕ) → ShowsId (clear e d) v x → ShowsId d v x
 clear-ids e d v x h = (h .0, go (eqb v e) (h .1))
   where
-    go : (b : Bool) → Shown (pick b 0 (counts d v)) (λ i. pick b 0 (places d v i)) (λ i. pick b 0 (sums d v i)) x → ShownOn d v x
+    go : (b : Bool) → Shown (pick b 0 (usedPlaces d v)) (λ i. pick b 0 (places d v i)) (λ i. pick b 0 (sums d v i)) x → ShownOn d v x
     go true m = absurd (not-suc-le-zero (m .1))
     go false m = m
 
@@ -89,7 +89,7 @@ show-ids v e s d q mine-is named a x b m = mine (eqb a v) (same a v) (m .1)
     k = spot v e d
 
     n : ℕ
-    n = counts d v
+    n = usedPlaces d v
 
     found : Sought e (places d v) n k → k ≤ n
     found (inl z) = omega (arith, z .0)
@@ -102,7 +102,7 @@ show-ids v e s d q mine-is named a x b m = mine (eqb a v) (same a v) (m .1)
         inl (m .0, subst (λ (y : ℕ). ShownOn d y x) (sym r) (i, used-before k n i (ltb k n) (below k n) (found (sought e (places d v) n)) z l, p, id))
 
     mine : (t : Bool) → Same a v t
-        → Shown (pick t (pick (ltb k n) n (suc n)) (counts d a)) (λ i. pick t (replace k e (places d v) i) (places d a i))
+        → Shown (pick t (pick (ltb k n) n (suc n)) (usedPlaces d a)) (λ i. pick t (replace k e (places d v) i) (places d a i))
         (λ i. pick t (replace k s (sums d v) i) (sums d a i)) x
         → ShowsId d a x ⊎ ((a ≡ devices d (q .user)) × NamedOpenly d q x)
     mine true (it r) h = placed (h .0) (eqb (h .0) k) (same (h .0) k) r (h .1) (h .2) (h .3)

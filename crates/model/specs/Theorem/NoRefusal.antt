@@ -22,7 +22,7 @@ use Rattle.model.specs.Request.Operations.{Op, clearanceEffect, levelEff
 use Rattle.model.specs.Request.Operations.{toCopy, toCreate, toCurrent, toDelete, toDeviceLevel, toEdit, toGrant, toLevel, toLogin}
 use Rattle.model.specs.Request.Operations.{toLogout, toMark, toMaximum, toMove, toRelease, toRevoke, toShow}
 use Rattle.model.specs.State.WellFormed.{GoodTriple, WellFormed}
-use Rattle.model.specs.Tables.Words.{Tables, operationCount, operationIn, positionCount, positionOf, tripleOf, whoLimit, whoOf}
+use Rattle.model.specs.Tables.Words.{Tables, operationCount, operationIn, positionCount, positionOf, tripleOf, whoMost, whoOf}
 
 -- What rungs 5, 6 and 10 to 16 leave when they do not apply.
 pub record NoRefusal (o : Op) (s : Asked) (d : Tables) : Type 0 where
@@ -37,7 +37,7 @@ pub record NoRefusal (o : Op) (s : Asked) (d : Tables) : Type 0 where
   pub no16 : T (not (refused 16 (rowOf o .conditions) d s))
 
 -- a triple made of three numbers in their ranges is a good one
-triple-good : (w o p : ℕ) → Between 1 whoLimit w → Between 1 operationCount o → Between 1 positionCount p → GoodTriple (tripleOf w o p)
+triple-good : (w o p : ℕ) → Between 1 whoMost w → Between 1 operationCount o → Between 1 positionCount p → GoodTriple (tripleOf w o p)
 triple-good w o p hw ho hp =
     let a : whoOf (tripleOf w o p) ≡ w = omega arith in
     let b : operationIn (tripleOf w o p) ≡ o = omega arith in
@@ -155,4 +155,4 @@ module _ (d : Tables) (w : WellFormed d) (s : Asked) where
       record { box = k .0; draft = k .1; releaser = lacks-fails d s releasing .to (h .no12) }
   noRefusal-allowed toAcknowledge h =
       let n = notAcknowledged-fails d s .to (h .no16) in
-      record { holding = n .0; refusal = n .1 .0; count = n .1 .1 }
+      record { holding = n .0; refusal = n .1 .0; used = n .1 .1 }

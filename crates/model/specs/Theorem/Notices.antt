@@ -8,7 +8,7 @@ use Prim.Native.Nat.{_≤_, suc, ℕ}
 use native.Mathlib.Omega.{arith}
 use lib.Dec.{eqb, ltb}
 use Rattle.model.specs.Basics.Choice.{Below, Same, below, it, other, pick, same}
-use Rattle.model.specs.Effect.Notice.{countOn, keepFirst, notice}
+use Rattle.model.specs.Effect.Notice.{missedMore, keepFirst, notice}
 use Rattle.model.specs.Effect.Words.{acknowledge}
 use Rattle.model.specs.Request.After.{after, effect, noticedOp}
 use Rattle.model.specs.Request.AfterLaws.{after-accepted, after-each, effect-by}
@@ -21,7 +21,7 @@ use Rattle.model.specs.Request.Words.{Request}
 use Rattle.model.specs.State.Secure.{Good}
 use Rattle.model.specs.State.WellFormed.{WellFormed}
 use Rattle.model.specs.Tables.EditLaws.{elsewhere}
-use Rattle.model.specs.Tables.Words.{Tables, firstNoticed, held, heldOp, missed, missedLimit}
+use Rattle.model.specs.Tables.Words.{Tables, firstNoticed, held, heldOp, missed, missedMost}
 use Rattle.model.specs.Theorem.Acceptance.{accepted}
 use Rattle.model.specs.Theorem.Fixed.{notices-left}
 use Rattle.model.specs.Theorem.Kept.{request-good}
@@ -43,15 +43,15 @@ notice-keeps d u r o x h = go (eqb x u) (same x u)
     go false (other e) = (refl, refl)
 
 -- the count never falls by a notice
-notice-counts : (d : Tables) (u r o x : ℕ) → d .user x missed ≤ missedLimit → d .user x missed ≤ notice u r o d .user x missed
-notice-counts d u r o x h = go (eqb x u) (same x u)
+missed-grows : (d : Tables) (u r o x : ℕ) → d .user x missed ≤ missedMost → d .user x missed ≤ notice u r o d .user x missed
+missed-grows d u r o x h = go (eqb x u) (same x u)
   where
-    inner : x ≡ u → (c : Bool) → Below (d .user u missed) missedLimit c → d .user x missed ≤ countOn c (d .user u missed)
+    inner : x ≡ u → (c : Bool) → Below (d .user u missed) missedMost c → d .user x missed ≤ missedMore c (d .user u missed)
     inner e true l = let z : d .user x missed ≤ suc (d .user u missed) = omega (arith, ap (λ (v : ℕ). d .user v missed) e) in z
-    inner e false l = let z : d .user x missed ≤ missedLimit = h in z
+    inner e false l = let z : d .user x missed ≤ missedMost = h in z
 
-    go : (b : Bool) → Same x u b → d .user x missed ≤ pick b (countOn (ltb (d .user u missed) missedLimit) (d .user u missed)) (d .user x missed)
-    go true (it e) = inner e (ltb (d .user u missed) missedLimit) (below (d .user u missed) missedLimit)
+    go : (b : Bool) → Same x u b → d .user x missed ≤ pick b (missedMore (ltb (d .user u missed) missedMost) (d .user u missed)) (d .user x missed)
+    go true (it e) = inner e (ltb (d .user u missed) missedMost) (below (d .user u missed) missedMost)
     go false (other e) = omega arith
 
 -- an acknowledgement of another's is none
@@ -79,26 +79,26 @@ accepted-notices d w q e x n =
 pub held-kept : (d : Tables) → WellFormed d → (q : Request) (x : ℕ) → d .user x held ≢ 0
     → (answer d q ≡ 0 → opOf (q .operation) ≡ some toAcknowledge → x ≢ q .user) → StillHeld d (after d q) x
 held-kept d w q x h n =
-    after-each d q (λ (d′ : Tables). StillHeld d d′ x) settled (λ l m. record { refusal = refl; operation = refl; count = omega arith }) noticed
+    after-each d q (λ (d′ : Tables). StillHeld d d′ x) settled (λ l m. record { refusal = refl; operation = refl; more = omega arith }) noticed
   where
     settled : answer d q ≡ 0 → StillHeld d (effect d q) x
     settled e =
         let k = rw (after-accepted d q e) at (accepted-notices d w q e x (n e)) in
-        record { refusal = k .0; operation = k .1; count = omega (arith, k .2) }
+        record { refusal = k .0; operation = k .1; more = omega (arith, k .2) }
 
     noticed : firstNoticed ≤ answer d q → StillHeld d (notice (q .user) (answer d q) (noticedOp q) d) x
     noticed l =
         let k = notice-keeps d (q .user) (answer d q) (noticedOp q) x h in
-        record { refusal = k .0; operation = k .1; count = notice-counts d (q .user) (answer d q) (noticedOp q) x (w .users x .notice .countIn) }
+        record { refusal = k .0; operation = k .1; more = missed-grows d (q .user) (answer d q) (noticedOp q) x (w .users x .notice .missedIn) }
 
 still-held : (d e f : Tables) (x : ℕ) → StillHeld d e x → StillHeld e f x → StillHeld d f x
 still-held d e f x a b =
-    record { refusal = b .refusal ∙ a .refusal; operation = b .operation ∙ a .operation; count = omega (arith, a .count, b .count) }
+    record { refusal = b .refusal ∙ a .refusal; operation = b .operation ∙ a .operation; more = omega (arith, a .more, b .more) }
 
 -- And so along every list of requests in which it is not acknowledged.
 pub held-through : (d : Tables) → Good d → (x : ℕ) → d .user x held ≢ 0 → (qs : List Request) → Unacknowledged d x qs → StillHeld d (afterAll d qs) x
 unfolding Unacknowledged afterAll
-held-through d g x h [] u = record { refusal = refl; operation = refl; count = omega arith }
+held-through d g x h [] u = record { refusal = refl; operation = refl; more = omega arith }
 held-through d g x h (q ∷ qs) u =
     let a = held-kept d (g .0) q x h (u .0) in
     still-held d (after d q) (afterAll (after d q) qs) x a

@@ -9,7 +9,7 @@ use Rattle.model.specs.Request.Ladder.{answer}
 use Rattle.model.specs.Request.Operations.{opOf, toAcknowledge}
 use Rattle.model.specs.Request.Step.{afterOf}
 use Rattle.model.specs.Request.Words.{Request}
-use Rattle.model.specs.Tables.Words.{Tables, count, devices, held, heldOp, missed}
+use Rattle.model.specs.Tables.Words.{Tables, devices, held, heldOp, missed}
 use Rattle.model.specs.Theorem.Definitions.{Both, NamedOpenly, ShowsId}
 
 -- the notice of user u is the same in both tables
@@ -20,7 +20,7 @@ SameNotice d d′ u = (d′ .user u held ≡ d .user u held) × (d′ .user u he
 pub record StillHeld (d d′ : Tables) (x : ℕ) : Type 0 where
   pub refusal : d′ .user x held ≡ d .user x held
   pub operation : d′ .user x heldOp ≡ d .user x heldOp
-  pub count : d .user x missed ≤ d′ .user x missed
+  pub more : d .user x missed ≤ d′ .user x missed
 
 -- Rule 9.8 of every device: an ID newly shown, on whatever device, is on the requester's, and is one that the request names openly.
 abbrev pub Ids : Tables → Request → Tables → Type 0

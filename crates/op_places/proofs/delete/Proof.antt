@@ -10,7 +10,7 @@ use Rattle.op_places.proofs.filling.erase.Reads as erase-reads
 use Rattle.op_places.proofs.filling.leave.Reads as leave-reads
 use Rattle.op_places.proofs.places.holder.Reads as holder-reads
 use Rattle.op_places.proofs.places.on_screen.Reads as on-screen-reads
-use Rattle.tables.proofs.count.Reads as count-reads
+use Rattle.tables.proofs.used.Reads as used-reads
 use Rattle.tables.proofs.type_of.Reads as type-of-reads
 
 is-entity-requires : tie.Need-is-entity-requires
@@ -25,8 +25,8 @@ same-length c = search needs
 returns : tie.Need-returns
 returns c = search needs
 
-count-requires : tie.Need-count-requires
-count-requires c κs = search needs
+used-requires : tie.Need-used-requires
+used-requires c κs = search needs
 
 on-screen-requires : tie.Need-on-screen-requires
 on-screen-requires c κs = (search needs, c .before .before .before .before .before .before .before .before .pre .0 .climbed .ready .good .0, c .before .before .before .before .before .before .before .before .pre .1 .low)
@@ -35,7 +35,7 @@ type-of-requires : tie.Need-type-of-requires
 type-of-requires c κs = search needs
 
 refuse-requires-2 : tie.Need-refuse-requires-2
-refuse-requires-2 c κs = delete-forbidden _ _ _ _ (c .before .before .before .before .before .before .before .before .before .before .before .before .before .pre .0) (c .before .before .before .before .before .before .before .before .before .before .before .before .before .pre .1) _ (c .before .before .before .before .before .before .before .before .before .is-entity .ensures) (c .before .before .before .before .before .before .before .before .if1 .left) _ _ _ (c .before .before .before .before .before .before .count .ensures) (c .before .before .before .before .on-screen .ensures) (c .before .before .type-of .ensures) (c .before .if2 .taken)
+refuse-requires-2 c κs = delete-forbidden _ _ _ _ (c .before .before .before .before .before .before .before .before .before .before .before .before .before .pre .0) (c .before .before .before .before .before .before .before .before .before .before .before .before .before .pre .1) _ (c .before .before .before .before .before .before .before .before .before .is-entity .ensures) (c .before .before .before .before .before .before .before .before .if1 .left) _ _ _ (c .before .before .before .before .before .before .used .ensures) (c .before .before .before .before .on-screen .ensures) (c .before .before .type-of .ensures) (c .before .if2 .taken)
 
 same-length-2 : tie.Need-same-length-2
 same-length-2 c = search needs
@@ -56,7 +56,7 @@ same-length-3 : tie.Need-same-length-3
 same-length-3 c = search needs
 
 returns-3 : tie.Need-returns-3
-returns-3 c = deleted _ _ _ _ (c .before .before .before .before .before .before .before .before .before .before .before .before .before .before .before .before .before .before .before .before .before .before .pre .0) (c .before .before .before .before .before .before .before .before .before .before .before .before .before .before .before .before .before .before .before .before .before .before .pre .1) _ (c .before .before .before .before .before .before .before .before .before .before .before .before .before .before .before .before .before .before .is-entity .ensures) (c .before .before .before .before .before .before .before .before .before .before .before .before .before .before .before .before .before .if1 .left) _ _ _ (c .before .before .before .before .before .before .before .before .before .before .before .before .before .before .before .count .ensures) (c .before .before .before .before .before .before .before .before .before .before .before .before .before .on-screen .ensures) (c .before .before .before .before .before .before .before .before .before .before .before .type-of .ensures) (c .before .before .before .before .before .before .before .before .before .before .if2 .left) _ _ (c .before .before .before .before .before .before .leave .ensures) (c .before .before .erase .ensures)
+returns-3 c = deleted _ _ _ _ (c .before .before .before .before .before .before .before .before .before .before .before .before .before .before .before .before .before .before .before .before .before .before .pre .0) (c .before .before .before .before .before .before .before .before .before .before .before .before .before .before .before .before .before .before .before .before .before .before .pre .1) _ (c .before .before .before .before .before .before .before .before .before .before .before .before .before .before .before .before .before .before .is-entity .ensures) (c .before .before .before .before .before .before .before .before .before .before .before .before .before .before .before .before .before .if1 .left) _ _ _ (c .before .before .before .before .before .before .before .before .before .before .before .before .before .before .before .used .ensures) (c .before .before .before .before .before .before .before .before .before .before .before .before .before .on-screen .ensures) (c .before .before .before .before .before .before .before .before .before .before .before .type-of .ensures) (c .before .before .before .before .before .before .before .before .before .before .if2 .left) _ _ (c .before .before .before .before .before .before .leave .ensures) (c .before .before .erase .ensures)
 
 pub delete-spec : {M : Type 1} → statement M
 delete-spec =
@@ -66,7 +66,7 @@ delete-spec =
     refuse-requires
     same-length
     returns
-    count-requires
+    used-requires
     on-screen-requires
     type-of-requires
     refuse-requires-2

@@ -10,7 +10,7 @@ use Rattle.op_screens.proofs.empty.Statement.{statement}
 use Rattle.op_screens.proofs.empty.Tie as tie
 use Rattle.op_screens.proofs.empty.Reads as reads
 use Rattle.op_screens.proofs.empty.Lts as lts
-use Rattle.tables.proofs.set_count.Reads as set-count-reads
+use Rattle.tables.proofs.set_used.Reads as set-used-reads
 use Rattle.tables.proofs.set_place.Reads as set-place-reads
 use Rattle.tables.proofs.set_shown.Reads as set-shown-reads
 
@@ -38,14 +38,14 @@ loop-less c = omega arith
 loop-again : tie.Need-loop-again Inv-loop μ-loop
 loop-again c = (search needs, omega arith, c .before .before .set-shown .ensures ∙ wipe-more _ _ _ _ _ (c .before .before .before .before .before .before .before .before .before .loop .inv .2) (c .before .before .before .before .before .before .set-place .ensures))
 
-set-count-requires : tie.Need-set-count-requires Inv-loop μ-loop
-set-count-requires c κs = search needs
+set-used-requires : tie.Need-set-used-requires Inv-loop μ-loop
+set-used-requires c κs = search needs
 
 same-length : tie.Need-same-length Inv-loop μ-loop
 same-length c = search needs
 
 returns : tie.Need-returns Inv-loop μ-loop
-returns c = let z : c .before .before .before .before .before .loop .i ≡ 8 = omega arith in c .before .before .set-count .ensures ∙ wipe-all _ _ _ (rw z at (c .before .before .before .before .before .loop .inv .2))
+returns c = let z : c .before .before .before .before .before .loop .i ≡ 8 = omega arith in c .before .before .set-used .ensures ∙ wipe-all _ _ _ (rw z at (c .before .before .before .before .before .loop .inv .2))
 
 pub empty-spec : {M : Type 1} → statement M
 empty-spec =
@@ -59,6 +59,6 @@ empty-spec =
     add-i
     loop-less
     loop-again
-    set-count-requires
+    set-used-requires
     same-length
     returns)

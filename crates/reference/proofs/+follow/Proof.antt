@@ -5,7 +5,7 @@ use borrow.Author.Needs.{needs}
 use native.Mathlib.Nat.{pos-of-ne-zero}
 use lib.ListN.{length, getD}
 use Rattle.model.specs.Tables.Layout.{tablesOf}
-use Rattle.model.specs.Tables.Words.{counts}
+use Rattle.model.specs.Tables.Words.{usedPlaces}
 use Rattle.reference.specs.WayLaws.{follow-end, follow-on, follow-stop}
 use Prim.Native.Nat.{ℕ, _<_}
 use borrow.Fn.Kinds.{In}
@@ -14,7 +14,7 @@ use Rattle.reference.proofs.follow.Reads as follow
 use Rattle.reference.proofs.follow.Kinds as follow-kinds
 use Rattle.reference.proofs.+follow.Lts-follow as follow-lts
 use Rattle.reference.proofs.is_bar.Reads as is-bar-reads
-use Rattle.tables.proofs.count.Reads as count-reads
+use Rattle.tables.proofs.used.Reads as used-reads
 use Rattle.tables.proofs.place.Reads as place-reads
 use Rattle.reference.proofs.+follow.{statement}
 use Rattle.reference.proofs.+follow.Tie.{close}
@@ -29,7 +29,7 @@ abbrev follow-below : ℕ → In 2 follow-kinds.ps
 follow-below t = and 2 follow-kinds.ps (falls 2 follow-kinds.ps _<_ μ-follow t) follow.Pre
 
 abbrev follow-calls : ℕ → follow-lts.Claims
-follow-calls t = (count-reads.Asked, count-reads.Learnt, place-reads.Asked, place-reads.Learnt, is-bar-reads.Asked, is-bar-reads.Learnt, follow-below t, follow.Post)
+follow-calls t = (used-reads.Asked, used-reads.Learnt, place-reads.Asked, place-reads.Learnt, is-bar-reads.Asked, is-bar-reads.Learnt, follow-below t, follow.Post)
 
 follow-returns : (t : ℕ) → follow-lts.Need-returns (follow-calls t) (follow-at t) follow.Post
 follow-returns t c = follow-end _ (c .before .before .before .args .l .0) (c .before .before .before .args .e) (c .before .before .before .args .clear) _ (c .before .before .before .pre .1 .0 .1) (c .if1 .taken)
@@ -40,17 +40,17 @@ follow-shared-slice-read-p t c = search needs
 follow-returns-2 : (t : ℕ) → follow-lts.Need-returns-2 (follow-calls t) (follow-at t) follow.Post
 follow-returns-2 t c = follow-stop _ (c .before .before .before .before .before .args .l .0) (c .before .before .before .before .before .args .e .0) (c .before .before .before .before .before .args .clear) _ (c .before .before .if1 .left) (λ z. omega (arith, z .0, c .if2 .taken))
 
-follow-count-requires : (t : ℕ) → follow-lts.Need-count-requires (follow-calls t) (follow-at t) follow.Post
-follow-count-requires t c κs = c .before .before .before .before .before .pre .1 .0
+follow-used-requires : (t : ℕ) → follow-lts.Need-used-requires (follow-calls t) (follow-at t) follow.Post
+follow-used-requires t c κs = c .before .before .before .before .before .pre .1 .0
 
 follow-returns-3 : (t : ℕ) → follow-lts.Need-returns-3 (follow-calls t) (follow-at t) follow.Post
-follow-returns-3 t c = follow-stop _ (c .before .before .before .before .before .before .before .args .l .0) (c .before .before .before .before .before .before .before .args .e .0) (c .before .before .before .before .before .before .before .args .clear) _ (c .before .before .before .before .if1 .left) (λ z. omega (arith, z .1, c .if3 .taken, c .before .count .ensures))
+follow-returns-3 t c = follow-stop _ (c .before .before .before .before .before .before .before .args .l .0) (c .before .before .before .before .before .before .before .args .e .0) (c .before .before .before .before .before .before .before .args .clear) _ (c .before .before .before .before .if1 .left) (λ z. omega (arith, z .1, c .if3 .taken, c .before .used .ensures))
 
 follow-place-requires : (t : ℕ) → follow-lts.Need-place-requires (follow-calls t) (follow-at t) follow.Post
-follow-place-requires t c κs = (c .before .before .before .before .before .before .before .pre .1 .0, omega (arith, c .before .before .before .before .before .before .before .pre .1 .1 .room (c .before .before .before .before .before .before .before .args .e .0), c .if3 .left, c .before .count .ensures, c .before .before .if2 .left))
+follow-place-requires t c κs = (c .before .before .before .before .before .before .before .pre .1 .0, omega (arith, c .before .before .before .before .before .before .before .pre .1 .1 .room (c .before .before .before .before .before .before .before .args .e .0), c .if3 .left, c .before .used .ensures, c .before .before .if2 .left))
 
 follow-is-bar-requires : (t : ℕ) → follow-lts.Need-is-bar-requires (follow-calls t) (follow-at t) follow.Post
-follow-is-bar-requires t c κs = let r = c .before .before .before .before .before .before .before .before .pre .1 .1 in let i : getD (c .before .before .before .before .before .before .before .before .args .names .now) 0 0 - 1 < counts (tablesOf (c .before .before .before .before .before .before .before .before .args .t .now)) (c .before .before .before .before .before .before .before .before .args .e .0) = omega (arith, c .before .if3 .left, c .before .before .count .ensures, c .before .before .before .if2 .left) in let l = r .low _ _ i in let h = r .high _ _ i in (c .before .before .before .before .before .before .before .before .pre .1 .0 .0, omega (arith, c .place .ensures, l, c .before .before .before .before .before .before .before .before .pre .1 .0 .1), omega (arith, c .place .ensures, h, c .before .before .before .before .before .before .before .before .pre .1 .0 .2))
+follow-is-bar-requires t c κs = let r = c .before .before .before .before .before .before .before .before .pre .1 .1 in let i : getD (c .before .before .before .before .before .before .before .before .args .names .now) 0 0 - 1 < usedPlaces (tablesOf (c .before .before .before .before .before .before .before .before .args .t .now)) (c .before .before .before .before .before .before .before .before .args .e .0) = omega (arith, c .before .if3 .left, c .before .before .used .ensures, c .before .before .before .if2 .left) in let l = r .low _ _ i in let h = r .high _ _ i in (c .before .before .before .before .before .before .before .before .pre .1 .0 .0, omega (arith, c .place .ensures, l, c .before .before .before .before .before .before .before .before .pre .1 .0 .1), omega (arith, c .place .ensures, h, c .before .before .before .before .before .before .before .before .pre .1 .0 .2))
 
 follow-sub-follow : (t : ℕ) → follow-lts.Need-sub-follow (follow-calls t) (follow-at t) follow.Post
 follow-sub-follow t c = search needs
@@ -62,10 +62,10 @@ follow-part-follow-end : (t : ℕ) → follow-lts.Need-part-follow-end (follow-c
 follow-part-follow-end t c = search needs
 
 follow-follow-requires : (t : ℕ) → follow-lts.Need-follow-requires (follow-calls t) (follow-at t) follow.Post
-follow-follow-requires t c κs = let r = c .before .before .before .before .before .before .before .before .before .before .pre .1 .1 in let i : getD (c .before .before .before .before .before .before .before .before .before .before .args .names .now) 0 0 - 1 < counts (tablesOf (c .before .before .before .before .before .before .before .before .before .before .args .t .now)) (c .before .before .before .before .before .before .before .before .before .before .args .e .0) = omega (arith, c .before .before .before .if3 .left, c .before .before .before .before .count .ensures, c .before .before .before .before .before .if2 .left) in (omega (arith, c .before .before .before .before .before .before .before .before .before .before .pre .0, c .follow-arg .given .2, pos-of-ne-zero (c .before .before .before .before .before .before .before .if1 .left)), ((c .before .before .before .before .before .before .before .before .before .before .pre .1 .0 .0, rw (c .before .before .place .ensures) (r .low _ _ i), rw (c .before .before .place .ensures) (r .high _ _ i)), r))
+follow-follow-requires t c κs = let r = c .before .before .before .before .before .before .before .before .before .before .pre .1 .1 in let i : getD (c .before .before .before .before .before .before .before .before .before .before .args .names .now) 0 0 - 1 < usedPlaces (tablesOf (c .before .before .before .before .before .before .before .before .before .before .args .t .now)) (c .before .before .before .before .before .before .before .before .before .before .args .e .0) = omega (arith, c .before .before .before .if3 .left, c .before .before .before .before .used .ensures, c .before .before .before .before .before .if2 .left) in (omega (arith, c .before .before .before .before .before .before .before .before .before .before .pre .0, c .follow-arg .given .2, pos-of-ne-zero (c .before .before .before .before .before .before .before .if1 .left)), ((c .before .before .before .before .before .before .before .before .before .before .pre .1 .0 .0, rw (c .before .before .place .ensures) (r .low _ _ i), rw (c .before .before .place .ensures) (r .high _ _ i)), r))
 
 follow-returns-4 : (t : ℕ) → follow-lts.Need-returns-4 (follow-calls t) (follow-at t) follow.Post
-follow-returns-4 t c = c .follow .ensures ∙ rw (c .before .before .is-bar .ensures) (follow-on _ (c .before .before .before .before .before .before .before .before .before .before .before .args .l .0) (c .before .before .before .before .before .before .before .before .before .before .before .args .e .0) (c .before .before .before .place .result .0) (c .before .before .before .before .before .before .before .before .before .before .before .args .clear) _ (c .before .before .before .before .before .before .before .before .if1 .left) (c .before .before .before .before .before .before .if2 .left) (omega (arith, c .before .before .before .before .if3 .left, c .before .before .before .before .before .count .ensures)) (c .before .before .before .place .ensures))
+follow-returns-4 t c = c .follow .ensures ∙ rw (c .before .before .is-bar .ensures) (follow-on _ (c .before .before .before .before .before .before .before .before .before .before .before .args .l .0) (c .before .before .before .before .before .before .before .before .before .before .before .args .e .0) (c .before .before .before .place .result .0) (c .before .before .before .before .before .before .before .before .before .before .before .args .clear) _ (c .before .before .before .before .before .before .before .before .if1 .left) (c .before .before .before .before .before .before .if2 .left) (omega (arith, c .before .before .before .before .if3 .left, c .before .before .before .before .before .used .ensures)) (c .before .before .before .place .ensures))
 
 pub +follow-spec : {M : Type 1} → statement M
 +follow-spec = close μ-follow λ t. follow-lts.spec (follow-calls t)
@@ -74,7 +74,7 @@ pub +follow-spec : {M : Type 1} → statement M
     (follow-returns t)
     (follow-shared-slice-read-p t)
     (follow-returns-2 t)
-    (follow-count-requires t)
+    (follow-used-requires t)
     (follow-returns-3 t)
     (follow-place-requires t)
     (follow-is-bar-requires t)

@@ -9,7 +9,7 @@ use Rattle.disclosure.proofs.verdicts.judge.Lts as lts
 use Rattle.disclosure.proofs.verdicts.is_showable.Reads as is-showable-reads
 use Rattle.disclosure.proofs.verdicts.weigh.Reads as weigh-reads
 use Rattle.reference.proofs.is_bar.Reads as is-bar-reads
-use Rattle.tables.proofs.count.Reads as count-reads
+use Rattle.tables.proofs.used.Reads as used-reads
 
 is-bar-requires : tie.Need-is-bar-requires
 is-bar-requires c κs = search needs
@@ -17,15 +17,15 @@ is-bar-requires c κs = search needs
 is-showable-requires : tie.Need-is-showable-requires
 is-showable-requires c κs = search needs
 
-count-requires : tie.Need-count-requires
-count-requires c κs = search needs
+used-requires : tie.Need-used-requires
+used-requires c κs = search needs
 
 weigh-requires : tie.Need-weigh-requires
-weigh-requires c κs = omega (arith, c .count .ensures, c .before .before .before .before .pre .0 .admitted .good .0 .entities (c .before .before .before .before .args .e .0) .filled .packed .room)
+weigh-requires c κs = omega (arith, c .used .ensures, c .before .before .before .before .pre .0 .admitted .good .0 .entities (c .before .before .before .before .args .e .0) .filled .packed .room)
 
 returns : tie.Need-returns
-returns c = c .weigh .ensures ∙ verdict-weighed _ _ _ _ _ _ _ (c .before .before .before .before .before .pre .0 .clearance) (c .before .before .before .is-bar .ensures) (c .before .count .ensures) (c .before .before .is-showable .ensures)
+returns c = c .weigh .ensures ∙ verdict-weighed _ _ _ _ _ _ _ (c .before .before .before .before .before .pre .0 .clearance) (c .before .before .before .is-bar .ensures) (c .before .used .ensures) (c .before .before .is-showable .ensures)
 
 pub judge-spec : {M : Type 1} → statement M
 judge-spec =
-    tie.close (tie.spec is-bar-requires is-showable-requires count-requires weigh-requires returns)
+    tie.close (tie.spec is-bar-requires is-showable-requires used-requires weigh-requires returns)

@@ -5,35 +5,35 @@ use Rattle.op_places.proofs.filling.put_last.Statement.{statement}
 use Rattle.op_places.proofs.filling.put_last.Tie as tie
 use Rattle.op_places.proofs.filling.put_last.Reads as reads
 use Rattle.op_places.proofs.filling.put_last.Lts as lts
-use Rattle.tables.proofs.count.Reads as count-reads
-use Rattle.tables.proofs.set_count.Reads as set-count-reads
+use Rattle.tables.proofs.used.Reads as used-reads
+use Rattle.tables.proofs.set_used.Reads as set-used-reads
 use Rattle.tables.proofs.set_place.Reads as set-place-reads
 
-count-requires : tie.Need-count-requires
-count-requires c κs = search needs
+used-requires : tie.Need-used-requires
+used-requires c κs = search needs
 
 set-place-requires : tie.Need-set-place-requires
 set-place-requires c κs = search needs
 
-add-set-count : tie.Need-add-set-count
-add-set-count c = search needs
+add-set-used : tie.Need-add-set-used
+add-set-used c = search needs
 
-set-count-requires : tie.Need-set-count-requires
-set-count-requires c κs = search needs
+set-used-requires : tie.Need-set-used-requires
+set-used-requires c κs = search needs
 
 same-length : tie.Need-same-length
 same-length c = search needs
 
 returns : tie.Need-returns
-returns c = put-stores (tablesOf (c .before .before .before .before .before .before .before .before .before .before .before .args .t .now)) _ _ _ (c .before .before .before .before .before .before .before .before .count .ensures) (c .before .before .before .before .before .before .before .before .before .before .before .pre .2) _ _ (c .before .before .before .before .before .before .set-place .ensures) (c .before .before .set-count .ensures)
+returns c = put-stores (tablesOf (c .before .before .before .before .before .before .before .before .before .before .before .args .t .now)) _ _ _ (c .before .before .before .before .before .before .before .before .used .ensures) (c .before .before .before .before .before .before .before .before .before .before .before .pre .2) _ _ (c .before .before .before .before .before .before .set-place .ensures) (c .before .before .set-used .ensures)
 
 pub put-last-spec : {M : Type 1} → statement M
 put-last-spec =
     tie.close
     (tie.spec
-    count-requires
+    used-requires
     set-place-requires
-    add-set-count
-    set-count-requires
+    add-set-used
+    set-used-requires
     same-length
     returns)

@@ -6,13 +6,13 @@ use Rattle.op_places.proofs.places.is_inside.Tie as tie
 use Rattle.op_places.proofs.places.is_inside.Reads as reads
 use Rattle.op_places.proofs.places.is_inside.Lts as lts
 use Rattle.op_places.proofs.places.inside.Reads as inside-reads
-use Rattle.tables.proofs.count.Reads as count-reads
+use Rattle.tables.proofs.used.Reads as used-reads
 
-count-requires : tie.Need-count-requires
-count-requires c κs = search needs
+used-requires : tie.Need-used-requires
+used-requires c κs = search needs
 
 returns : tie.Need-returns
-returns c = inside-empty (tablesOf (c .before .before .before .before .before .args .t .now)) (c .before .before .before .before .before .pre .1) _ _ _ (c .before .before .before .count .ensures) (c .before .before .if1 .taken)
+returns c = inside-empty (tablesOf (c .before .before .before .before .before .args .t .now)) (c .before .before .before .before .before .pre .1) _ _ _ (c .before .before .before .used .ensures) (c .before .before .if1 .taken)
 
 inside-requires : tie.Need-inside-requires
 inside-requires c κs = search needs
@@ -21,4 +21,4 @@ returns-2 : tie.Need-returns-2
 returns-2 c = search needs
 
 pub is-inside-spec : {M : Type 1} → statement M
-is-inside-spec = tie.close (tie.spec count-requires returns inside-requires returns-2)
+is-inside-spec = tie.close (tie.spec used-requires returns inside-requires returns-2)

@@ -9,7 +9,7 @@ use Rattle.op_words.proofs.trial.try_device_level.Reads as reads
 use Rattle.op_words.proofs.trial.try_device_level.Lts as lts
 use Rattle.levels.proofs.at_most.Reads as at-most-reads
 use Rattle.op_words.proofs.trial.all_at_most.Reads as all-at-most-reads
-use Rattle.tables.proofs.count.Reads as count-reads
+use Rattle.tables.proofs.used.Reads as used-reads
 use Rattle.tables.proofs.maximum.Reads as maximum-reads
 use Rattle.tables.proofs.set_level.Reads as set-level-reads
 
@@ -25,8 +25,8 @@ same-length c = search needs
 returns : tie.Need-returns
 returns c = tried-left _ _ _ (device-above _ (c .before .before .before .before .before .pre .1) _ _ (c .before .before .before .before .before .pre .2) (c .before .before .before .before .before .pre .0 .1) (c .before .before .before .before .before .pre .0 .2) _ (c .before .before .maximum .ensures) _ (c .before .at-most .ensures) (not-true _ (c .if1 .taken))) refl
 
-count-requires : tie.Need-count-requires
-count-requires c κs = search needs
+used-requires : tie.Need-used-requires
+used-requires c κs = search needs
 
 all-at-most-requires : tie.Need-all-at-most-requires
 all-at-most-requires c κs = search needs
@@ -35,7 +35,7 @@ same-length-2 : tie.Need-same-length-2
 same-length-2 c = search needs
 
 returns-2 : tie.Need-returns-2
-returns-2 c = tried-left _ _ _ (sym (not-true _ (c .if2 .taken)) ∙ device-shows _ (c .before .before .before .before .before .before .before .before .before .pre .1) _ _ (c .before .before .before .before .before .before .before .before .before .pre .2) (c .before .before .before .before .before .before .before .before .before .pre .0 .1) (c .before .before .before .before .before .before .before .before .before .pre .0 .2) _ (c .before .before .before .before .before .before .maximum .ensures) _ (c .before .before .before .before .before .at-most .ensures) (not-false _ (c .before .before .before .before .if1 .left)) _ _ (c .before .before .count .ensures) (c .before .all-at-most .ensures)) refl
+returns-2 c = tried-left _ _ _ (sym (not-true _ (c .if2 .taken)) ∙ device-shows _ (c .before .before .before .before .before .before .before .before .before .pre .1) _ _ (c .before .before .before .before .before .before .before .before .before .pre .2) (c .before .before .before .before .before .before .before .before .before .pre .0 .1) (c .before .before .before .before .before .before .before .before .before .pre .0 .2) _ (c .before .before .before .before .before .before .maximum .ensures) _ (c .before .before .before .before .before .at-most .ensures) (not-false _ (c .before .before .before .before .if1 .left)) _ _ (c .before .before .used .ensures) (c .before .all-at-most .ensures)) refl
 
 set-level-requires : tie.Need-set-level-requires
 set-level-requires c κs = search needs
@@ -44,7 +44,7 @@ same-length-3 : tie.Need-same-length-3
 same-length-3 c = search needs
 
 returns-3 : tie.Need-returns-3
-returns-3 c = tried-set _ _ _ (sym (not-false _ (c .before .before .before .before .if2 .left)) ∙ device-shows _ (c .before .before .before .before .before .before .before .before .before .before .before .before .before .pre .1) _ _ (c .before .before .before .before .before .before .before .before .before .before .before .before .before .pre .2) (c .before .before .before .before .before .before .before .before .before .before .before .before .before .pre .0 .1) (c .before .before .before .before .before .before .before .before .before .before .before .before .before .pre .0 .2) _ (c .before .before .before .before .before .before .before .before .before .before .maximum .ensures) _ (c .before .before .before .before .before .before .before .before .before .at-most .ensures) (not-false _ (c .before .before .before .before .before .before .before .before .if1 .left)) _ _ (c .before .before .before .before .before .before .count .ensures) (c .before .before .before .before .before .all-at-most .ensures)) (c .before .before .set-level .ensures)
+returns-3 c = tried-set _ _ _ (sym (not-false _ (c .before .before .before .before .if2 .left)) ∙ device-shows _ (c .before .before .before .before .before .before .before .before .before .before .before .before .before .pre .1) _ _ (c .before .before .before .before .before .before .before .before .before .before .before .before .before .pre .2) (c .before .before .before .before .before .before .before .before .before .before .before .before .before .pre .0 .1) (c .before .before .before .before .before .before .before .before .before .before .before .before .before .pre .0 .2) _ (c .before .before .before .before .before .before .before .before .before .before .maximum .ensures) _ (c .before .before .before .before .before .before .before .before .before .at-most .ensures) (not-false _ (c .before .before .before .before .before .before .before .before .if1 .left)) _ _ (c .before .before .before .before .before .before .used .ensures) (c .before .before .before .before .before .all-at-most .ensures)) (c .before .before .set-level .ensures)
 
 pub try-device-level-spec : {M : Type 1} → statement M
 try-device-level-spec =
@@ -54,7 +54,7 @@ try-device-level-spec =
     at-most-requires
     same-length
     returns
-    count-requires
+    used-requires
     all-at-most-requires
     same-length-2
     returns-2

@@ -10,13 +10,13 @@ use Rattle.state.proofs.entities.present_fine.Statement.{statement}
 use Rattle.state.proofs.entities.present_fine.Tie as tie
 use Rattle.state.proofs.entities.present_fine.Reads as reads
 use Rattle.state.proofs.entities.present_fine.Lts as lts
-use Rattle.state.proofs.entities.count_fine.Reads as count-fine-reads
+use Rattle.state.proofs.entities.used_fine.Reads as used-fine-reads
 use Rattle.state.proofs.entities.places_fine.Reads as places-fine-reads
 use Rattle.state.proofs.entities.places_new.Reads as places-new-reads
 use Rattle.state.proofs.entities.shape_fine.Reads as shape-fine-reads
 use Rattle.state.proofs.entities.triples_fine.Reads as triples-fine-reads
 use Rattle.state.proofs.users.nobody_on.Reads as nobody-on-reads
-use Rattle.tables.proofs.count.Reads as count-reads
+use Rattle.tables.proofs.used.Reads as used-reads
 use Rattle.tables.proofs.level.Reads as level-reads
 use Rattle.tables.proofs.mark.Reads as mark-reads
 use Rattle.tables.proofs.maximum.Reads as maximum-reads
@@ -48,41 +48,41 @@ shape-fine-requires c κs = search needs
 returns : tie.Need-returns
 returns c = own-shape _ (bounded _) _ _ _ _ _ _ _ _ (c .before .before .before .before .before .before .before .before .before .pre .1) (c .before .before .before .before .before .before .before .before .before .pre .2) (c .before .before .before .before .before .before .before .type-of .ensures) (c .before .before .before .before .before .before .level .ensures) (c .before .before .before .before .before .mark .ensures) (c .before .before .before .before .value .ensures) (c .before .before .before .releaser .ensures) (c .before .before .maximum .ensures) _ (c .before .shape-fine .ensures) (not-true _ (c .if1 .taken))
 
-count-requires : tie.Need-count-requires
-count-requires c κs = search needs
+used-requires : tie.Need-used-requires
+used-requires c κs = search needs
 
-count-fine-requires : tie.Need-count-fine-requires
-count-fine-requires c κs = search needs
+used-fine-requires : tie.Need-used-fine-requires
+used-fine-requires c κs = search needs
 
 returns-2 : tie.Need-returns-2
-returns-2 c = own-count _ (bounded _) _ _ _ _ _ _ _ _ (c .before .before .before .before .before .before .before .before .before .before .before .before .pre .1) (c .before .before .before .before .before .before .before .before .before .before .before .before .pre .2) (c .before .before .before .before .before .before .before .before .before .before .type-of .ensures) (c .before .before .before .before .before .before .before .before .before .level .ensures) (c .before .before .before .before .before .before .before .before .mark .ensures) (c .before .before .before .before .before .before .before .value .ensures) (c .before .before .before .before .before .before .releaser .ensures) (c .before .before .before .before .before .maximum .ensures) _ (c .before .before .before .before .shape-fine .ensures) (not-false _ (c .before .before .before .if1 .left)) _ (c .before .before .count .ensures) _ (c .before .count-fine .ensures) (not-true _ (c .if2 .taken))
+returns-2 c = own-count _ (bounded _) _ _ _ _ _ _ _ _ (c .before .before .before .before .before .before .before .before .before .before .before .before .pre .1) (c .before .before .before .before .before .before .before .before .before .before .before .before .pre .2) (c .before .before .before .before .before .before .before .before .before .before .type-of .ensures) (c .before .before .before .before .before .before .before .before .before .level .ensures) (c .before .before .before .before .before .before .before .before .mark .ensures) (c .before .before .before .before .before .before .before .value .ensures) (c .before .before .before .before .before .before .releaser .ensures) (c .before .before .before .before .before .maximum .ensures) _ (c .before .before .before .before .shape-fine .ensures) (not-false _ (c .before .before .before .if1 .left)) _ (c .before .before .used .ensures) _ (c .before .used-fine .ensures) (not-true _ (c .if2 .taken))
 
 places-fine-requires : tie.Need-places-fine-requires
-places-fine-requires c κs = (c .before .before .before .before .before .before .before .before .before .before .before .before .pre .0, c .before .before .count .ensures, ap (λ (k : ℕ). eqb k 3) (c .before .before .before .before .before .before .before .before .before .before .before .before .pre .1))
+places-fine-requires c κs = (c .before .before .before .before .before .before .before .before .before .before .before .before .pre .0, c .before .before .used .ensures, ap (λ (k : ℕ). eqb k 3) (c .before .before .before .before .before .before .before .before .before .before .before .before .pre .1))
 
 returns-3 : tie.Need-returns-3
-returns-3 c = own-places _ (bounded _) _ _ _ _ _ _ _ _ (c .before .before .before .before .before .before .before .before .before .before .before .before .before .before .pre .1) (c .before .before .before .before .before .before .before .before .before .before .before .before .before .before .pre .2) (c .before .before .before .before .before .before .before .before .before .before .before .before .type-of .ensures) (c .before .before .before .before .before .before .before .before .before .before .before .level .ensures) (c .before .before .before .before .before .before .before .before .before .before .mark .ensures) (c .before .before .before .before .before .before .before .before .before .value .ensures) (c .before .before .before .before .before .before .before .before .releaser .ensures) (c .before .before .before .before .before .before .before .maximum .ensures) _ (c .before .before .before .before .before .before .shape-fine .ensures) (not-false _ (c .before .before .before .before .before .if1 .left)) _ (c .before .before .before .before .count .ensures) _ (c .before .before .before .count-fine .ensures) (not-false _ (c .before .before .if2 .left)) _ (c .before .places-fine .ensures) (not-true _ (c .if3 .taken))
+returns-3 c = own-places _ (bounded _) _ _ _ _ _ _ _ _ (c .before .before .before .before .before .before .before .before .before .before .before .before .before .before .pre .1) (c .before .before .before .before .before .before .before .before .before .before .before .before .before .before .pre .2) (c .before .before .before .before .before .before .before .before .before .before .before .before .type-of .ensures) (c .before .before .before .before .before .before .before .before .before .before .before .level .ensures) (c .before .before .before .before .before .before .before .before .before .before .mark .ensures) (c .before .before .before .before .before .before .before .before .before .value .ensures) (c .before .before .before .before .before .before .before .before .releaser .ensures) (c .before .before .before .before .before .before .before .maximum .ensures) _ (c .before .before .before .before .before .before .shape-fine .ensures) (not-false _ (c .before .before .before .before .before .if1 .left)) _ (c .before .before .before .before .used .ensures) _ (c .before .before .before .used-fine .ensures) (not-false _ (c .before .before .if2 .left)) _ (c .before .places-fine .ensures) (not-true _ (c .if3 .taken))
 
 places-new-requires : tie.Need-places-new-requires
-places-new-requires c κs = (c .before .before .before .before .before .before .before .before .before .before .before .before .before .before .pre .0, own-room _ (bounded _) _ _ _ _ _ _ _ _ (c .before .before .before .before .before .before .before .before .before .before .before .before .before .before .pre .1) (c .before .before .before .before .before .before .before .before .before .before .before .before .before .before .pre .2) (c .before .before .before .before .before .before .before .before .before .before .before .before .type-of .ensures) (c .before .before .before .before .before .before .before .before .before .before .before .level .ensures) (c .before .before .before .before .before .before .before .before .before .before .mark .ensures) (c .before .before .before .before .before .before .before .before .before .value .ensures) (c .before .before .before .before .before .before .before .before .releaser .ensures) (c .before .before .before .before .before .before .before .maximum .ensures) _ (c .before .before .before .before .before .before .shape-fine .ensures) (not-false _ (c .before .before .before .before .before .if1 .left)) _ (c .before .before .before .before .count .ensures) _ (c .before .before .before .count-fine .ensures) (not-false _ (c .before .before .if2 .left)), c .before .before .before .before .count .ensures, sym (c .before .places-fine .ensures) ∙ not-false _ (c .if3 .left))
+places-new-requires c κs = (c .before .before .before .before .before .before .before .before .before .before .before .before .before .before .pre .0, own-room _ (bounded _) _ _ _ _ _ _ _ _ (c .before .before .before .before .before .before .before .before .before .before .before .before .before .before .pre .1) (c .before .before .before .before .before .before .before .before .before .before .before .before .before .before .pre .2) (c .before .before .before .before .before .before .before .before .before .before .before .before .type-of .ensures) (c .before .before .before .before .before .before .before .before .before .before .before .level .ensures) (c .before .before .before .before .before .before .before .before .before .before .mark .ensures) (c .before .before .before .before .before .before .before .before .before .value .ensures) (c .before .before .before .before .before .before .before .before .releaser .ensures) (c .before .before .before .before .before .before .before .maximum .ensures) _ (c .before .before .before .before .before .before .shape-fine .ensures) (not-false _ (c .before .before .before .before .before .if1 .left)) _ (c .before .before .before .before .used .ensures) _ (c .before .before .before .used-fine .ensures) (not-false _ (c .before .before .if2 .left)), c .before .before .before .before .used .ensures, sym (c .before .places-fine .ensures) ∙ not-false _ (c .if3 .left))
 
 returns-4 : tie.Need-returns-4
-returns-4 c = own-unlike _ (bounded _) _ _ _ _ _ _ _ _ (c .before .before .before .before .before .before .before .before .before .before .before .before .before .before .before .before .pre .1) (c .before .before .before .before .before .before .before .before .before .before .before .before .before .before .before .before .pre .2) (c .before .before .before .before .before .before .before .before .before .before .before .before .before .before .type-of .ensures) (c .before .before .before .before .before .before .before .before .before .before .before .before .before .level .ensures) (c .before .before .before .before .before .before .before .before .before .before .before .before .mark .ensures) (c .before .before .before .before .before .before .before .before .before .before .before .value .ensures) (c .before .before .before .before .before .before .before .before .before .before .releaser .ensures) (c .before .before .before .before .before .before .before .before .before .maximum .ensures) _ (c .before .before .before .before .before .before .before .before .shape-fine .ensures) (not-false _ (c .before .before .before .before .before .before .before .if1 .left)) _ (c .before .before .before .before .before .before .count .ensures) _ (c .before .before .before .before .before .count-fine .ensures) (not-false _ (c .before .before .before .before .if2 .left)) _ (c .before .before .before .places-fine .ensures) (not-false _ (c .before .before .if3 .left)) _ (c .before .places-new .ensures) (not-true _ (c .if4 .taken))
+returns-4 c = own-unlike _ (bounded _) _ _ _ _ _ _ _ _ (c .before .before .before .before .before .before .before .before .before .before .before .before .before .before .before .before .pre .1) (c .before .before .before .before .before .before .before .before .before .before .before .before .before .before .before .before .pre .2) (c .before .before .before .before .before .before .before .before .before .before .before .before .before .before .type-of .ensures) (c .before .before .before .before .before .before .before .before .before .before .before .before .before .level .ensures) (c .before .before .before .before .before .before .before .before .before .before .before .before .mark .ensures) (c .before .before .before .before .before .before .before .before .before .before .before .value .ensures) (c .before .before .before .before .before .before .before .before .before .before .releaser .ensures) (c .before .before .before .before .before .before .before .before .before .maximum .ensures) _ (c .before .before .before .before .before .before .before .before .shape-fine .ensures) (not-false _ (c .before .before .before .before .before .before .before .if1 .left)) _ (c .before .before .before .before .before .before .used .ensures) _ (c .before .before .before .before .before .used-fine .ensures) (not-false _ (c .before .before .before .before .if2 .left)) _ (c .before .before .before .places-fine .ensures) (not-false _ (c .before .before .if3 .left)) _ (c .before .places-new .ensures) (not-true _ (c .if4 .taken))
 
 triples-fine-requires : tie.Need-triples-fine-requires
 triples-fine-requires c κs = search needs
 
 returns-5 : tie.Need-returns-5
-returns-5 c = own-triples _ (bounded _) _ _ _ _ _ _ _ _ (c .before .before .before .before .before .before .before .before .before .before .before .before .before .before .before .before .before .before .pre .1) (c .before .before .before .before .before .before .before .before .before .before .before .before .before .before .before .before .before .before .pre .2) (c .before .before .before .before .before .before .before .before .before .before .before .before .before .before .before .before .type-of .ensures) (c .before .before .before .before .before .before .before .before .before .before .before .before .before .before .before .level .ensures) (c .before .before .before .before .before .before .before .before .before .before .before .before .before .before .mark .ensures) (c .before .before .before .before .before .before .before .before .before .before .before .before .before .value .ensures) (c .before .before .before .before .before .before .before .before .before .before .before .before .releaser .ensures) (c .before .before .before .before .before .before .before .before .before .before .before .maximum .ensures) _ (c .before .before .before .before .before .before .before .before .before .before .shape-fine .ensures) (not-false _ (c .before .before .before .before .before .before .before .before .before .if1 .left)) _ (c .before .before .before .before .before .before .before .before .count .ensures) _ (c .before .before .before .before .before .before .before .count-fine .ensures) (not-false _ (c .before .before .before .before .before .before .if2 .left)) _ (c .before .before .before .before .before .places-fine .ensures) (not-false _ (c .before .before .before .before .if3 .left)) _ (c .before .before .before .places-new .ensures) (not-false _ (c .before .before .if4 .left)) _ (c .before .triples-fine .ensures) (not-true _ (c .if5 .taken))
+returns-5 c = own-triples _ (bounded _) _ _ _ _ _ _ _ _ (c .before .before .before .before .before .before .before .before .before .before .before .before .before .before .before .before .before .before .pre .1) (c .before .before .before .before .before .before .before .before .before .before .before .before .before .before .before .before .before .before .pre .2) (c .before .before .before .before .before .before .before .before .before .before .before .before .before .before .before .before .type-of .ensures) (c .before .before .before .before .before .before .before .before .before .before .before .before .before .before .before .level .ensures) (c .before .before .before .before .before .before .before .before .before .before .before .before .before .before .mark .ensures) (c .before .before .before .before .before .before .before .before .before .before .before .before .before .value .ensures) (c .before .before .before .before .before .before .before .before .before .before .before .before .releaser .ensures) (c .before .before .before .before .before .before .before .before .before .before .before .maximum .ensures) _ (c .before .before .before .before .before .before .before .before .before .before .shape-fine .ensures) (not-false _ (c .before .before .before .before .before .before .before .before .before .if1 .left)) _ (c .before .before .before .before .before .before .before .before .used .ensures) _ (c .before .before .before .before .before .before .before .used-fine .ensures) (not-false _ (c .before .before .before .before .before .before .if2 .left)) _ (c .before .before .before .before .before .places-fine .ensures) (not-false _ (c .before .before .before .before .if3 .left)) _ (c .before .before .before .places-new .ensures) (not-false _ (c .before .before .if4 .left)) _ (c .before .triples-fine .ensures) (not-true _ (c .if5 .taken))
 
 returns-6 : tie.Need-returns-6
-returns-6 c = own-quiet _ (bounded _) _ _ _ _ _ _ _ _ (c .before .before .before .before .before .before .before .before .before .before .before .before .before .before .before .before .before .before .before .pre .1) (c .before .before .before .before .before .before .before .before .before .before .before .before .before .before .before .before .before .before .before .pre .2) (c .before .before .before .before .before .before .before .before .before .before .before .before .before .before .before .before .before .type-of .ensures) (c .before .before .before .before .before .before .before .before .before .before .before .before .before .before .before .before .level .ensures) (c .before .before .before .before .before .before .before .before .before .before .before .before .before .before .before .mark .ensures) (c .before .before .before .before .before .before .before .before .before .before .before .before .before .before .value .ensures) (c .before .before .before .before .before .before .before .before .before .before .before .before .before .releaser .ensures) (c .before .before .before .before .before .before .before .before .before .before .before .before .maximum .ensures) _ (c .before .before .before .before .before .before .before .before .before .before .before .shape-fine .ensures) (not-false _ (c .before .before .before .before .before .before .before .before .before .before .if1 .left)) _ (c .before .before .before .before .before .before .before .before .before .count .ensures) _ (c .before .before .before .before .before .before .before .before .count-fine .ensures) (not-false _ (c .before .before .before .before .before .before .before .if2 .left)) _ (c .before .before .before .before .before .before .places-fine .ensures) (not-false _ (c .before .before .before .before .before .if3 .left)) _ (c .before .before .before .before .places-new .ensures) (not-false _ (c .before .before .before .if4 .left)) _ (c .before .before .triples-fine .ensures) (not-false _ (c .before .if5 .left)) (c .if6 .taken)
+returns-6 c = own-quiet _ (bounded _) _ _ _ _ _ _ _ _ (c .before .before .before .before .before .before .before .before .before .before .before .before .before .before .before .before .before .before .before .pre .1) (c .before .before .before .before .before .before .before .before .before .before .before .before .before .before .before .before .before .before .before .pre .2) (c .before .before .before .before .before .before .before .before .before .before .before .before .before .before .before .before .before .type-of .ensures) (c .before .before .before .before .before .before .before .before .before .before .before .before .before .before .before .before .level .ensures) (c .before .before .before .before .before .before .before .before .before .before .before .before .before .before .before .mark .ensures) (c .before .before .before .before .before .before .before .before .before .before .before .before .before .before .value .ensures) (c .before .before .before .before .before .before .before .before .before .before .before .before .before .releaser .ensures) (c .before .before .before .before .before .before .before .before .before .before .before .before .maximum .ensures) _ (c .before .before .before .before .before .before .before .before .before .before .before .shape-fine .ensures) (not-false _ (c .before .before .before .before .before .before .before .before .before .before .if1 .left)) _ (c .before .before .before .before .before .before .before .before .before .used .ensures) _ (c .before .before .before .before .before .before .before .before .used-fine .ensures) (not-false _ (c .before .before .before .before .before .before .before .if2 .left)) _ (c .before .before .before .before .before .before .places-fine .ensures) (not-false _ (c .before .before .before .before .before .if3 .left)) _ (c .before .before .before .before .places-new .ensures) (not-false _ (c .before .before .before .if4 .left)) _ (c .before .before .triples-fine .ensures) (not-false _ (c .before .if5 .left)) (c .if6 .taken)
 
 nobody-on-requires : tie.Need-nobody-on-requires
 nobody-on-requires c κs = (c .before .before .before .before .before .before .before .before .before .before .before .before .before .before .before .before .before .before .before .pre .0 .0, omega arith)
 
 returns-7 : tie.Need-returns-7
-returns-7 c = own-shown _ (bounded _) _ _ _ _ _ _ _ _ (c .before .before .before .before .before .before .before .before .before .before .before .before .before .before .before .before .before .before .before .before .pre .1) (c .before .before .before .before .before .before .before .before .before .before .before .before .before .before .before .before .before .before .before .before .pre .2) (c .before .before .before .before .before .before .before .before .before .before .before .before .before .before .before .before .before .before .type-of .ensures) (c .before .before .before .before .before .before .before .before .before .before .before .before .before .before .before .before .before .level .ensures) (c .before .before .before .before .before .before .before .before .before .before .before .before .before .before .before .before .mark .ensures) (c .before .before .before .before .before .before .before .before .before .before .before .before .before .before .before .value .ensures) (c .before .before .before .before .before .before .before .before .before .before .before .before .before .before .releaser .ensures) (c .before .before .before .before .before .before .before .before .before .before .before .before .before .maximum .ensures) _ (c .before .before .before .before .before .before .before .before .before .before .before .before .shape-fine .ensures) (not-false _ (c .before .before .before .before .before .before .before .before .before .before .before .if1 .left)) _ (c .before .before .before .before .before .before .before .before .before .before .count .ensures) _ (c .before .before .before .before .before .before .before .before .before .count-fine .ensures) (not-false _ (c .before .before .before .before .before .before .before .before .if2 .left)) _ (c .before .before .before .before .before .before .before .places-fine .ensures) (not-false _ (c .before .before .before .before .before .before .if3 .left)) _ (c .before .before .before .before .before .places-new .ensures) (not-false _ (c .before .before .before .before .if4 .left)) _ (c .before .before .before .triples-fine .ensures) (not-false _ (c .before .before .if5 .left)) (c .before .if6 .left) _ (c .nobody-on .ensures)
+returns-7 c = own-shown _ (bounded _) _ _ _ _ _ _ _ _ (c .before .before .before .before .before .before .before .before .before .before .before .before .before .before .before .before .before .before .before .before .pre .1) (c .before .before .before .before .before .before .before .before .before .before .before .before .before .before .before .before .before .before .before .before .pre .2) (c .before .before .before .before .before .before .before .before .before .before .before .before .before .before .before .before .before .before .type-of .ensures) (c .before .before .before .before .before .before .before .before .before .before .before .before .before .before .before .before .before .level .ensures) (c .before .before .before .before .before .before .before .before .before .before .before .before .before .before .before .before .mark .ensures) (c .before .before .before .before .before .before .before .before .before .before .before .before .before .before .before .value .ensures) (c .before .before .before .before .before .before .before .before .before .before .before .before .before .before .releaser .ensures) (c .before .before .before .before .before .before .before .before .before .before .before .before .before .maximum .ensures) _ (c .before .before .before .before .before .before .before .before .before .before .before .before .shape-fine .ensures) (not-false _ (c .before .before .before .before .before .before .before .before .before .before .before .if1 .left)) _ (c .before .before .before .before .before .before .before .before .before .before .used .ensures) _ (c .before .before .before .before .before .before .before .before .before .used-fine .ensures) (not-false _ (c .before .before .before .before .before .before .before .before .if2 .left)) _ (c .before .before .before .before .before .before .before .places-fine .ensures) (not-false _ (c .before .before .before .before .before .before .if3 .left)) _ (c .before .before .before .before .before .places-new .ensures) (not-false _ (c .before .before .before .before .if4 .left)) _ (c .before .before .before .triples-fine .ensures) (not-false _ (c .before .before .if5 .left)) (c .before .if6 .left) _ (c .nobody-on .ensures)
 
 pub present-fine-spec : {M : Type 1} → statement M
 present-fine-spec =
@@ -96,8 +96,8 @@ present-fine-spec =
     maximum-requires
     shape-fine-requires
     returns
-    count-requires
-    count-fine-requires
+    used-requires
+    used-fine-requires
     returns-2
     places-fine-requires
     returns-3

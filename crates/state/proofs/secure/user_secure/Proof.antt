@@ -13,7 +13,7 @@ use Rattle.state.proofs.secure.at_most_eight.Reads as at-most-eight-rea
 use Rattle.state.proofs.secure.places_below.Reads as places-below-reads
 use Rattle.tables.proofs.authorised.Reads as authorised-reads
 use Rattle.tables.proofs.clearance.Reads as clearance-reads
-use Rattle.tables.proofs.count.Reads as count-reads
+use Rattle.tables.proofs.used.Reads as used-reads
 use Rattle.tables.proofs.current.Reads as current-reads
 use Rattle.tables.proofs.device.Reads as device-reads
 use Rattle.tables.proofs.level.Reads as level-reads
@@ -51,17 +51,17 @@ at-most-requires c κs = search needs
 returns-4 : tie.Need-returns-4
 returns-4 c = user-below _ _ _ _ _ (c .before .before .before .before .before .before .before .before .before .before .current .ensures) (c .before .before .before .before .before .before .before .before .before .authorised .ensures) (c .before .before .before .before .before .before .before .before .within .ensures) (not-false _ (c .before .before .before .before .before .before .before .if1 .left)) _ (c .before .before .before .before .before .before .device .ensures) (omega arith) (omega arith) (c .before .before .before .before .before .before .before .before .before .before .before .before .pre .1) _ _ _ (c .before .before .level .ensures) (c .before .before .before .clearance .ensures) (c .before .at-most .ensures) (c .if4 .taken)
 
-count-requires : tie.Need-count-requires
-count-requires c κs = search needs
+used-requires : tie.Need-used-requires
+used-requires c κs = search needs
 
 at-most-eight-requires : tie.Need-at-most-eight-requires
 at-most-eight-requires c κs = search needs
 
 places-below-requires : tie.Need-places-below-requires
-places-below-requires c κs = ((c .before .before .before .before .before .before .before .before .before .before .before .before .before .before .pre .0 .0, omega arith, omega arith), omega (arith, capped-low (c .before .count .result), c .at-most-eight .ensures))
+places-below-requires c κs = ((c .before .before .before .before .before .before .before .before .before .before .before .before .before .before .pre .0 .0, omega arith, omega arith), omega (arith, capped-low (c .before .used .result), c .at-most-eight .ensures))
 
 returns-5 : tie.Need-returns-5
-returns-5 c = user-on _ _ _ _ _ (c .before .before .before .before .before .before .before .before .before .before .before .before .before .current .ensures) (c .before .before .before .before .before .before .before .before .before .before .before .before .authorised .ensures) (c .before .before .before .before .before .before .before .before .before .before .before .within .ensures) (not-false _ (c .before .before .before .before .before .before .before .before .before .before .if1 .left)) _ (c .before .before .before .before .before .before .before .before .before .device .ensures) (omega arith) _ _ _ _ (c .before .before .before .before .before .before .clearance .ensures) (c .before .before .count .ensures) (c .before .at-most-eight .ensures) (c .places-below .ensures)
+returns-5 c = user-on _ _ _ _ _ (c .before .before .before .before .before .before .before .before .before .before .before .before .before .current .ensures) (c .before .before .before .before .before .before .before .before .before .before .before .before .authorised .ensures) (c .before .before .before .before .before .before .before .before .before .before .before .within .ensures) (not-false _ (c .before .before .before .before .before .before .before .before .before .before .if1 .left)) _ (c .before .before .before .before .before .before .before .before .before .device .ensures) (omega arith) _ _ _ _ (c .before .before .before .before .before .before .clearance .ensures) (c .before .before .used .ensures) (c .before .at-most-eight .ensures) (c .places-below .ensures)
 
 pub user-secure-spec : {M : Type 1} → statement M
 user-secure-spec =
@@ -78,7 +78,7 @@ user-secure-spec =
     level-requires
     at-most-requires
     returns-4
-    count-requires
+    used-requires
     at-most-eight-requires
     places-below-requires
     returns-5)

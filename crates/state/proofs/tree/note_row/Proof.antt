@@ -4,12 +4,12 @@ use Rattle.model.specs.Tables.Layout.{tablesOf}
 use Rattle.model.specs.Tables.LayoutLaws.{bounded}
 use Prim.Native.Nat.{_*_, _+_, _-_, _≤_}
 use Rattle.state.specs.Holders.{Filled}
-use Rattle.state.specs.HolderLaws.{count-low, filled-put, filled-rest, filled-skip, filled-start, held-twice, slot-at, slot-entity, stopped, went-on}
+use Rattle.state.specs.HolderLaws.{used-low, filled-put, filled-rest, filled-skip, filled-start, held-twice, slot-at, slot-entity, stopped, went-on}
 use Rattle.state.proofs.tree.note_row.Statement.{statement}
 use Rattle.state.proofs.tree.note_row.Tie as tie
 use Rattle.state.proofs.tree.note_row.Reads as reads
 use Rattle.state.proofs.tree.note_row.Lts as lts
-use Rattle.tables.proofs.count.Reads as count-reads
+use Rattle.tables.proofs.used.Reads as used-reads
 use Rattle.tables.proofs.kind.Reads as kind-reads
 use Rattle.tables.proofs.place.Reads as place-reads
 
@@ -25,11 +25,11 @@ kind-requires c κs = search needs
 returns : tie.Need-returns Inv-loop μ-loop
 returns c = went-on _ _ _ (filled-skip (tablesOf _) (bounded _) (c .before .before .before .pre .1) _ _ _ (c .before .before .before .pre .0 .1) (c .before .kind .ensures) (c .if1 .taken) (c .before .before .before .pre .2))
 
-count-requires : tie.Need-count-requires Inv-loop μ-loop
-count-requires c κs = search needs
+used-requires : tie.Need-used-requires Inv-loop μ-loop
+used-requires c κs = search needs
 
 loop-holds : tie.Need-loop-holds Inv-loop μ-loop
-loop-holds c = (omega arith, count-low (tablesOf _) (bounded _) (c .before .before .before .before .pre .1) _ _ (c .count .ensures), filled-start _ _ _ (c .before .before .before .before .pre .2))
+loop-holds c = (omega arith, used-low (tablesOf _) (bounded _) (c .before .before .before .before .pre .1) _ _ (c .used .ensures), filled-start _ _ _ (c .before .before .before .before .pre .2))
 
 place-requires : tie.Need-place-requires Inv-loop μ-loop
 place-requires c κs = search needs
@@ -41,10 +41,10 @@ mul-if2 : tie.Need-mul-if2 Inv-loop μ-loop
 mul-if2 c = search needs
 
 element-copy-out-if2 : tie.Need-element-copy-out-if2 Inv-loop μ-loop
-element-copy-out-if2 c = omega (arith, slot-entity (tablesOf _) (bounded _) (c .before .before .before .before .before .before .before .pre .1) _ _ _ (slot-at (tablesOf _) (bounded _) (c .before .before .before .before .before .before .before .pre .1) _ _ _ _ _ (c .before .before .before .before .before .before .before .pre .0 .1) (c .before .before .before .before .before .kind .ensures) (c .before .before .before .before .if1 .left) (c .before .before .before .count .ensures) (c .before .loop-test .taken) (c .place .ensures)))
+element-copy-out-if2 c = omega (arith, slot-entity (tablesOf _) (bounded _) (c .before .before .before .before .before .before .before .pre .1) _ _ _ (slot-at (tablesOf _) (bounded _) (c .before .before .before .before .before .before .before .pre .1) _ _ _ _ _ (c .before .before .before .before .before .before .before .pre .0 .1) (c .before .before .before .before .before .kind .ensures) (c .before .before .before .before .if1 .left) (c .before .before .before .used .ensures) (c .before .loop-test .taken) (c .place .ensures)))
 
 returns-2 : tie.Need-returns-2 Inv-loop μ-loop
-returns-2 c = stopped _ _ _ (held-twice (tablesOf _) (bounded _) (c .before .before .before .before .before .before .before .before .before .pre .1) _ _ _ _ (slot-at (tablesOf _) (bounded _) (c .before .before .before .before .before .before .before .before .before .pre .1) _ _ _ _ _ (c .before .before .before .before .before .before .before .before .before .pre .0 .1) (c .before .before .before .before .before .before .before .kind .ensures) (c .before .before .before .before .before .before .if1 .left) (c .before .before .before .before .before .count .ensures) (c .before .before .before .loop-test .taken) (c .before .before .place .ensures)) (c .if2 .taken) (c .before .before .before .before .loop .inv .2))
+returns-2 c = stopped _ _ _ (held-twice (tablesOf _) (bounded _) (c .before .before .before .before .before .before .before .before .before .pre .1) _ _ _ _ (slot-at (tablesOf _) (bounded _) (c .before .before .before .before .before .before .before .before .before .pre .1) _ _ _ _ _ (c .before .before .before .before .before .before .before .before .before .pre .0 .1) (c .before .before .before .before .before .before .before .kind .ensures) (c .before .before .before .before .before .before .if1 .left) (c .before .before .before .before .before .used .ensures) (c .before .before .before .loop-test .taken) (c .before .before .place .ensures)) (c .if2 .taken) (c .before .before .before .before .loop .inv .2))
 
 cast-h : tie.Need-cast-h Inv-loop μ-loop
 cast-h c = search needs
@@ -53,7 +53,7 @@ mul-h : tie.Need-mul-h Inv-loop μ-loop
 mul-h c = search needs
 
 element-write-h : tie.Need-element-write-h Inv-loop μ-loop
-element-write-h c = omega (arith, slot-entity (tablesOf _) (bounded _) (c .before .before .before .before .before .before .before .before .before .pre .1) _ _ _ (slot-at (tablesOf _) (bounded _) (c .before .before .before .before .before .before .before .before .before .pre .1) _ _ _ _ _ (c .before .before .before .before .before .before .before .before .before .pre .0 .1) (c .before .before .before .before .before .before .before .kind .ensures) (c .before .before .before .before .before .before .if1 .left) (c .before .before .before .before .before .count .ensures) (c .before .before .before .loop-test .taken) (c .before .before .place .ensures)))
+element-write-h c = omega (arith, slot-entity (tablesOf _) (bounded _) (c .before .before .before .before .before .before .before .before .before .pre .1) _ _ _ (slot-at (tablesOf _) (bounded _) (c .before .before .before .before .before .before .before .before .before .pre .1) _ _ _ _ _ (c .before .before .before .before .before .before .before .before .before .pre .0 .1) (c .before .before .before .before .before .before .before .kind .ensures) (c .before .before .before .before .before .before .if1 .left) (c .before .before .before .before .before .used .ensures) (c .before .before .before .loop-test .taken) (c .before .before .place .ensures)))
 
 add-i : tie.Need-add-i Inv-loop μ-loop
 add-i c = search needs
@@ -62,10 +62,10 @@ loop-less : tie.Need-loop-less Inv-loop μ-loop
 loop-less c = search needs
 
 loop-again : tie.Need-loop-again Inv-loop μ-loop
-loop-again c = (omega arith, c .before .before .before .before .loop .inv .1, filled-put (tablesOf _) (bounded _) (c .before .before .before .before .before .before .before .before .before .pre .1) _ _ _ _ (slot-at (tablesOf _) (bounded _) (c .before .before .before .before .before .before .before .before .before .pre .1) _ _ _ _ _ (c .before .before .before .before .before .before .before .before .before .pre .0 .1) (c .before .before .before .before .before .before .before .kind .ensures) (c .before .before .before .before .before .before .if1 .left) (c .before .before .before .before .before .count .ensures) (c .before .before .before .loop-test .taken) (c .before .before .place .ensures)) (c .if2 .left) (c .before .before .before .before .loop .inv .2))
+loop-again c = (omega arith, c .before .before .before .before .loop .inv .1, filled-put (tablesOf _) (bounded _) (c .before .before .before .before .before .before .before .before .before .pre .1) _ _ _ _ (slot-at (tablesOf _) (bounded _) (c .before .before .before .before .before .before .before .before .before .pre .1) _ _ _ _ _ (c .before .before .before .before .before .before .before .before .before .pre .0 .1) (c .before .before .before .before .before .before .before .kind .ensures) (c .before .before .before .before .before .before .if1 .left) (c .before .before .before .before .before .used .ensures) (c .before .before .before .loop-test .taken) (c .before .before .place .ensures)) (c .if2 .left) (c .before .before .before .before .loop .inv .2))
 
 returns-3 : tie.Need-returns-3 Inv-loop μ-loop
-returns-3 c = went-on _ _ _ (filled-rest (tablesOf _) (bounded _) (c .before .before .before .before .before .before .pre .1) _ _ _ _ (c .before .before .before .before .before .before .pre .0 .1) (c .before .before .count .ensures) (c .before .loop .inv .0) (omega arith) (c .before .loop .inv .2))
+returns-3 c = went-on _ _ _ (filled-rest (tablesOf _) (bounded _) (c .before .before .before .before .before .before .pre .1) _ _ _ _ (c .before .before .before .before .before .before .pre .0 .1) (c .before .before .used .ensures) (c .before .loop .inv .0) (omega arith) (c .before .loop .inv .2))
 
 pub note-row-spec : {M : Type 1} → statement M
 note-row-spec =
@@ -75,7 +75,7 @@ note-row-spec =
     μ-loop
     kind-requires
     returns
-    count-requires
+    used-requires
     loop-holds
     place-requires
     cast-if2
