@@ -1,6 +1,6 @@
 // The disclosure list: the refusals that it may give, then the verdicts on the entities, then how many entries there are and, where the room
 // suffices for them, the walk that writes them.
-use levels::User;
+use tables::User;
 ghost use mathlib.Core.Path.{_≡_};
 ghost use Rattle.disclosure.specs.Contract.{Listing};
 ghost use Rattle.model.specs.List.Listing.{barred};

@@ -1,5 +1,5 @@
 // How many references go on from each entity, found without a walk: by no name, and from that by at most one, two and three.
-use levels::Entity;
+use tables::Entity;
 ghost use mathlib.Core.Path.{_≡_};
 ghost use Prim.Native.Nat.{_*_, _+_, _≤_};
 ghost use lib.ListN.{length};

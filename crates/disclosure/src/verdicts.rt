@@ -1,7 +1,7 @@
 // The verdict on each entity, found once however many references come by it: whether it may be shown, and how many of its places lead on.
-use levels::Entity;
 use levels::Level;
-use levels::User;
+use tables::Entity;
+use tables::User;
 ghost use mathlib.Core.Path.{_≡_};
 ghost use Prim.Native.Nat.{_*_, _+_, _≤_};
 ghost use Rattle.disclosure.specs.Verdicts.{Asker, Judged, verdict};

@@ -1,7 +1,7 @@
 // The walk: one function looks at an entity, the other goes through its places and hands each back to the first, as long as names are left.
 // The verdicts v say what is listed and how many places lead on, the tallies b from where nothing can be listed. The entries are stored one
 // behind the other, in a room that has space for them all.
-use levels::Entity;
+use tables::Entity;
 ghost use mathlib.Core.Path.{_≡_};
 ghost use Prim.Native.Nat.{_+_, _-_, _<_, _≤_};
 ghost use lib.ListN.{length, take};

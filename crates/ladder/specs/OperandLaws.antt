@@ -14,7 +14,7 @@ use Rattle.ladder.specs.Path.{arityOf, operandOf, pairOf, pathAnswer}
 use Rattle.ladder.specs.PathLaws.{path-0, path-7, path-8, path-9}
 use Rattle.ladder.specs.declared.operands.Operand.the-variants.{Fine, No}
 use Rattle.ladder.specs.declared.operands.Pair.the-variants.{Both, Neither}
-use Rattle.levels.specs.declared.Entity.{Entity}
+use Rattle.tables.specs.declared.Entity.{Entity}
 use Rattle.model.specs.Basics.TestLaws.{only}
 use Rattle.model.specs.Request.Allowed.{arity}
 use Rattle.model.specs.Request.Asked.{asked, basisOf, operand}

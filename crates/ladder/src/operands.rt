@@ -1,7 +1,7 @@
 // Rungs 7 to 9: where the references lead, whether the operands' triples permit the request, and whether the ways are open.
-use levels::Entity;
-use levels::User;
 use reference::Found;
+use tables::Entity;
+use tables::User;
 ghost use mathlib.Core.Path.{_≡_};
 ghost use Rattle.ladder.specs.Contract.{Climbed};
 ghost use Rattle.ladder.specs.Path.{arityOf, oneRead, twoRead};

@@ -1,5 +1,5 @@
 // What a refusal of 5 to 16 leaves: the requester's notice.
-use levels::User;
+use tables::User;
 ghost use mathlib.Core.Path.{_≡_};
 ghost use Rattle.ladder.specs.Contract.{Refusing, Stepped};
 ghost use Rattle.model.specs.Effect.Notice.{missedMore};

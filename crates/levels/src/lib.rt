@@ -1,24 +1,12 @@
-// Users, entities and levels as types of their own, and the order of levels.
+// Levels and their order, and sets of roles: each kind of set is compared over its own width.
+use names::weight;
 ghost use mathlib.Core.Path.{_≡_};
 ghost use Prim.Native.Nat.{_<_};
 ghost use Rattle.model.specs.Basics.Tests.{imp};
-ghost use Rattle.model.specs.Level.{atMost, bit, lower, roleCount, subset};
-
-// A user's number.
-pub struct User(pub u32);
-
-// An entity's number.
-pub struct Entity(pub u32);
+ghost use Rattle.model.specs.Level.{atMost, bit, compartmentCount, lower, roleCount, subset};
 
 // A level: a rank and a set of compartments in one number.
 pub struct Level(pub u32);
-
-// The roles that have a meaning of their own, by their bits.
-pub const OFFICER: u32 = 0;
-
-pub const DOWNGRADER: u32 = 1;
-
-pub const RELEASER: u32 = 2;
 
 // Whether bit i is in n.
 pub fn has_bit(i: u32, n: u32) -> bool
@@ -36,9 +24,9 @@ fn bit_kept(i: u32, a: u32, b: u32) -> bool
     !has_bit(i, a) | has_bit(i, b)
 }
 
-// Whether each of the first eight bits that is in a is in b: the comparison is made bit by bit.
-pub fn within(a: u32, b: u32) -> bool
-    ensures { λ r. ⌜ r ≡ subset roleCount a b ⌝ }
+// Whether each of the first eight bits that is in a is in b. The bits are compared one by one.
+fn eight_within(a: u32, b: u32) -> bool
+    ensures { λ r. ⌜ r ≡ subset 8 a b ⌝ }
 {
     bit_kept(7, a, b)
         & (bit_kept(6, a, b)
@@ -48,13 +36,27 @@ pub fn within(a: u32, b: u32) -> bool
                         & (bit_kept(2, a, b) & (bit_kept(1, a, b) & bit_kept(0, a, b)))))))
 }
 
+// Whether each role of a is in b.
+pub fn roles_within(a: u32, b: u32) -> bool
+    ensures { λ r. ⌜ r ≡ subset roleCount a b ⌝ }
+{
+    eight_within(a, b)
+}
+
+// Whether each compartment of level a is in level b.
+fn compartments_within(a: u32, b: u32) -> bool
+    ensures { λ r. ⌜ r ≡ subset compartmentCount a b ⌝ }
+{
+    eight_within(a, b)
+}
+
 // Whether a is at most b: no higher rank, and no compartment that b lacks.
 pub fn at_most(a: Level, b: Level) -> bool
     ensures { λ r. ⌜ r ≡ atMost (a .0) (b .0) ⌝ }
 {
     let x = a.0;
     let y = b.0;
-    (x / 256 <= y / 256) & within(x, y)
+    (x / weight::RANK <= y / weight::RANK) & compartments_within(x, y)
 }
 
 // Whether a is strictly lower than b: at most, and another level.

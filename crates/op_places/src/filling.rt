@@ -1,6 +1,6 @@
 // What the three operations store: places that are left or filled, and records that appear or go.
-use levels::Entity;
 use levels::Level;
+use tables::Entity;
 ghost use mathlib.Core.Path.{_≡_};
 ghost use Prim.Native.Nat.{_<_, ℕ};
 ghost use lib.ListN.{length};

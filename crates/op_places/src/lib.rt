@@ -1,7 +1,7 @@
 // The operations on what stands in containers: 1 create, 2 delete, 3 move.
-use levels::Entity;
 use levels::Level;
-use levels::User;
+use tables::Entity;
+use tables::User;
 
 mod filling;
 mod places;
@@ -38,7 +38,7 @@ pub fn delete(t: &mut [u32], q: &[u32], u: User, e: Entity) -> u32
         return ladder::refusal::refuse(t, q, u, 2, 10);
     }
     if !(tables::used(t, e) == 0)
-        | (places::on_screen(t, e) | (tables::type_of(t, e) == tables::RELEASED))
+        | (places::on_screen(t, e) | (tables::type_of(t, e) == names::types::RELEASED))
     {
         return ladder::refusal::refuse(t, q, u, 2, 15);
     }

@@ -1,5 +1,5 @@
 // What stands where: the container that it is in, the screens that show it, and what lies in what.
-use levels::Entity;
+use tables::Entity;
 ghost use mathlib.Core.Path.{_≡_};
 ghost use Prim.Native.Nat.{_≤_, suc};
 ghost use lib.ListN.{length};
@@ -31,7 +31,7 @@ pub fn holder(t: &[u32], e: Entity) -> Entity
 {
     let mut i: u32 = 0;
     while i < 64 {
-        if stands_in(t, tables::CONTAINER, Entity(i + 1), e) {
+        if stands_in(t, names::kind::CONTAINER, Entity(i + 1), e) {
             return Entity(i + 1);
         }
         i += 1;
@@ -46,7 +46,7 @@ pub fn on_screen(t: &[u32], e: Entity) -> bool
 {
     let mut i: u32 = 0;
     while i < 64 {
-        if stands_in(t, tables::DEVICE, Entity(i + 1), e) {
+        if stands_in(t, names::kind::DEVICE, Entity(i + 1), e) {
             return true;
         }
         i += 1;

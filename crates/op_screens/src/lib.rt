@@ -1,6 +1,6 @@
 // The operations on screens: 10 show, 11 clear, 12 login, 13 logout.
-use levels::Entity;
-use levels::User;
+use tables::Entity;
+use tables::User;
 ghost use mathlib.Core.Path.{_≡_};
 ghost use Prim.Native.Nat.{_<_};
 ghost use Rattle.ladder.specs.Contract.{First, Stepped, Taking};
@@ -55,7 +55,7 @@ pub fn show(t: &mut [u32], q: &[u32], u: User, e: Entity) -> u32
     if (n <= k) & (8 <= n) {
         return ladder::refusal::refuse(t, q, u, 10, 14);
     }
-    if !state::is_labelled(q[12]) {
+    if !tables::sums::is_labelled(q[12]) {
         return ladder::refusal::refuse(t, q, u, 10, 15);
     }
     put_on(t, v, e, q[12], k, n);
@@ -79,7 +79,7 @@ pub fn login(t: &mut [u32], q: &[u32], u: User, e: Entity) -> u32
     if !ladder::kinds::is_device(t, e) {
         return ladder::refusal::refuse(t, q, u, 12, 10);
     }
-    if !(tables::device(t, u).0 == 0) | !state::nobody_on(t, e, 16) {
+    if !(tables::device(t, u).0 == 0) | !tables::nobody_on(t, e, 16) {
         return ladder::refusal::refuse(t, q, u, 12, 15);
     }
     tables::set_device(t, u, e);

@@ -1,6 +1,6 @@
 // The operations on access triples: 8 grant and 9 revoke.
-use levels::Entity;
-use levels::User;
+use tables::Entity;
+use tables::User;
 ghost use mathlib.Core.Path.{_≡_};
 ghost use Rattle.ladder.specs.Contract.{First, Stepped, Taking};
 ghost use Rattle.model.specs.Request.Operations.{toGrant, toRevoke};

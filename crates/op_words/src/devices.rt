@@ -1,7 +1,7 @@
 // Operations on devices: maximum, device level.
-use levels::Entity;
 use levels::Level;
-use levels::User;
+use tables::Entity;
+use tables::User;
 ghost use Rattle.ladder.specs.Contract.{First, Stepped, Taking};
 ghost use Rattle.model.specs.Request.Operations.{toDeviceLevel, toMaximum};
 
@@ -13,7 +13,7 @@ pub fn maximum(t: &mut [u32], q: &[u32], u: User, e: Entity) -> u32
     if !ladder::kinds::is_device(t, e) {
         return ladder::refusal::refuse(t, q, u, 17, 10);
     }
-    if !ladder::kinds::has_role(t, u, levels::OFFICER) {
+    if !tables::has_role(t, u, names::role::OFFICER) {
         return ladder::refusal::refuse(t, q, u, 17, 12);
     }
     let a = Level(q[12]);
@@ -36,7 +36,7 @@ pub fn device_level(t: &mut [u32], q: &[u32], u: User, e: Entity) -> u32
     let a = Level(q[12]);
     let other = !(e.0 == tables::device(t, u).0);
     if levels::lower(a, tables::level(t, e))
-        & (other & !ladder::kinds::has_role(t, u, levels::DOWNGRADER))
+        & (other & !tables::has_role(t, u, names::role::DOWNGRADER))
     {
         return ladder::refusal::refuse(t, q, u, 18, 12);
     }

@@ -1,7 +1,7 @@
 // Operations on objects and containers: edit, copy, level, mark, release.
-use levels::Entity;
 use levels::Level;
-use levels::User;
+use tables::Entity;
+use tables::User;
 ghost use Rattle.ladder.specs.Contract.{First, Second, Stepped, Taking};
 ghost use Rattle.model.specs.Request.Operations.{toCopy, toEdit, toLevel, toMark, toRelease};
 
@@ -42,7 +42,7 @@ pub fn level(t: &mut [u32], q: &[u32], u: User, e: Entity) -> u32
         return ladder::refusal::refuse(t, q, u, 6, 10);
     }
     let a = Level(q[12]);
-    if levels::lower(a, tables::level(t, e)) & !ladder::kinds::has_role(t, u, levels::DOWNGRADER) {
+    if levels::lower(a, tables::level(t, e)) & !tables::has_role(t, u, names::role::DOWNGRADER) {
         return ladder::refusal::refuse(t, q, u, 6, 12);
     }
     if !crate::trial::try_level(t, e, a) {
@@ -71,10 +71,10 @@ pub fn release(t: &mut [u32], q: &[u32], u: User, e: Entity) -> u32
     if !ladder::kinds::is_draft(t, e) {
         return ladder::refusal::refuse(t, q, u, 19, 10);
     }
-    if !ladder::kinds::has_role(t, u, levels::RELEASER) {
+    if !tables::has_role(t, u, names::role::RELEASER) {
         return ladder::refusal::refuse(t, q, u, 19, 12);
     }
     tables::set_releaser(t, e, u);
-    tables::set_type(t, e, tables::RELEASED);
+    tables::set_type(t, e, names::types::RELEASED);
     0
 }

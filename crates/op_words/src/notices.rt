@@ -1,5 +1,5 @@
 // Operation 20: the requester's notice is read.
-use levels::User;
+use tables::User;
 ghost use Rattle.ladder.specs.Contract.{Stepped, Taking};
 ghost use Rattle.model.specs.Request.Operations.{toAcknowledge};
 

@@ -1,8 +1,8 @@
 // A level or a clearance is set only where the tables stay secure. A level of an object or container is set, all tables are checked, and it is
 // put back where they are not; what a clearance or a level of a device can break is asked before it is set.
-use levels::Entity;
 use levels::Level;
-use levels::User;
+use tables::Entity;
+use tables::User;
 ghost use mathlib.Core.Path.{_≡_};
 ghost use Prim.Native.Nat.{_<_};
 ghost use Rattle.model.specs.Basics.Tests.{every};

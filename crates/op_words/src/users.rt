@@ -1,6 +1,6 @@
 // Operations on users: current roles, clearance, authorised roles.
 use levels::Level;
-use levels::User;
+use tables::User;
 ghost use Rattle.ladder.specs.Contract.{Stepped, Taking};
 ghost use Rattle.model.specs.Request.Operations.{toAuthorised, toClearance, toCurrent};
 
@@ -15,10 +15,10 @@ pub fn current_roles(t: &mut [u32], q: &[u32], u: User) -> u32
     if (tables::present(t, a) == 0) | ((tables::device(t, a).0 == 0) & !(b == 0)) {
         return ladder::refusal::refuse(t, q, u, 14, 11);
     }
-    if !(q[12] == u.0) & !ladder::kinds::has_role(t, u, levels::OFFICER) {
+    if !(q[12] == u.0) & !tables::has_role(t, u, names::role::OFFICER) {
         return ladder::refusal::refuse(t, q, u, 14, 12);
     }
-    if !levels::within(b, tables::authorised(t, a)) {
+    if !levels::roles_within(b, tables::authorised(t, a)) {
         return ladder::refusal::refuse(t, q, u, 14, 13);
     }
     tables::set_current(t, a, b);
@@ -34,7 +34,7 @@ pub fn clearance(t: &mut [u32], q: &[u32], u: User) -> u32
     if tables::present(t, a) == 0 {
         return ladder::refusal::refuse(t, q, u, 15, 11);
     }
-    if !ladder::kinds::has_role(t, u, levels::OFFICER) {
+    if !tables::has_role(t, u, names::role::OFFICER) {
         return ladder::refusal::refuse(t, q, u, 15, 12);
     }
     if !crate::trial::try_clearance(t, a, Level(q[13])) {
@@ -52,10 +52,10 @@ pub fn authorised_roles(t: &mut [u32], q: &[u32], u: User) -> u32
     if tables::present(t, a) == 0 {
         return ladder::refusal::refuse(t, q, u, 16, 11);
     }
-    if !ladder::kinds::has_role(t, u, levels::OFFICER) {
+    if !tables::has_role(t, u, names::role::OFFICER) {
         return ladder::refusal::refuse(t, q, u, 16, 12);
     }
-    if !levels::within(tables::current(t, a), q[13]) {
+    if !levels::roles_within(tables::current(t, a), q[13]) {
         return ladder::refusal::refuse(t, q, u, 16, 13);
     }
     tables::set_authorised(t, a, q[13]);

@@ -9,7 +9,7 @@ use lib.Dec.{eqb, eqb·suc-zero}
 use lib.ListN.{drop, getD, length, take}
 use lib.Seq.{take-all}
 use Rattle.laws.specs.Bools.{fails}
-use Rattle.levels.specs.declared.Entity.{Entity}
+use Rattle.tables.specs.declared.Entity.{Entity}
 use Rattle.model.specs.Basics.Choice.{pick}
 use Rattle.model.specs.Basics.TestLaws.{holds-true}
 use Rattle.model.specs.Level.{atMost}

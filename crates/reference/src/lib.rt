@@ -1,7 +1,7 @@
 // Where a reference leads, whether the way there is open, and whether an entity's triples permit a request.
-use levels::Entity;
 use levels::Level;
-use levels::User;
+use tables::Entity;
+use tables::User;
 ghost use mathlib.Core.Path.{_≡_};
 ghost use mathlib.Core.Bool.{not};
 ghost use Prim.Native.Nat.{_*_, _+_, _<_, _≤_};

@@ -1,9 +1,9 @@
 -- What the writer of a request's text cites beyond the model,
 pub mod Sixteen
+pub mod SixteenLaws
 pub mod NameLaws
 pub mod TextLaws
 pub mod NeedLaws
-pub mod FitLaws
 pub mod EndLaws
 -- and what its readers ask and promise.
 pub mod NamesAt

@@ -1,5 +1,5 @@
 // What is done to a row of eight words of an entity: a word is sought in it, and a word is taken out of it.
-use levels::Entity;
+use tables::Entity;
 ghost use mathlib.Core.Path.{_≡_};
 ghost use Prim.Native.Nat.{_<_, _≤_};
 ghost use lib.Dec.{ltb};

@@ -1,5 +1,5 @@
 // What is told of a request: its answer, and what its requester holds afterwards (rule 12.3).
-use levels::User;
+use tables::User;
 ghost use mathlib.Core.Path.{_≡_};
 ghost use Prim.Native.Nat.{_+_, _≤_};
 ghost use lib.ListN.{length};

@@ -1,5 +1,5 @@
 // The entities' records, each by itself, what stands in their places, and screens that nobody is on.
-use levels::Entity;
+use tables::Entity;
 ghost use mathlib.Core.Path.{_≡_};
 ghost use mathlib.Core.Bool.{not, true};
 ghost use Prim.Native.Nat.{_+_, _<_, _≤_, suc};
@@ -70,8 +70,8 @@ fn place_fine(t: &[u32], e: Entity, s: bool, n: u32, i: u32) -> bool
         return (x == 0) & (v == 0);
     }
     let k = tables::kind_or_zero(t, c);
-    (tables::OBJECT <= k)
-        & ((k <= tables::CONTAINER) & ((!s | ((1 <= v) & (v <= 7))) & (s | (v == 0))))
+    (names::kind::OBJECT <= k)
+        & ((k <= names::kind::CONTAINER) & ((!s | ((1 <= v) & (v <= 7))) & (s | (v == 0))))
 }
 
 // Whether every place of entity e is in order by itself.
@@ -221,7 +221,7 @@ fn present_fine(t: &[u32], e: Entity, k: u32) -> bool
     if !used_fine(k, n) {
         return false;
     }
-    if !places_fine(t, e, k == tables::DEVICE, n) {
+    if !places_fine(t, e, k == names::kind::DEVICE, n) {
         return false;
     }
     if !places_new(t, e, n) {
@@ -230,10 +230,10 @@ fn present_fine(t: &[u32], e: Entity, k: u32) -> bool
     if !triples_fine(t, e) {
         return false;
     }
-    if (k != tables::DEVICE) | (n == 0) {
+    if (k != names::kind::DEVICE) | (n == 0) {
         return true;
     }
-    !crate::users::nobody_on(t, e, 16)
+    !tables::nobody_on(t, e, 16)
 }
 
 // Whether entity e is in order: its record by itself, what stands in its places, and its screen.

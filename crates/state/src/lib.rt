@@ -9,9 +9,6 @@ mod secure;
 mod tree;
 mod users;
 
-pub use secure::is_labelled;
-pub use users::nobody_on;
-
 // Whether the tables are well-formed: each record by itself, then what joins them.
 pub fn well_formed(t: &[u32]) -> bool
     requires { ⌜ length (now t) ≡ wordCount ⌝ }

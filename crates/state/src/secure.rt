@@ -1,7 +1,7 @@
 // Definition 2, of any tables: in one pass over the entities and one over the users.
-use levels::Entity;
 use levels::Level;
-use levels::User;
+use tables::Entity;
+use tables::User;
 ghost use mathlib.Core.Bool.{true};
 ghost use mathlib.Core.Path.{_≡_};
 ghost use Prim.Native.Nat.{_+_, _<_, _≤_, suc};
@@ -9,18 +9,10 @@ ghost use lib.Dec.{eqb};
 ghost use lib.ListN.{length};
 ghost use Rattle.model.specs.Basics.Tests.{every};
 ghost use Rattle.model.specs.Level.{atMost};
-ghost use Rattle.model.specs.State.Secure.{labelled};
 ghost use Rattle.model.specs.Tables.Layout.{tablesOf, wordCount};
 ghost use Rattle.model.specs.Tables.Words.{deviceKind, entityCount, kinds, level, placeCount, places, userCount};
 ghost use Rattle.state.specs.Passes.{allSecure, capped, entitySecure, placeSecure, userSecure};
 ghost use Rattle.tables.specs.Singles.{EntityIn, UserIn};
-
-// Whether the value is shown only where the label is.
-pub fn is_labelled(s: u32) -> bool
-    ensures { λ r. ⌜ r ≡ labelled s ⌝ }
-{
-    !levels::has_bit(0, s) | levels::has_bit(1, s)
-}
 
 // Whether place i of entity e, of level l and a device or not, keeps rules 4.1 and 4.3.
 fn place_secure(t: &[u32], e: Entity, l: Level, s: bool, i: u32) -> bool
@@ -28,7 +20,7 @@ fn place_secure(t: &[u32], e: Entity, l: Level, s: bool, i: u32) -> bool
     ensures { λ r. ⌜ r ≡ placeSecure (tablesOf (now (t .entry))) (e .0) i ⌝ }
 {
     levels::at_most(tables::level_or_zero(t, tables::place(t, e, i)), l)
-        & (!s | is_labelled(tables::shown(t, e, i)))
+        & (!s | tables::sums::is_labelled(tables::shown(t, e, i)))
 }
 
 // Whether the first n places of entity e keep rules 4.1 and 4.3.
@@ -63,7 +55,7 @@ fn entity_secure(t: &[u32], e: Entity) -> bool
 {
     let n = at_most_eight(tables::used(t, e));
     let l = tables::level(t, e);
-    let s = tables::kind(t, e) == tables::DEVICE;
+    let s = tables::kind(t, e) == names::kind::DEVICE;
     if !places_secure(t, e, l, s, n) {
         return false;
     }
@@ -117,7 +109,7 @@ fn user_secure(t: &[u32], u: User) -> bool
     requires { ⌜ UserIn (now t) (u .0) × (allSecure (tablesOf (now t)) ≡ true) ⌝ }
     ensures { λ r. ⌜ r ≡ userSecure (tablesOf (now (t .entry))) (u .0) ⌝ }
 {
-    if !levels::within(tables::current(t, u), tables::authorised(t, u)) {
+    if !levels::roles_within(tables::current(t, u), tables::authorised(t, u)) {
         return false;
     }
     let v = tables::device(t, u);

@@ -1,6 +1,6 @@
 // Containers in containers: no entity stands in two, and none lies in itself. One pass notes for each entity what it stands in;
 // climbing that list, from all entities at once, decides depth.
-use levels::Entity;
+use tables::Entity;
 ghost use mathlib.Core.Path.{_≡_};
 ghost use mathlib.Core.Bool.{true};
 ghost use Prim.Native.Nat.{_*_, _-_, suc};
@@ -19,7 +19,7 @@ fn note_row(t: &[u32], h: &mut [u32; 65], c: Entity) -> bool
     requires { ⌜ EntityIn (now t) (c .0) × (allOwn (tablesOf (now t)) ≡ true) × Filled (tablesOf (now t)) ((c .0 - 1) * 8) (now h) ⌝ }
     ensures { λ r. ⌜ Filling (tablesOf (now (t .entry))) (c .0 * 8) r (now (h .exit)) ⌝ }
 {
-    if tables::kind(t, c) != tables::CONTAINER {
+    if tables::kind(t, c) != names::kind::CONTAINER {
         return true;
     }
     let n = tables::used(t, c);

@@ -1,6 +1,6 @@
 // The users' records, each by itself, and who is on which device.
-use levels::Entity;
-use levels::User;
+use tables::Entity;
+use tables::User;
 ghost use mathlib.Core.Path.{_≡_};
 ghost use mathlib.Core.Bool.{not};
 ghost use Prim.Native.Nat.{_+_, _<_, _≤_, suc};
@@ -110,29 +110,6 @@ pub fn users_fine(t: &[u32]) -> bool
     true
 }
 
-// Whether user u is not on device e.
-fn not_on(t: &[u32], e: Entity, u: User) -> bool
-    requires { ⌜ UserIn (now t) (u .0) ⌝ }
-    ensures { λ r. ⌜ r ≡ not (eqb (devices (tablesOf (now (t .entry))) (u .0)) (e .0)) ⌝ }
-{
-    !(tables::device(t, u).0 == e.0)
-}
-
-// Whether none of the first n users is on device e.
-pub fn nobody_on(t: &[u32], e: Entity, n: u32) -> bool
-    requires { ⌜ (length (now t) ≡ wordCount) × (n ≤ userCount) ⌝ }
-    ensures { λ r. ⌜ r ≡ every n (λ u. not (eqb (devices (tablesOf (now (t .entry))) (suc u)) (e .0))) ⌝ }
-{
-    let mut i: u32 = 0;
-    while i < n {
-        if !not_on(t, e, User(i + 1)) {
-            return false;
-        }
-        i += 1;
-    }
-    true
-}
-
 // Whether user u is off, or on a device on which no user of a lower number is.
 fn device_fine(t: &[u32], u: User) -> bool
     requires { ⌜ UserIn (now t) (u .0) ⌝ }
@@ -143,10 +120,10 @@ fn device_fine(t: &[u32], u: User) -> bool
     if n == 0 {
         return true;
     }
-    if tables::kind_or_zero(t, d) != tables::DEVICE {
+    if tables::kind_or_zero(t, d) != names::kind::DEVICE {
         return false;
     }
-    nobody_on(t, d, u.0 - 1)
+    tables::nobody_on(t, d, u.0 - 1)
 }
 
 // Whether all who are on are on devices of their own.

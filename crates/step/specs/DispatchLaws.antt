@@ -15,7 +15,7 @@ use Rattle.ladder.specs.PathLaws.{path-hit, path-pass}
 use Rattle.ladder.specs.ShapeLaws.{named-as}
 use Rattle.ladder.specs.declared.operands.Operand.the-variants.{Fine, No}
 use Rattle.ladder.specs.declared.operands.Pair.the-variants.{Both, Neither}
-use Rattle.levels.specs.declared.Entity.{Entity}
+use Rattle.tables.specs.declared.Entity.{Entity}
 use Rattle.model.specs.Basics.TestLaws.{is-false}
 use Rattle.model.specs.Request.Allowed.{arity}
 use Rattle.model.specs.Request.Asked.{asked, basisOf, operand}

@@ -2,8 +2,8 @@
 // run of many requests need check its tables once only.
 use ladder::operands::Operand;
 use ladder::operands::Pair;
-use levels::Entity;
-use levels::User;
+use tables::Entity;
+use tables::User;
 ghost use mathlib.Core.Path.{_≡_};
 ghost use Rattle.ladder.specs.Contract.{Climbed, First, Ready, Second, Stepped};
 ghost use Rattle.ladder.specs.Path.{arityOf};

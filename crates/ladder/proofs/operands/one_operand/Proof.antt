@@ -12,7 +12,7 @@ use Rattle.ladder.proofs.operands.one_operand.Reads as reads
 use Rattle.ladder.proofs.operands.one_operand.Lts as lts
 use Rattle.reference.proofs.is_permitted.Reads as is-permitted-reads
 use Rattle.reference.proofs.resolve.Reads as resolve-reads
-use Rattle.tables.proofs.clearance.Reads as clearance-reads
+use Rattle.tables.proofs.users.clearance.Reads as clearance-reads
 
 shared-slice-read-end : tie.Need-shared-slice-read-end
 shared-slice-read-end c = search needs

@@ -12,7 +12,7 @@ use Rattle.ladder.proofs.operands.two_operands.Reads as reads
 use Rattle.ladder.proofs.operands.two_operands.Lts as lts
 use Rattle.reference.proofs.is_permitted.Reads as is-permitted-reads
 use Rattle.reference.proofs.resolve.Reads as resolve-reads
-use Rattle.tables.proofs.clearance.Reads as clearance-reads
+use Rattle.tables.proofs.users.clearance.Reads as clearance-reads
 
 clearance-requires : tie.Need-clearance-requires
 clearance-requires c κs = search needs

@@ -9,12 +9,12 @@ use Rattle.op_words.proofs.users.authorised_roles.Statement.{statement}
 use Rattle.op_words.proofs.users.authorised_roles.Tie as tie
 use Rattle.op_words.proofs.users.authorised_roles.Reads as reads
 use Rattle.op_words.proofs.users.authorised_roles.Lts as lts
-use Rattle.ladder.proofs.kinds.has_role.Reads as has-role-reads
+use Rattle.tables.proofs.users.has_role.Reads as has-role-reads
 use Rattle.ladder.proofs.refusal.refuse.Reads as refuse-reads
-use Rattle.levels.proofs.within.Reads as within-reads
-use Rattle.tables.proofs.current.Reads as current-reads
-use Rattle.tables.proofs.present.Reads as present-reads
-use Rattle.tables.proofs.set_authorised.Reads as set-authorised-reads
+use Rattle.levels.proofs.roles_within.Reads as roles-within-reads
+use Rattle.tables.proofs.users.current.Reads as current-reads
+use Rattle.tables.proofs.users.present.Reads as present-reads
+use Rattle.tables.proofs.users.set_authorised.Reads as set-authorised-reads
 
 shared-slice-read-if1 : tie.Need-shared-slice-read-if1
 shared-slice-read-if1 c = search needs
@@ -49,11 +49,11 @@ current-requires c κs = let z = arguments-in toAuthorised _ _ _ (c .before .bef
 shared-slice-read-within : tie.Need-shared-slice-read-within
 shared-slice-read-within c = search needs
 
-within-requires : tie.Need-within-requires
-within-requires c κs = search needs
+roles-within-requires : tie.Need-roles-within-requires
+roles-within-requires c κs = search needs
 
 refuse-requires-3 : tie.Need-refuse-requires-3
-refuse-requires-3 c κs = authorised-13 _ _ _ (c .before .before .before .before .before .before .before .before .before .before .before .before .before .before .before .pre) _ _ refl (c .before .before .before .before .before .before .before .before .before .before .present .ensures) (ne-eqb _ _ (c .before .before .before .before .before .before .before .before .before .if1 .left)) _ (c .before .before .before .before .before .before .before .has-role .ensures) (not-false _ (c .before .before .before .before .before .before .if2 .left)) _ refl _ (c .before .before .within .ensures ∙ rw (c .before .before .before .before .current .ensures)) (not-true _ (c .before .if3 .taken))
+refuse-requires-3 c κs = authorised-13 _ _ _ (c .before .before .before .before .before .before .before .before .before .before .before .before .before .before .before .pre) _ _ refl (c .before .before .before .before .before .before .before .before .before .before .present .ensures) (ne-eqb _ _ (c .before .before .before .before .before .before .before .before .before .if1 .left)) _ (c .before .before .before .before .before .before .before .has-role .ensures) (not-false _ (c .before .before .before .before .before .before .if2 .left)) _ refl _ (c .before .before .roles-within .ensures ∙ rw (c .before .before .before .before .current .ensures)) (not-true _ (c .before .if3 .taken))
 
 same-length-3 : tie.Need-same-length-3
 same-length-3 c = search needs
@@ -71,7 +71,7 @@ same-length-4 : tie.Need-same-length-4
 same-length-4 c = search needs
 
 returns-4 : tie.Need-returns-4
-returns-4 c = authorised-done _ _ _ (c .before .before .before .before .before .before .before .before .before .before .before .before .before .before .before .before .before .before .before .pre) _ _ refl (c .before .before .before .before .before .before .before .before .before .before .before .before .before .before .present .ensures) (ne-eqb _ _ (c .before .before .before .before .before .before .before .before .before .before .before .before .before .if1 .left)) _ (c .before .before .before .before .before .before .before .before .before .before .before .has-role .ensures) (not-false _ (c .before .before .before .before .before .before .before .before .before .before .if2 .left)) _ refl _ (c .before .before .before .before .before .before .within .ensures ∙ rw (c .before .before .before .before .before .before .before .before .current .ensures)) (not-false _ (c .before .before .before .before .before .if3 .left)) _ (c .before .before .set-authorised .ensures)
+returns-4 c = authorised-done _ _ _ (c .before .before .before .before .before .before .before .before .before .before .before .before .before .before .before .before .before .before .before .pre) _ _ refl (c .before .before .before .before .before .before .before .before .before .before .before .before .before .before .present .ensures) (ne-eqb _ _ (c .before .before .before .before .before .before .before .before .before .before .before .before .before .if1 .left)) _ (c .before .before .before .before .before .before .before .before .before .before .before .has-role .ensures) (not-false _ (c .before .before .before .before .before .before .before .before .before .before .if2 .left)) _ refl _ (c .before .before .before .before .before .before .roles-within .ensures ∙ rw (c .before .before .before .before .before .before .before .before .current .ensures)) (not-false _ (c .before .before .before .before .before .if3 .left)) _ (c .before .before .set-authorised .ensures)
 
 pub authorised-roles-spec : {M : Type 1} → statement M
 authorised-roles-spec =
@@ -88,7 +88,7 @@ authorised-roles-spec =
     returns-2
     current-requires
     shared-slice-read-within
-    within-requires
+    roles-within-requires
     refuse-requires-3
     same-length-3
     returns-3

@@ -8,13 +8,13 @@ use Rattle.op_words.proofs.users.current_roles.Statement.{statement}
 use Rattle.op_words.proofs.users.current_roles.Tie as tie
 use Rattle.op_words.proofs.users.current_roles.Reads as reads
 use Rattle.op_words.proofs.users.current_roles.Lts as lts
-use Rattle.ladder.proofs.kinds.has_role.Reads as has-role-reads
+use Rattle.tables.proofs.users.has_role.Reads as has-role-reads
 use Rattle.ladder.proofs.refusal.refuse.Reads as refuse-reads
-use Rattle.levels.proofs.within.Reads as within-reads
-use Rattle.tables.proofs.authorised.Reads as authorised-reads
-use Rattle.tables.proofs.device.Reads as device-reads
-use Rattle.tables.proofs.present.Reads as present-reads
-use Rattle.tables.proofs.set_current.Reads as set-current-reads
+use Rattle.levels.proofs.roles_within.Reads as roles-within-reads
+use Rattle.tables.proofs.users.authorised.Reads as authorised-reads
+use Rattle.tables.proofs.users.device.Reads as device-reads
+use Rattle.tables.proofs.users.present.Reads as present-reads
+use Rattle.tables.proofs.users.set_current.Reads as set-current-reads
 
 shared-slice-read-b : tie.Need-shared-slice-read-b
 shared-slice-read-b c = search needs
@@ -55,11 +55,11 @@ returns-2 c = search needs
 authorised-requires : tie.Need-authorised-requires
 authorised-requires c κs = let z = arguments-in toCurrent _ _ _ (c .before .before .before .before .before .before .before .before .before .before .before .before .before .before .before .before .pre) in (c .before .before .before .before .before .before .before .before .before .before .before .before .before .before .before .before .pre .climbed .ready .whole, z .0 .0, z .0 .1)
 
-within-requires : tie.Need-within-requires
-within-requires c κs = search needs
+roles-within-requires : tie.Need-roles-within-requires
+roles-within-requires c κs = search needs
 
 refuse-requires-3 : tie.Need-refuse-requires-3
-refuse-requires-3 c κs = current-13 _ _ _ (c .before .before .before .before .before .before .before .before .before .before .before .before .before .before .before .before .before .before .before .before .pre) _ _ _ _ refl refl (c .before .before .before .before .before .before .before .before .before .before .before .before .before .before .present .ensures) (c .before .before .before .before .before .before .before .before .before .before .before .before .device .ensures) (c .before .before .before .before .before .before .before .before .before .before .if1 .left) _ (c .before .before .before .before .before .before .has-role .ensures) (c .before .before .before .before .before .if2 .left) _ (c .before .before .within .ensures ∙ rw (c .before .before .before .authorised .ensures)) (not-true _ (c .before .if3 .taken))
+refuse-requires-3 c κs = current-13 _ _ _ (c .before .before .before .before .before .before .before .before .before .before .before .before .before .before .before .before .before .before .before .before .pre) _ _ _ _ refl refl (c .before .before .before .before .before .before .before .before .before .before .before .before .before .before .present .ensures) (c .before .before .before .before .before .before .before .before .before .before .before .before .device .ensures) (c .before .before .before .before .before .before .before .before .before .before .if1 .left) _ (c .before .before .before .before .before .before .has-role .ensures) (c .before .before .before .before .before .if2 .left) _ (c .before .before .roles-within .ensures ∙ rw (c .before .before .before .authorised .ensures)) (not-true _ (c .before .if3 .taken))
 
 same-length-3 : tie.Need-same-length-3
 same-length-3 c = search needs
@@ -74,7 +74,7 @@ same-length-4 : tie.Need-same-length-4
 same-length-4 c = search needs
 
 returns-4 : tie.Need-returns-4
-returns-4 c = current-done _ _ _ (c .before .before .before .before .before .before .before .before .before .before .before .before .before .before .before .before .before .before .before .before .before .before .before .pre) _ _ _ _ refl refl (c .before .before .before .before .before .before .before .before .before .before .before .before .before .before .before .before .before .present .ensures) (c .before .before .before .before .before .before .before .before .before .before .before .before .before .before .before .device .ensures) (c .before .before .before .before .before .before .before .before .before .before .before .before .before .if1 .left) _ (c .before .before .before .before .before .before .before .before .before .has-role .ensures) (c .before .before .before .before .before .before .before .before .if2 .left) _ (c .before .before .before .before .before .within .ensures ∙ rw (c .before .before .before .before .before .before .authorised .ensures)) (not-false _ (c .before .before .before .before .if3 .left)) _ (c .before .before .set-current .ensures)
+returns-4 c = current-done _ _ _ (c .before .before .before .before .before .before .before .before .before .before .before .before .before .before .before .before .before .before .before .before .before .before .before .pre) _ _ _ _ refl refl (c .before .before .before .before .before .before .before .before .before .before .before .before .before .before .before .before .before .present .ensures) (c .before .before .before .before .before .before .before .before .before .before .before .before .before .before .before .device .ensures) (c .before .before .before .before .before .before .before .before .before .before .before .before .before .if1 .left) _ (c .before .before .before .before .before .before .before .before .before .has-role .ensures) (c .before .before .before .before .before .before .before .before .if2 .left) _ (c .before .before .before .before .before .roles-within .ensures ∙ rw (c .before .before .before .before .before .before .authorised .ensures)) (not-false _ (c .before .before .before .before .if3 .left)) _ (c .before .before .set-current .ensures)
 
 pub current-roles-spec : {M : Type 1} → statement M
 current-roles-spec =
@@ -93,7 +93,7 @@ current-roles-spec =
     same-length-2
     returns-2
     authorised-requires
-    within-requires
+    roles-within-requires
     refuse-requires-3
     same-length-3
     returns-3

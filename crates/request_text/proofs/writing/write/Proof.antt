@@ -9,7 +9,7 @@ use Rattle.model.specs.Basics.Cases.{cases}
 use Rattle.model.specs.Request.Words.{requestOf}
 use Rattle.model.specs.Text.Writing.{hasText, textOfWords}
 use Rattle.request_text.specs.EndLaws.{end-short, end-size, end-textless, end-written}
-use Rattle.request_text.specs.FitLaws.{has-sixteen}
+use Rattle.request_text.specs.SixteenLaws.{has-sixteen}
 use Rattle.request_text.specs.NeedLaws.{need-most}
 use Rattle.request_text.specs.Sixteen.{Sixteen}
 use Rattle.request_text.proofs.writing.write.Statement.{statement}

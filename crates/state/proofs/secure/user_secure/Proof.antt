@@ -8,15 +8,15 @@ use Rattle.state.proofs.secure.user_secure.Tie as tie
 use Rattle.state.proofs.secure.user_secure.Reads as reads
 use Rattle.state.proofs.secure.user_secure.Lts as lts
 use Rattle.levels.proofs.at_most.Reads as at-most-reads
-use Rattle.levels.proofs.within.Reads as within-reads
+use Rattle.levels.proofs.roles_within.Reads as roles-within-reads
 use Rattle.state.proofs.secure.at_most_eight.Reads as at-most-eight-reads
 use Rattle.state.proofs.secure.places_below.Reads as places-below-reads
-use Rattle.tables.proofs.authorised.Reads as authorised-reads
-use Rattle.tables.proofs.clearance.Reads as clearance-reads
-use Rattle.tables.proofs.used.Reads as used-reads
-use Rattle.tables.proofs.current.Reads as current-reads
-use Rattle.tables.proofs.device.Reads as device-reads
-use Rattle.tables.proofs.level.Reads as level-reads
+use Rattle.tables.proofs.users.authorised.Reads as authorised-reads
+use Rattle.tables.proofs.users.clearance.Reads as clearance-reads
+use Rattle.tables.proofs.entities.used.Reads as used-reads
+use Rattle.tables.proofs.users.current.Reads as current-reads
+use Rattle.tables.proofs.users.device.Reads as device-reads
+use Rattle.tables.proofs.entities.level.Reads as level-reads
 
 current-requires : tie.Need-current-requires
 current-requires c κs = search needs
@@ -24,20 +24,20 @@ current-requires c κs = search needs
 authorised-requires : tie.Need-authorised-requires
 authorised-requires c κs = search needs
 
-within-requires : tie.Need-within-requires
-within-requires c κs = search needs
+roles-within-requires : tie.Need-roles-within-requires
+roles-within-requires c κs = search needs
 
 returns : tie.Need-returns
-returns c = user-fails _ _ _ _ _ (c .before .before .before .current .ensures) (c .before .before .authorised .ensures) (c .before .within .ensures) (not-true _ (c .if1 .taken))
+returns c = user-fails _ _ _ _ _ (c .before .before .before .current .ensures) (c .before .before .authorised .ensures) (c .before .roles-within .ensures) (not-true _ (c .if1 .taken))
 
 device-requires : tie.Need-device-requires
 device-requires c κs = search needs
 
 returns-2 : tie.Need-returns-2
-returns-2 c = user-off _ _ _ _ _ (c .before .before .before .before .before .current .ensures) (c .before .before .before .before .authorised .ensures) (c .before .before .before .within .ensures) (not-false _ (c .before .before .if1 .left)) _ (c .before .device .ensures) (c .if2 .taken)
+returns-2 c = user-off _ _ _ _ _ (c .before .before .before .before .before .current .ensures) (c .before .before .before .before .authorised .ensures) (c .before .before .before .roles-within .ensures) (not-false _ (c .before .before .if1 .left)) _ (c .before .device .ensures) (c .if2 .taken)
 
 returns-3 : tie.Need-returns-3
-returns-3 c = user-beyond _ _ _ _ _ (c .before .before .before .before .before .before .current .ensures) (c .before .before .before .before .before .authorised .ensures) (c .before .before .before .before .within .ensures) (not-false _ (c .before .before .before .if1 .left)) _ (c .before .before .device .ensures) (bounded _) (c .if3 .taken)
+returns-3 c = user-beyond _ _ _ _ _ (c .before .before .before .before .before .before .current .ensures) (c .before .before .before .before .before .authorised .ensures) (c .before .before .before .before .roles-within .ensures) (not-false _ (c .before .before .before .if1 .left)) _ (c .before .before .device .ensures) (bounded _) (c .if3 .taken)
 
 clearance-requires : tie.Need-clearance-requires
 clearance-requires c κs = search needs
@@ -49,7 +49,7 @@ at-most-requires : tie.Need-at-most-requires
 at-most-requires c κs = search needs
 
 returns-4 : tie.Need-returns-4
-returns-4 c = user-below _ _ _ _ _ (c .before .before .before .before .before .before .before .before .before .before .current .ensures) (c .before .before .before .before .before .before .before .before .before .authorised .ensures) (c .before .before .before .before .before .before .before .before .within .ensures) (not-false _ (c .before .before .before .before .before .before .before .if1 .left)) _ (c .before .before .before .before .before .before .device .ensures) (omega arith) (omega arith) (c .before .before .before .before .before .before .before .before .before .before .before .before .pre .1) _ _ _ (c .before .before .level .ensures) (c .before .before .before .clearance .ensures) (c .before .at-most .ensures) (c .if4 .taken)
+returns-4 c = user-below _ _ _ _ _ (c .before .before .before .before .before .before .before .before .before .before .current .ensures) (c .before .before .before .before .before .before .before .before .before .authorised .ensures) (c .before .before .before .before .before .before .before .before .roles-within .ensures) (not-false _ (c .before .before .before .before .before .before .before .if1 .left)) _ (c .before .before .before .before .before .before .device .ensures) (omega arith) (omega arith) (c .before .before .before .before .before .before .before .before .before .before .before .before .pre .1) _ _ _ (c .before .before .level .ensures) (c .before .before .before .clearance .ensures) (c .before .at-most .ensures) (c .if4 .taken)
 
 used-requires : tie.Need-used-requires
 used-requires c κs = search needs
@@ -61,7 +61,7 @@ places-below-requires : tie.Need-places-below-requires
 places-below-requires c κs = ((c .before .before .before .before .before .before .before .before .before .before .before .before .before .before .pre .0 .0, omega arith, omega arith), omega (arith, capped-low (c .before .used .result), c .at-most-eight .ensures))
 
 returns-5 : tie.Need-returns-5
-returns-5 c = user-on _ _ _ _ _ (c .before .before .before .before .before .before .before .before .before .before .before .before .before .current .ensures) (c .before .before .before .before .before .before .before .before .before .before .before .before .authorised .ensures) (c .before .before .before .before .before .before .before .before .before .before .before .within .ensures) (not-false _ (c .before .before .before .before .before .before .before .before .before .before .if1 .left)) _ (c .before .before .before .before .before .before .before .before .before .device .ensures) (omega arith) _ _ _ _ (c .before .before .before .before .before .before .clearance .ensures) (c .before .before .used .ensures) (c .before .at-most-eight .ensures) (c .places-below .ensures)
+returns-5 c = user-on _ _ _ _ _ (c .before .before .before .before .before .before .before .before .before .before .before .before .before .current .ensures) (c .before .before .before .before .before .before .before .before .before .before .before .before .authorised .ensures) (c .before .before .before .before .before .before .before .before .before .before .before .roles-within .ensures) (not-false _ (c .before .before .before .before .before .before .before .before .before .before .if1 .left)) _ (c .before .before .before .before .before .before .before .before .before .device .ensures) (omega arith) _ _ _ _ (c .before .before .before .before .before .before .clearance .ensures) (c .before .before .used .ensures) (c .before .at-most-eight .ensures) (c .places-below .ensures)
 
 pub user-secure-spec : {M : Type 1} → statement M
 user-secure-spec =
@@ -69,7 +69,7 @@ user-secure-spec =
     (tie.spec
     current-requires
     authorised-requires
-    within-requires
+    roles-within-requires
     returns
     device-requires
     returns-2

@@ -1,0 +1,2 @@
+-- What the names are tied to, as lists.
+pub mod Listed
