@@ -4,9 +4,9 @@ pub mod Shape
 pub mod Path
 pub mod ClimbLaws
 pub mod ShapeLaws
-pub mod NoticeLaws
+pub mod DispatchLaws
 pub mod PathLaws
 pub mod OperandLaws
 pub mod NameLaws
-pub mod OwnLaws
+pub mod JudgeLaws
 pub mod ArgumentLaws

@@ -7,8 +7,8 @@ use Rattle.disclosure.proofs.admit.Tie as tie
 use Rattle.disclosure.proofs.admit.Reads as reads
 use Rattle.disclosure.proofs.admit.Lts as lts
 use Rattle.state.proofs.checked.Reads as checked-reads
-use Rattle.tables.proofs.users.device.Reads as device-reads
-use Rattle.tables.proofs.users.present.Reads as present-reads
+use Rattle.tables.proofs.device.Reads as device-reads
+use Rattle.tables.proofs.present.Reads as present-reads
 
 checked-requires : tie.Need-checked-requires
 checked-requires c κs = search needs

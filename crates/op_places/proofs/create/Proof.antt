@@ -10,8 +10,8 @@ use Rattle.levels.proofs.at_most.Reads as at-most-reads
 use Rattle.op_places.proofs.filling.bear.Reads as bear-reads
 use Rattle.op_places.proofs.filling.put_last.Reads as put-last-reads
 use Rattle.op_places.proofs.places.vacant.Reads as vacant-reads
-use Rattle.tables.proofs.entities.used.Reads as used-reads
-use Rattle.tables.proofs.entities.level.Reads as level-reads
+use Rattle.tables.proofs.used.Reads as used-reads
+use Rattle.tables.proofs.level.Reads as level-reads
 
 is-container-requires : tie.Need-is-container-requires
 is-container-requires c κs = search needs

@@ -10,8 +10,8 @@ use Rattle.op_places.proofs.filling.erase.Reads as erase-reads
 use Rattle.op_places.proofs.filling.leave.Reads as leave-reads
 use Rattle.op_places.proofs.places.holder.Reads as holder-reads
 use Rattle.op_places.proofs.places.on_screen.Reads as on-screen-reads
-use Rattle.tables.proofs.entities.used.Reads as used-reads
-use Rattle.tables.proofs.entities.type_of.Reads as type-of-reads
+use Rattle.tables.proofs.used.Reads as used-reads
+use Rattle.tables.proofs.type_of.Reads as type-of-reads
 
 is-entity-requires : tie.Need-is-entity-requires
 is-entity-requires c κs = search needs

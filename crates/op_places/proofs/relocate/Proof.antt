@@ -13,8 +13,8 @@ use Rattle.op_places.proofs.filling.leave.Reads as leave-reads
 use Rattle.op_places.proofs.filling.put_last.Reads as put-last-reads
 use Rattle.op_places.proofs.places.holder.Reads as holder-reads
 use Rattle.op_places.proofs.places.is_inside.Reads as is-inside-reads
-use Rattle.tables.proofs.entities.used.Reads as used-reads
-use Rattle.tables.proofs.entities.level.Reads as level-reads
+use Rattle.tables.proofs.used.Reads as used-reads
+use Rattle.tables.proofs.level.Reads as level-reads
 
 is-entity-requires : tie.Need-is-entity-requires
 is-entity-requires c κs = search needs

@@ -6,7 +6,7 @@ use Rattle.op_screens.proofs.clear.Tie as tie
 use Rattle.op_screens.proofs.clear.Reads as reads
 use Rattle.op_screens.proofs.clear.Lts as lts
 use Rattle.op_screens.proofs.empty.Reads as empty-reads
-use Rattle.tables.proofs.users.device.Reads as device-reads
+use Rattle.tables.proofs.device.Reads as device-reads
 
 device-requires : tie.Need-device-requires
 device-requires c κs = search needs

@@ -10,9 +10,9 @@ use Rattle.op_screens.proofs.empty.Statement.{statement}
 use Rattle.op_screens.proofs.empty.Tie as tie
 use Rattle.op_screens.proofs.empty.Reads as reads
 use Rattle.op_screens.proofs.empty.Lts as lts
-use Rattle.tables.proofs.entities.set_used.Reads as set-used-reads
-use Rattle.tables.proofs.entities.set_place.Reads as set-place-reads
-use Rattle.tables.proofs.entities.set_shown.Reads as set-shown-reads
+use Rattle.tables.proofs.set_used.Reads as set-used-reads
+use Rattle.tables.proofs.set_place.Reads as set-place-reads
+use Rattle.tables.proofs.set_shown.Reads as set-shown-reads
 
 abbrev Inv-loop : tie.InvT-loop
 Inv-loop t₀ v i₀ t i = (length t ≡ wordCount) × (i ≤ 8) × (tablesOf t ≡ wipedTo (v .0) (tablesOf t₀) i)

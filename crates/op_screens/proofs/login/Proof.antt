@@ -8,8 +8,8 @@ use Rattle.op_screens.proofs.login.Lts as lts
 use Rattle.ladder.proofs.kinds.is_device.Reads as is-device-reads
 use Rattle.ladder.proofs.refusal.refuse.Reads as refuse-reads
 use Rattle.state.proofs.nobody_on.Reads as nobody-on-reads
-use Rattle.tables.proofs.users.device.Reads as device-reads
-use Rattle.tables.proofs.users.set_device.Reads as set-device-reads
+use Rattle.tables.proofs.device.Reads as device-reads
+use Rattle.tables.proofs.set_device.Reads as set-device-reads
 
 is-device-requires : tie.Need-is-device-requires
 is-device-requires c κs = search needs

@@ -6,9 +6,9 @@ use Rattle.op_screens.proofs.logout.Tie as tie
 use Rattle.op_screens.proofs.logout.Reads as reads
 use Rattle.op_screens.proofs.logout.Lts as lts
 use Rattle.op_screens.proofs.empty.Reads as empty-reads
-use Rattle.tables.proofs.users.device.Reads as device-reads
-use Rattle.tables.proofs.users.set_current.Reads as set-current-reads
-use Rattle.tables.proofs.users.set_device.Reads as set-device-reads
+use Rattle.tables.proofs.device.Reads as device-reads
+use Rattle.tables.proofs.set_current.Reads as set-current-reads
+use Rattle.tables.proofs.set_device.Reads as set-device-reads
 
 device-requires : tie.Need-device-requires
 device-requires c κs = search needs

@@ -6,9 +6,9 @@ use Rattle.op_screens.proofs.put_on.Statement.{statement}
 use Rattle.op_screens.proofs.put_on.Tie as tie
 use Rattle.op_screens.proofs.put_on.Reads as reads
 use Rattle.op_screens.proofs.put_on.Lts as lts
-use Rattle.tables.proofs.entities.set_used.Reads as set-used-reads
-use Rattle.tables.proofs.entities.set_place.Reads as set-place-reads
-use Rattle.tables.proofs.entities.set_shown.Reads as set-shown-reads
+use Rattle.tables.proofs.set_used.Reads as set-used-reads
+use Rattle.tables.proofs.set_place.Reads as set-place-reads
+use Rattle.tables.proofs.set_shown.Reads as set-shown-reads
 
 set-shown-requires : tie.Need-set-shown-requires
 set-shown-requires c κs = search needs

@@ -14,10 +14,10 @@ use Rattle.levels.proofs.at_most.Reads as at-most-reads
 use Rattle.rows.proofs.place_of.Reads as place-of-reads
 use Rattle.op_screens.proofs.put_on.Reads as put-on-reads
 use Rattle.state.proofs.is_labelled.Reads as is-labelled-reads
-use Rattle.tables.proofs.users.clearance.Reads as clearance-reads
-use Rattle.tables.proofs.entities.used.Reads as used-reads
-use Rattle.tables.proofs.users.device.Reads as device-reads
-use Rattle.tables.proofs.entities.level.Reads as level-reads
+use Rattle.tables.proofs.clearance.Reads as clearance-reads
+use Rattle.tables.proofs.used.Reads as used-reads
+use Rattle.tables.proofs.device.Reads as device-reads
+use Rattle.tables.proofs.level.Reads as level-reads
 
 is-entity-requires : tie.Need-is-entity-requires
 is-entity-requires c κs = search needs

@@ -11,7 +11,7 @@ use Rattle.ladder.proofs.kinds.is_any.Reads as is-any-reads
 use Rattle.ladder.proofs.refusal.refuse.Reads as refuse-reads
 use Rattle.op_triples.proofs.named_triple.Reads as named-triple-reads
 use Rattle.rows.proofs.triple_place.Reads as triple-place-reads
-use Rattle.tables.proofs.entities.set_triple.Reads as set-triple-reads
+use Rattle.tables.proofs.set_triple.Reads as set-triple-reads
 
 is-any-requires : tie.Need-is-any-requires
 is-any-requires c κs = search needs

@@ -13,8 +13,8 @@ use Rattle.rows.proofs.close_places.Statement.{statement}
 use Rattle.rows.proofs.close_places.Tie as tie
 use Rattle.rows.proofs.close_places.Reads as reads
 use Rattle.rows.proofs.close_places.Lts as lts
-use Rattle.tables.proofs.entities.place.Reads as place-reads
-use Rattle.tables.proofs.entities.set_place.Reads as set-place-reads
+use Rattle.tables.proofs.place.Reads as place-reads
+use Rattle.tables.proofs.set_place.Reads as set-place-reads
 
 abbrev Inv-loop : tie.InvT-loop
 Inv-loop t₀ h k i₀ t i = (length t ≡ length t₀) × (k ≤ i) × (i ≤ 7) × (tablesOf t ≡ closedTo place (h .0) k (tablesOf t₀) i)

@@ -13,8 +13,8 @@ use Rattle.rows.proofs.close_triples.Statement.{statement}
 use Rattle.rows.proofs.close_triples.Tie as tie
 use Rattle.rows.proofs.close_triples.Reads as reads
 use Rattle.rows.proofs.close_triples.Lts as lts
-use Rattle.tables.proofs.entities.triple.Reads as triple-reads
-use Rattle.tables.proofs.entities.set_triple.Reads as set-triple-reads
+use Rattle.tables.proofs.triple.Reads as triple-reads
+use Rattle.tables.proofs.set_triple.Reads as set-triple-reads
 
 abbrev Inv-loop : tie.InvT-loop
 Inv-loop t₀ e k i₀ t i = (length t ≡ length t₀) × (k ≤ i) × (i ≤ 7) × (tablesOf t ≡ closedTo triple (e .0) k (tablesOf t₀) i)

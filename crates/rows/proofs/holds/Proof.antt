@@ -11,7 +11,7 @@ use Rattle.rows.proofs.holds.Statement.{statement}
 use Rattle.rows.proofs.holds.Tie as tie
 use Rattle.rows.proofs.holds.Reads as reads
 use Rattle.rows.proofs.holds.Lts as lts
-use Rattle.tables.proofs.entities.place.Reads as place-reads
+use Rattle.tables.proofs.place.Reads as place-reads
 
 abbrev Inv-loop : tie.InvT-loop
 Inv-loop t v e found₀ i₀ found i = (i ≤ 8) × (found ≡ ltb (seek (e .0) (places (tablesOf t) (v .0)) i) i)

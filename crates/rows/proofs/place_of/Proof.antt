@@ -10,7 +10,7 @@ use Rattle.rows.proofs.place_of.Statement.{statement}
 use Rattle.rows.proofs.place_of.Tie as tie
 use Rattle.rows.proofs.place_of.Reads as reads
 use Rattle.rows.proofs.place_of.Lts as lts
-use Rattle.tables.proofs.entities.place.Reads as place-reads
+use Rattle.tables.proofs.place.Reads as place-reads
 
 abbrev Inv-loop : tie.InvT-loop
 Inv-loop t v e n i₀ i = (i ≤ n) × ((j : ℕ) → j < i → places (tablesOf t) (v .0) j ≢ e .0)

@@ -10,7 +10,7 @@ use Rattle.rows.proofs.triple_place.Statement.{statement}
 use Rattle.rows.proofs.triple_place.Tie as tie
 use Rattle.rows.proofs.triple_place.Reads as reads
 use Rattle.rows.proofs.triple_place.Lts as lts
-use Rattle.tables.proofs.entities.triple.Reads as triple-reads
+use Rattle.tables.proofs.triple.Reads as triple-reads
 
 abbrev Inv-loop : tie.InvT-loop
 Inv-loop t e x i₀ i = (i ≤ 8) × ((j : ℕ) → j < i → triples (tablesOf t) (e .0) j ≢ x)

@@ -9,7 +9,7 @@ use Rattle.disclosure.proofs.verdicts.judge.Lts as lts
 use Rattle.disclosure.proofs.verdicts.is_showable.Reads as is-showable-reads
 use Rattle.disclosure.proofs.verdicts.weigh.Reads as weigh-reads
 use Rattle.reference.proofs.is_bar.Reads as is-bar-reads
-use Rattle.tables.proofs.entities.used.Reads as used-reads
+use Rattle.tables.proofs.used.Reads as used-reads
 
 is-bar-requires : tie.Need-is-bar-requires
 is-bar-requires c κs = search needs

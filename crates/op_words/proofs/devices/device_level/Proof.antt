@@ -8,13 +8,13 @@ use Rattle.op_words.proofs.devices.device_level.Statement.{statement}
 use Rattle.op_words.proofs.devices.device_level.Tie as tie
 use Rattle.op_words.proofs.devices.device_level.Reads as reads
 use Rattle.op_words.proofs.devices.device_level.Lts as lts
-use Rattle.tables.proofs.users.has_role.Reads as has-role-reads
+use Rattle.tables.proofs.has_role.Reads as has-role-reads
 use Rattle.ladder.proofs.kinds.is_device.Reads as is-device-reads
 use Rattle.ladder.proofs.refusal.refuse.Reads as refuse-reads
 use Rattle.levels.proofs.lower.Reads as lower-reads
 use Rattle.op_words.proofs.trial.try_device_level.Reads as try-device-level-reads
-use Rattle.tables.proofs.users.device.Reads as device-reads
-use Rattle.tables.proofs.entities.level.Reads as level-reads
+use Rattle.tables.proofs.device.Reads as device-reads
+use Rattle.tables.proofs.level.Reads as level-reads
 
 is-device-requires : tie.Need-is-device-requires
 is-device-requires c κs = search needs

@@ -6,12 +6,12 @@ use Rattle.op_words.proofs.devices.maximum.Statement.{statement}
 use Rattle.op_words.proofs.devices.maximum.Tie as tie
 use Rattle.op_words.proofs.devices.maximum.Reads as reads
 use Rattle.op_words.proofs.devices.maximum.Lts as lts
-use Rattle.tables.proofs.users.has_role.Reads as has-role-reads
+use Rattle.tables.proofs.has_role.Reads as has-role-reads
 use Rattle.ladder.proofs.kinds.is_device.Reads as is-device-reads
 use Rattle.ladder.proofs.refusal.refuse.Reads as refuse-reads
 use Rattle.levels.proofs.at_most.Reads as at-most-reads
-use Rattle.tables.proofs.entities.level.Reads as level-reads
-use Rattle.tables.proofs.entities.set_maximum.Reads as set-maximum-reads
+use Rattle.tables.proofs.level.Reads as level-reads
+use Rattle.tables.proofs.set_maximum.Reads as set-maximum-reads
 
 is-device-requires : tie.Need-is-device-requires
 is-device-requires c κs = search needs

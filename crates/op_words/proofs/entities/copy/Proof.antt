@@ -9,9 +9,9 @@ use Rattle.op_words.proofs.entities.copy.Lts as lts
 use Rattle.ladder.proofs.kinds.is_entity.Reads as is-entity-reads
 use Rattle.ladder.proofs.refusal.refuse.Reads as refuse-reads
 use Rattle.levels.proofs.at_most.Reads as at-most-reads
-use Rattle.tables.proofs.entities.level.Reads as level-reads
-use Rattle.tables.proofs.entities.set_value.Reads as set-value-reads
-use Rattle.tables.proofs.entities.value.Reads as value-reads
+use Rattle.tables.proofs.level.Reads as level-reads
+use Rattle.tables.proofs.set_value.Reads as set-value-reads
+use Rattle.tables.proofs.value.Reads as value-reads
 
 is-entity-requires : tie.Need-is-entity-requires
 is-entity-requires c κs = search needs

@@ -7,7 +7,7 @@ use Rattle.op_words.proofs.entities.edit.Reads as reads
 use Rattle.op_words.proofs.entities.edit.Lts as lts
 use Rattle.ladder.proofs.kinds.is_entity.Reads as is-entity-reads
 use Rattle.ladder.proofs.refusal.refuse.Reads as refuse-reads
-use Rattle.tables.proofs.entities.set_value.Reads as set-value-reads
+use Rattle.tables.proofs.set_value.Reads as set-value-reads
 
 is-entity-requires : tie.Need-is-entity-requires
 is-entity-requires c κs = search needs

@@ -6,12 +6,12 @@ use Rattle.op_words.proofs.entities.level.Statement.{statement}
 use Rattle.op_words.proofs.entities.level.Tie as tie
 use Rattle.op_words.proofs.entities.level.Reads as reads
 use Rattle.op_words.proofs.entities.level.Lts as lts
-use Rattle.tables.proofs.users.has_role.Reads as has-role-reads
+use Rattle.tables.proofs.has_role.Reads as has-role-reads
 use Rattle.ladder.proofs.kinds.is_entity.Reads as is-entity-reads
 use Rattle.ladder.proofs.refusal.refuse.Reads as refuse-reads
 use Rattle.levels.proofs.lower.Reads as lower-reads
 use Rattle.op_words.proofs.trial.try_level.Reads as try-level-reads
-use Rattle.tables.proofs.entities.level.Reads as level-reads
+use Rattle.tables.proofs.level.Reads as level-reads
 
 is-entity-requires : tie.Need-is-entity-requires
 is-entity-requires c κs = search needs

@@ -7,7 +7,7 @@ use Rattle.op_words.proofs.entities.mark.Reads as reads
 use Rattle.op_words.proofs.entities.mark.Lts as lts
 use Rattle.ladder.proofs.kinds.is_container.Reads as is-container-reads
 use Rattle.ladder.proofs.refusal.refuse.Reads as refuse-reads
-use Rattle.tables.proofs.entities.set_mark.Reads as set-mark-reads
+use Rattle.tables.proofs.set_mark.Reads as set-mark-reads
 
 is-container-requires : tie.Need-is-container-requires
 is-container-requires c κs = search needs

@@ -9,11 +9,11 @@ use Rattle.op_words.proofs.entities.release.Statement.{statement}
 use Rattle.op_words.proofs.entities.release.Tie as tie
 use Rattle.op_words.proofs.entities.release.Reads as reads
 use Rattle.op_words.proofs.entities.release.Lts as lts
-use Rattle.tables.proofs.users.has_role.Reads as has-role-reads
+use Rattle.tables.proofs.has_role.Reads as has-role-reads
 use Rattle.ladder.proofs.kinds.is_draft.Reads as is-draft-reads
 use Rattle.ladder.proofs.refusal.refuse.Reads as refuse-reads
-use Rattle.tables.proofs.entities.set_releaser.Reads as set-releaser-reads
-use Rattle.tables.proofs.entities.set_type.Reads as set-type-reads
+use Rattle.tables.proofs.set_releaser.Reads as set-releaser-reads
+use Rattle.tables.proofs.set_type.Reads as set-type-reads
 
 is-draft-requires : tie.Need-is-draft-requires
 is-draft-requires c κs = search needs

@@ -6,11 +6,11 @@ use Rattle.op_words.proofs.notices.acknowledge.Tie as tie
 use Rattle.op_words.proofs.notices.acknowledge.Reads as reads
 use Rattle.op_words.proofs.notices.acknowledge.Lts as lts
 use Rattle.ladder.proofs.refusal.refuse.Reads as refuse-reads
-use Rattle.tables.proofs.users.held.Reads as held-reads
-use Rattle.tables.proofs.users.missed.Reads as missed-reads
-use Rattle.tables.proofs.users.set_held.Reads as set-held-reads
-use Rattle.tables.proofs.users.set_held_op.Reads as set-held-op-reads
-use Rattle.tables.proofs.users.set_missed.Reads as set-missed-reads
+use Rattle.tables.proofs.held.Reads as held-reads
+use Rattle.tables.proofs.missed.Reads as missed-reads
+use Rattle.tables.proofs.set_held.Reads as set-held-reads
+use Rattle.tables.proofs.set_held_op.Reads as set-held-op-reads
+use Rattle.tables.proofs.set_missed.Reads as set-missed-reads
 
 held-requires : tie.Need-held-requires
 held-requires c κs = search needs

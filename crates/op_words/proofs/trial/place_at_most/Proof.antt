@@ -8,8 +8,8 @@ use Rattle.op_words.proofs.trial.place_at_most.Tie as tie
 use Rattle.op_words.proofs.trial.place_at_most.Reads as reads
 use Rattle.op_words.proofs.trial.place_at_most.Lts as lts
 use Rattle.levels.proofs.at_most.Reads as at-most-reads
-use Rattle.tables.proofs.entities.level.Reads as level-reads
-use Rattle.tables.proofs.entities.place.Reads as place-reads
+use Rattle.tables.proofs.level.Reads as level-reads
+use Rattle.tables.proofs.place.Reads as place-reads
 
 place-requires : tie.Need-place-requires
 place-requires c κs = (c .before .pre .0, omega (arith, c .before .pre .2, row-room _ (c .before .pre .1) (c .before .args .v .0)))

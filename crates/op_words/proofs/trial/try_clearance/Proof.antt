@@ -9,9 +9,9 @@ use Rattle.op_words.proofs.trial.try_clearance.Tie as tie
 use Rattle.op_words.proofs.trial.try_clearance.Reads as reads
 use Rattle.op_words.proofs.trial.try_clearance.Lts as lts
 use Rattle.op_words.proofs.trial.all_at_most.Reads as all-at-most-reads
-use Rattle.tables.proofs.entities.used.Reads as used-reads
-use Rattle.tables.proofs.users.device.Reads as device-reads
-use Rattle.tables.proofs.users.set_clearance.Reads as set-clearance-reads
+use Rattle.tables.proofs.used.Reads as used-reads
+use Rattle.tables.proofs.device.Reads as device-reads
+use Rattle.tables.proofs.set_clearance.Reads as set-clearance-reads
 
 device-requires : tie.Need-device-requires
 device-requires c κs = search needs

@@ -9,9 +9,9 @@ use Rattle.op_words.proofs.trial.try_device_level.Reads as reads
 use Rattle.op_words.proofs.trial.try_device_level.Lts as lts
 use Rattle.levels.proofs.at_most.Reads as at-most-reads
 use Rattle.op_words.proofs.trial.all_at_most.Reads as all-at-most-reads
-use Rattle.tables.proofs.entities.used.Reads as used-reads
-use Rattle.tables.proofs.entities.maximum.Reads as maximum-reads
-use Rattle.tables.proofs.entities.set_level.Reads as set-level-reads
+use Rattle.tables.proofs.used.Reads as used-reads
+use Rattle.tables.proofs.maximum.Reads as maximum-reads
+use Rattle.tables.proofs.set_level.Reads as set-level-reads
 
 maximum-requires : tie.Need-maximum-requires
 maximum-requires c κs = search needs

@@ -7,8 +7,8 @@ use Rattle.op_words.proofs.trial.try_level.Tie as tie
 use Rattle.op_words.proofs.trial.try_level.Reads as reads
 use Rattle.op_words.proofs.trial.try_level.Lts as lts
 use Rattle.state.proofs.is_secure.Reads as is-secure-reads
-use Rattle.tables.proofs.entities.level.Reads as level-reads
-use Rattle.tables.proofs.entities.set_level.Reads as set-level-reads
+use Rattle.tables.proofs.level.Reads as level-reads
+use Rattle.tables.proofs.set_level.Reads as set-level-reads
 
 level-requires : tie.Need-level-requires
 level-requires c κs = search needs

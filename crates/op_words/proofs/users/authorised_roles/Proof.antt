@@ -9,12 +9,12 @@ use Rattle.op_words.proofs.users.authorised_roles.Statement.{statement}
 use Rattle.op_words.proofs.users.authorised_roles.Tie as tie
 use Rattle.op_words.proofs.users.authorised_roles.Reads as reads
 use Rattle.op_words.proofs.users.authorised_roles.Lts as lts
-use Rattle.tables.proofs.users.has_role.Reads as has-role-reads
+use Rattle.tables.proofs.has_role.Reads as has-role-reads
 use Rattle.ladder.proofs.refusal.refuse.Reads as refuse-reads
 use Rattle.levels.proofs.roles_within.Reads as roles-within-reads
-use Rattle.tables.proofs.users.current.Reads as current-reads
-use Rattle.tables.proofs.users.present.Reads as present-reads
-use Rattle.tables.proofs.users.set_authorised.Reads as set-authorised-reads
+use Rattle.tables.proofs.current.Reads as current-reads
+use Rattle.tables.proofs.present.Reads as present-reads
+use Rattle.tables.proofs.set_authorised.Reads as set-authorised-reads
 
 shared-slice-read-if1 : tie.Need-shared-slice-read-if1
 shared-slice-read-if1 c = search needs

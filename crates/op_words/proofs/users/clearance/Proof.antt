@@ -9,10 +9,10 @@ use Rattle.op_words.proofs.users.clearance.Statement.{statement}
 use Rattle.op_words.proofs.users.clearance.Tie as tie
 use Rattle.op_words.proofs.users.clearance.Reads as reads
 use Rattle.op_words.proofs.users.clearance.Lts as lts
-use Rattle.tables.proofs.users.has_role.Reads as has-role-reads
+use Rattle.tables.proofs.has_role.Reads as has-role-reads
 use Rattle.ladder.proofs.refusal.refuse.Reads as refuse-reads
 use Rattle.op_words.proofs.trial.try_clearance.Reads as try-clearance-reads
-use Rattle.tables.proofs.users.present.Reads as present-reads
+use Rattle.tables.proofs.present.Reads as present-reads
 
 shared-slice-read-if1 : tie.Need-shared-slice-read-if1
 shared-slice-read-if1 c = search needs

@@ -8,13 +8,13 @@ use Rattle.op_words.proofs.users.current_roles.Statement.{statement}
 use Rattle.op_words.proofs.users.current_roles.Tie as tie
 use Rattle.op_words.proofs.users.current_roles.Reads as reads
 use Rattle.op_words.proofs.users.current_roles.Lts as lts
-use Rattle.tables.proofs.users.has_role.Reads as has-role-reads
+use Rattle.tables.proofs.has_role.Reads as has-role-reads
 use Rattle.ladder.proofs.refusal.refuse.Reads as refuse-reads
 use Rattle.levels.proofs.roles_within.Reads as roles-within-reads
-use Rattle.tables.proofs.users.authorised.Reads as authorised-reads
-use Rattle.tables.proofs.users.device.Reads as device-reads
-use Rattle.tables.proofs.users.present.Reads as present-reads
-use Rattle.tables.proofs.users.set_current.Reads as set-current-reads
+use Rattle.tables.proofs.authorised.Reads as authorised-reads
+use Rattle.tables.proofs.device.Reads as device-reads
+use Rattle.tables.proofs.present.Reads as present-reads
+use Rattle.tables.proofs.set_current.Reads as set-current-reads
 
 shared-slice-read-b : tie.Need-shared-slice-read-b
 shared-slice-read-b c = search needs

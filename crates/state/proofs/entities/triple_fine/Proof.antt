@@ -9,7 +9,7 @@ use Rattle.state.proofs.entities.triple_fine.Reads as reads
 use Rattle.state.proofs.entities.triple_fine.Lts as lts
 use Rattle.state.proofs.entities.named.Reads as named-reads
 use Rattle.state.proofs.entities.triple_unlike.Reads as triple-unlike-reads
-use Rattle.tables.proofs.entities.triple.Reads as triple-reads
+use Rattle.tables.proofs.triple.Reads as triple-reads
 
 triple-requires : tie.Need-triple-requires
 triple-requires c κs = search needs

@@ -12,10 +12,10 @@ use Rattle.state.proofs.secure.entity_secure.Lts as lts
 use Rattle.levels.proofs.at_most.Reads as at-most-reads
 use Rattle.state.proofs.secure.at_most_eight.Reads as at-most-eight-reads
 use Rattle.state.proofs.secure.places_secure.Reads as places-secure-reads
-use Rattle.tables.proofs.entities.used.Reads as used-reads
-use Rattle.tables.proofs.entities.kind.Reads as kind-reads
-use Rattle.tables.proofs.entities.level.Reads as level-reads
-use Rattle.tables.proofs.entities.maximum.Reads as maximum-reads
+use Rattle.tables.proofs.used.Reads as used-reads
+use Rattle.tables.proofs.kind.Reads as kind-reads
+use Rattle.tables.proofs.level.Reads as level-reads
+use Rattle.tables.proofs.maximum.Reads as maximum-reads
 
 used-requires : tie.Need-used-requires
 used-requires c κs = search needs

@@ -4,8 +4,8 @@ use Rattle.state.proofs.secure.place_below.Tie as tie
 use Rattle.state.proofs.secure.place_below.Reads as reads
 use Rattle.state.proofs.secure.place_below.Lts as lts
 use Rattle.levels.proofs.at_most.Reads as at-most-reads
-use Rattle.tables.proofs.entities.level_or_zero.Reads as level-or-zero-reads
-use Rattle.tables.proofs.entities.place.Reads as place-reads
+use Rattle.tables.proofs.level_or_zero.Reads as level-or-zero-reads
+use Rattle.tables.proofs.place.Reads as place-reads
 
 place-requires : tie.Need-place-requires
 place-requires c κs = search needs
