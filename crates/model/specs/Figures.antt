@@ -8,6 +8,9 @@ use Rattle.model.specs.Effect.Places.{draftSort, objectSort}
 use Rattle.model.specs.Level.{atMost, atMostOver, bit, compartmentCount, downgrader, levelCount, officer, rank, rankCount, releasing}
 use Rattle.model.specs.Level.{roleSets, subset}
 use Rattle.model.specs.List.Listing.{entryWords, valueAndLabel}
+use Rattle.model.specs.Request.Operations.{numberOf, toAcknowledge, toAuthorised, toClear, toClearance, toCopy, toCreate, toCurrent}
+use Rattle.model.specs.Request.Operations.{toDelete, toDeviceLevel, toEdit, toGrant, toLevel, toLogin, toLogout, toMark, toMaximum}
+use Rattle.model.specs.Request.Operations.{toMove, toRelease, toRevoke, toShow}
 use Rattle.model.specs.Request.Words.{nameCount, requestWords}
 use Rattle.model.specs.Tables.Layout.{entityWidth, userWidth, wordCount}
 use Rattle.model.specs.Tables.Words.{absentKind, containerKind, deviceKind, draftType, entityCount, firstNoticed, idBit, labelBit}
@@ -65,6 +68,23 @@ limits-are = (refl, refl, refl, refl, refl)
 pub sorts-are : (objectSort ≡ 1) × (draftSort ≡ 3)
 sorts-are = (refl, refl)
 
--- Rule 10.4: an entry has five words; rule 10.3: value and label are 3; rules 7.4, 7.6, 7.14 and 7.17: the refusals of the list.
-pub lists-are : (entryWords ≡ 5) × (valueAndLabel ≡ 3) × (refusal.unknownRequester ≡ 4) × (refusal.notLoggedOn ≡ 6) × (refusal.noRoom ≡ 14) × (refusal.tooShort ≡ 17)
-lists-are = (refl, refl, refl, refl, refl, refl)
+-- Rules 6.1 to 6.20: the operations.
+pub operations-are :
+    (numberOf toCreate ≡ 1) × (numberOf toDelete ≡ 2) × (numberOf toMove ≡ 3) × (numberOf toEdit ≡ 4) × (numberOf toCopy ≡ 5)
+    × (numberOf toLevel ≡ 6) × (numberOf toMark ≡ 7) × (numberOf toGrant ≡ 8) × (numberOf toRevoke ≡ 9) × (numberOf toShow ≡ 10)
+    × (numberOf toClear ≡ 11) × (numberOf toLogin ≡ 12) × (numberOf toLogout ≡ 13) × (numberOf toCurrent ≡ 14) × (numberOf toClearance ≡ 15)
+    × (numberOf toAuthorised ≡ 16) × (numberOf toMaximum ≡ 17) × (numberOf toDeviceLevel ≡ 18) × (numberOf toRelease ≡ 19)
+    × (numberOf toAcknowledge ≡ 20)
+operations-are = (refl, refl, refl, refl, refl, refl, refl, refl, refl, refl, refl, refl, refl, refl, refl, refl, refl, refl, refl, refl)
+
+-- Rule 7: the answers, 0 for accepted and 1 to 18 for the refusals.
+pub refusals-are :
+    (refusal.accepted ≡ 0) × (refusal.badLength ≡ 1) × (refusal.notWellFormed ≡ 2) × (refusal.notSecure ≡ 3) × (refusal.unknownRequester ≡ 4)
+    × (refusal.badRequest ≡ 5) × (refusal.notLoggedOn ≡ 6) × (refusal.noSuchName ≡ 7) × (refusal.noAccess ≡ 8) × (refusal.marked ≡ 9)
+    × (refusal.wrongKind ≡ 10) × (refusal.noSuchUser ≡ 11) × (refusal.roleMissing ≡ 12) × (refusal.levelOrRoles ≡ 13) × (refusal.noRoom ≡ 14)
+    × (refusal.arrangement ≡ 15) × (refusal.notAcknowledged ≡ 16) × (refusal.tooShort ≡ 17) × (refusal.notARequest ≡ 18)
+refusals-are = (refl, refl, refl, refl, refl, refl, refl, refl, refl, refl, refl, refl, refl, refl, refl, refl, refl, refl, refl)
+
+-- Rule 10.4: an entry has five words; rule 10.3: value and label are 3.
+pub lists-are : (entryWords ≡ 5) × (valueAndLabel ≡ 3)
+lists-are = (refl, refl)

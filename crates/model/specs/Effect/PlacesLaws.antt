@@ -30,14 +30,16 @@ module _ (d : Tables) (s : Secure d) (e l : ℕ) (nothing : (c : ℕ) → Holds 
   contained-by : (x c : ℕ) → Holds d x c → AtMost (pick (eqb c e) l (d .entity c level)) (pick (eqb x e) l (d .entity x level))
   contained-by x c h =
       case (λ (y : ℕ). AtMost y (pick (eqb x e) l (d .entity x level))) c e l (d .entity c level) (λ q. absurd (nowhere x (subst (Holds d x) q h)))
-      (λ q. case (AtMost (d .entity c level)) x e l (d .entity x level) (λ r. absurd (nothing c (subst (λ (y : ℕ). Holds d y c) r h))) (λ r. s .contained x c h))
+      (λ q. case (AtMost (d .entity c level)) x e l (d .entity x level)
+      (λ r. absurd (nothing c (subst (λ (y : ℕ). Holds d y c) r h))) (λ r. s .contained x c h))
 
   seen-by : (u c : ℕ) → devices d u ≢ 0 → Holds d (devices d u) c → AtMost (pick (eqb c e) l (d .entity c level)) (d .user u clearance)
   seen-by u c on h = case (λ (y : ℕ). AtMost y (d .user u clearance)) c e l (d .entity c level)
       (λ q. absurd (nowhere (devices d u) (subst (Holds d (devices d u)) q h))) (λ q. s .seen u c on h)
 
 -- a record at an absent number
-module _ (d : Tables) (w : WellFormed d) (e c k t l : ℕ) (gone : kinds d e ≡ 0) (range : (1 ≤ e) × (e ≤ entityCount)) (sort : (objectKind ≤ k) × (k ≤ containerKind))
+module _ (d : Tables) (w : WellFormed d) (e c k t l : ℕ) (gone : kinds d e ≡ 0) (range : (1 ≤ e) × (e ≤ entityCount))
+    (sort : (objectKind ≤ k) × (k ≤ containerKind))
     (draft : (t ≡ 0) ⊎ ((k ≡ containerKind) × (t ≡ 1))) (lev : l < levelCount) where
   zero-here : (f : EntityWord) → d .entity e f ≡ 0
   zero-here = w .entities e .absent gone
@@ -145,7 +147,8 @@ on-none d w c u h q =
     omega (arith, w .links .deviceIs u (omega arith), ap (kinds d) q)
 
 -- 3 move
-module _ (d : Tables) (w : WellFormed d) (s : Secure d) (e c : ℕ) (thing : Thing d e) (box : kinds d c ≡ containerKind) (room : usedPlaces (leave e d) c < placeCount)
+module _ (d : Tables) (w : WellFormed d) (s : Secure d) (e c : ℕ) (thing : Thing d e) (box : kinds d c ≡ containerKind)
+    (room : usedPlaces (leave e d) c < placeCount)
     (apart : Within (InTables d) c e → ⊥) (low : AtMost (d .entity e level) (d .entity c level)) where
   Inner : ℕ → ℕ → Type 0
   Inner = In (kinds (leave e d)) (usedPlaces (leave e d)) (places (leave e d))

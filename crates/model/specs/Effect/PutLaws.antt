@@ -122,7 +122,8 @@ module _ (d : Tables) (w : WellFormed d) (e : ℕ) where
     users = w .users;
     entities = all EntityOk (λ x. eqb (kinds d x) containerKind) (leaving e d) (d .entity) (w .entities)
         (λ x t. leave-ok x (eqb→eq (kinds d x) containerKind t) (w .entities x));
-    links = shrink (kinds d) (usedPlaces d) (places d) (devices d) (w .links) (usedPlaces (leave e d)) (places (leave e d)) (λ x c h. stayed x c h .0) fewer-there;
+    links = shrink (kinds d) (usedPlaces d) (places d) (devices d) (w .links) (usedPlaces (leave e d)) (places (leave e d))
+        (λ x c h. stayed x c h .0) fewer-there;
   }
 
   pub leave-secure : Secure d → Secure (leave e d)

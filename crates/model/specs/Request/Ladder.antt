@@ -16,6 +16,7 @@ use Rattle.model.specs.State.Check.{secureTest, wellFormedTest}
 use Rattle.model.specs.Tables.Rows.{seek}
 use Rattle.model.specs.Tables.Words.{Tables, clearance, devices, level, mark, placeCount, present, tripleOf, triples, userCount}
 use Rattle.model.specs.Tables.Words.{whoRole}
+use Rattle.model.specs.Request.Refusals as refusal
 
 abbrev pub Rung : Type 0
 Rung = Tables → Request → Bool
@@ -105,16 +106,17 @@ ownRung n d q = ofOp q (λ o. refused n (rowOf o .conditions) d (asked d q))
 -- the ladder, from 2 on: rung 1 is judged before there are tables
 unfoldable pub ladder : List Rung
 ladder = notWellFormed ∷ notSecure ∷ unknownUser ∷ notUnderstood ∷ notLoggedOn ∷ leadsNowhere ∷ noAccess ∷ notCleared ∷ wrongKind
-    ∷ ownRung 11 ∷ ownRung 12 ∷ ownRung 13 ∷ ownRung 14 ∷ ownRung 15 ∷ ownRung 16 ∷ []
+    ∷ ownRung refusal.noSuchUser ∷ ownRung refusal.roleMissing ∷ ownRung refusal.levelOrRoles ∷ ownRung refusal.noRoom
+    ∷ ownRung refusal.arrangement ∷ ownRung refusal.notAcknowledged ∷ []
 
 -- the number of the first rung that applies, the first of the list being n; 0 where none does
 unfoldable pub lowest : ℕ → List Rung → Tables → Request → ℕ
-lowest n [] d q = 0
+lowest n [] d q = refusal.accepted
 lowest n (r ∷ rs) d q = elim (r d q) [ true ↦ n | false ↦ lowest (suc n) rs d q ]
 
 -- Rule 7.0: the answer is the lowest rung that applies, or 0, accepted.
 unfoldable pub answer : Tables → Request → ℕ
-answer d q = lowest 2 ladder d q
+answer d q = lowest refusal.notWellFormed ladder d q
 
 -- a rung that never applies
 unfoldable pub never : Rung
@@ -133,5 +135,5 @@ applies n = rungAt n (never ∷ never ∷ ladder)
 -- Rule 7.0 as a statement: a is 0 and no rung applies, or rung a applies and none below it.
 pub record IsAnswer (d : Tables) (q : Request) (a : ℕ) : Type 0 where
   pub below : (n : ℕ) → n < a → applies n d q ≡ false
-  pub applied : a ≢ 0 → applies a d q ≡ true
-  pub accepted : a ≡ 0 → (n : ℕ) → applies n d q ≡ false
+  pub applied : a ≢ refusal.accepted → applies a d q ≡ true
+  pub accepted : a ≡ refusal.accepted → (n : ℕ) → applies n d q ≡ false

@@ -153,7 +153,8 @@ module _ (k n : ℕ → ℕ) (at : ℕ → ℕ → ℕ) (dev : ℕ → ℕ) (ent
   pub links-agrees : Agrees (linksTest k n at dev) (Linked k n at dev)
   unfolding linksTest
   links-agrees = agrees-as
-      (λ (z : ((e c : ℕ) → Member (at e) (n e) c → (objectKind ≤ k c) × (k c ≤ containerKind)) × (((c a b : ℕ) → In k n at a c → In k n at b c → a ≡ b) × (((e : ℕ) → Inside (In k n at) e e → ⊥)
+      (λ (z : ((e c : ℕ) → Member (at e) (n e) c → (objectKind ≤ k c) × (k c ≤ containerKind))
+      × (((c a b : ℕ) → In k n at a c → In k n at b c → a ≡ b) × (((e : ℕ) → Inside (In k n at) e e → ⊥)
       × (((u : ℕ) → dev u ≢ 0 → k (dev u) ≡ deviceKind) × (((u v : ℕ) → dev u ≢ 0 → dev u ≡ dev v → u ≡ v)
       × ((e : ℕ) → k e ≡ deviceKind → ((u : ℕ) → dev u ≢ e) → n e ≡ 0)))))).
       record { contents = z .0; oneContainer = z .1 .0; noLoop = z .1 .1 .0; deviceIs = z .1 .1 .1 .0; oneUser = z .1 .1 .1 .1 .0; idle = z .1 .1 .1 .1 .1 })

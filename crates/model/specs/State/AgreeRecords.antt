@@ -88,7 +88,8 @@ filled-agrees k n at sum ea es = agrees-as
 pub good-agrees : (t : ℕ) → Agrees (tripleTest t) (GoodTriple t)
 unfolding tripleTest
 good-agrees t = agrees-as
-    {P = ((1 ≤ whoOf t) × (whoOf t ≤ whoMost)) × (((1 ≤ operationIn t) × (operationIn t ≤ operationCount)) × ((1 ≤ positionOf t) × (positionOf t ≤ positionCount)))}
+    {P = ((1 ≤ whoOf t) × (whoOf t ≤ whoMost))
+    × (((1 ≤ operationIn t) × (operationIn t ≤ operationCount)) × ((1 ≤ positionOf t) × (positionOf t ≤ positionCount)))}
     (λ z. search) (λ s. search) (search agreement depth 20)
 
 -- Rule 3.5.
@@ -125,7 +126,31 @@ absent-entity-agrees w o = agrees-as
       | shown i ↦ within (λ j. w (shown j)) (o .shown8) (z .1 .1 .1 .1 .1 .1 .1 .1 .1 .0) i
       | triple i ↦ within (λ j. w (triple j)) (o .triple8) (z .1 .1 .1 .1 .1 .1 .1 .1 .1 .1) i
     ])
-    (λ f. (f kind, (f type, (f level, (f mark, (f value, (f releaser, (f maximum, (f used, (λ i h. f (place i), (λ i h. f (shown i), λ i h. f (triple i))))))))))))
+    (λ f. (
+      f kind,
+      (
+        f type,
+        (
+          f level,
+          (
+            f mark,
+            (
+              f value,
+              (
+                f releaser,
+                (
+                  f maximum,
+                  (
+                    f used,
+                    (λ i h. f (place i), (λ i h. f (shown i), λ i h. f (triple i))),
+                  ),
+                ),
+              ),
+            ),
+          ),
+        ),
+      ),
+    ))
     (search agreement depth 20)
 
 -- An entity's record by itself.
@@ -138,7 +163,8 @@ entity-agrees w o = agrees-as
     (λ e. (e .absent, (e .shape, (e .filled, e .access))))
     (agrees-and (agrees-imp (agrees-eq (w kind) 0) (absent-entity-agrees w o)) (agrees-and
     (shape-agrees (w kind) (w type) (w level) (w mark) (w value) (w releaser) (w maximum))
-    (agrees-and (filled-agrees (w kind) (w used) (λ i. w (place i)) (λ i. w (shown i)) (o .place8) (o .shown8)) (access-agrees (λ i. w (triple i)) (o .triple8)))))
+    (agrees-and (filled-agrees (w kind) (w used) (λ i. w (place i)) (λ i. w (shown i)) (o .place8) (o .shown8))
+    (access-agrees (λ i. w (triple i)) (o .triple8)))))
 
 -- Rule 3.1 of a user.
 absent-user-agrees : (w : UserWord → ℕ) → Agrees (nobodyTest w)

@@ -15,6 +15,7 @@ use Rattle.model.specs.Tables.Layout.{tablesOf, wordCount}
 use Rattle.model.specs.Tables.Rows.{seek}
 use Rattle.model.specs.Tables.Words.{Tables, authorised, clearance, containerKind, usedPlaces, current, deviceKind, devices, entityCount}
 use Rattle.model.specs.Tables.Words.{kinds, level, maximum, objectKind, placeCount, places, sums, userCount}
+use Rattle.model.specs.Request.Refusals as refusal
 
 -- a stands directly in the container b
 unfoldable pub inTest : (ℕ → ℕ) → (ℕ → ℕ) → (ℕ → ℕ → ℕ) → ℕ → ℕ → Bool
@@ -95,8 +96,8 @@ secureTest d = every entityCount (λ e. containedTest d (suc e)) && (every userC
 
 -- Rule 8.5: 2 where the tables are not well-formed, else 3 where they are not secure, else 0.
 unfoldable pub judge : Tables → ℕ
-judge d = pick (wellFormedTest d) (pick (secureTest d) 0 3) 2
+judge d = pick (wellFormedTest d) (pick (secureTest d) refusal.accepted refusal.notSecure) refusal.notWellFormed
 
 -- Rule 8.5 of any words: 1 where they are not 2,304.
 unfoldable pub check : List ℕ → ℕ
-check t = pick (eqb (length t) wordCount) (judge (tablesOf t)) 1
+check t = pick (eqb (length t) wordCount) (judge (tablesOf t)) refusal.badLength

@@ -1,6 +1,7 @@
 -- The words of the tables by name (rules 2.1 to 2.5), and the numbers that they are counted and told apart by.
 use Prim.Native.Nat.{_%_, _*_, _+_, _/_, suc, ℕ}
 use Rattle.model.specs.Level.{roleCount}
+use Rattle.model.specs.Request.Refusals as refusal
 
 -- Rule 2.1: sixteen users and sixty-four entities, both numbered from 1; rows of eight places, and eight spare words of a user.
 abbrev pub userCount : ℕ
@@ -101,10 +102,10 @@ positionCount = 2
 
 -- Rule 3.19: the refusals of which a notice is kept; rule 3.21: where its count stops.
 abbrev pub firstNoticed : ℕ
-firstNoticed = 5
+firstNoticed = refusal.badRequest
 
 abbrev pub lastNoticed : ℕ
-lastNoticed = 16
+lastNoticed = refusal.notAcknowledged
 
 abbrev pub missedMost : ℕ
 missedMost = 65535

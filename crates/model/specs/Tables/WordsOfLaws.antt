@@ -163,7 +163,9 @@ index-known t i h = go (ltb i entitiesFrom) (below i entitiesFrom)
   where
     go : (b : Bool) → Below i entitiesFrom b → pick b (userAtIndex (tablesOf t) i) (entityAtIndex (tablesOf t) (i - entitiesFrom)) ≡ getD t i 0
     go true (under l) = user-known t i l
-    go false (over l) = let s : entitiesFrom + (i - entitiesFrom) ≡ i = omega arith in entity-known t (i - entitiesFrom) (omega arith) ∙ ap (λ (k : ℕ). getD t k 0) s
+    go false (over l) =
+        let s : entitiesFrom + (i - entitiesFrom) ≡ i = omega arith in
+        entity-known t (i - entitiesFrom) (omega arith) ∙ ap (λ (k : ℕ). getD t k 0) s
 
 -- the words of the tables of 2,304 words are those words
 pub wordsOf-tablesOf : (t : List ℕ) → length t ≡ wordCount → wordsOf (tablesOf t) ≡ t

@@ -26,33 +26,33 @@ use Rattle.model.specs.Text.Wording.{Lines, Wording, aKey, atEnd, bKey, 
 use Rattle.model.specs.Text.Wording.{refKey, textOf, userKey, wordingOf}
 use Rattle.model.specs.Text.WordingLaws.{text-length}
 use Rattle.model.specs.Text.WordsLaws.{Textual, hasText-says}
-use Rattle.model.specs.Text.Writing.{Writes, bytesAfter, hasText, textOfWords, withoutText, writeNumber}
+use Rattle.model.specs.Text.Writing.{Writes, bytesAfter, hasText, textOfWords, writeNumber}
 use Rattle.model.specs.Request.Refusals as refusal
 
 -- ---- both ways
 
 -- Every text that is read writes back to that text,
-pub read-write : {s v w room r : List ℕ} {a n k : ℕ} → Reads s v 0 n w → Writes w room a k r → length s ≤ length room
+pub read-write : {s v w room r : List ℕ} {a n k : ℕ} → Reads s v refusal.accepted n w → Writes w room a k r → length s ≤ length room
     → (a ≡ 0) × (k ≡ length s) × (r ≡ s ++ drop (length s) room)
 read-write x y l = gives-writes (reads-gives x) y l
 
 -- or, in a room that is too short, names its bytes and leaves the room as it was.
-pub read-short : {s v w room r : List ℕ} {a n k : ℕ} → Reads s v 0 n w → Writes w room a k r → length room < length s
+pub read-short : {s v w room r : List ℕ} {a n k : ℕ} → Reads s v refusal.accepted n w → Writes w room a k r → length room < length s
     → (a ≡ refusal.tooShort) × (k ≡ length s) × (r ≡ room)
 read-short x y l = gives-short (reads-gives x) y l
 
 -- All words that are written read back.
-pub write-read : {w room r v u : List ℕ} {a k n : ℕ} → Small w → Writes w room 0 k r → length v ≡ requestWords → Reads (take k r) v a n u
+pub write-read : {w room r v u : List ℕ} {a k n : ℕ} → Small w → Writes w room refusal.accepted k r → length v ≡ requestWords → Reads (take k r) v a n u
     → (a ≡ 0) × (n ≡ 0) × (u ≡ w)
 write-read s y h x = gives-reads (writes-gives s y) h x
 
 -- ---- which words are written
 
 -- Rule 11.3: sixteen words of 32 bits are refused with 5 exactly where no text has them,
-pub written-exactly : {w room r : List ℕ} {a k : ℕ} → length w ≡ requestWords → Small w → Writes w room a k r → (a ≡ withoutText) ↔ (¬ HasText w)
+pub written-exactly : {w room r : List ℕ} {a k : ℕ} → length w ≡ requestWords → Small w → Writes w room a k r → (a ≡ refusal.badRequest) ↔ (¬ HasText w)
 written-exactly {w} {room} {r} {a} h s y = (λ e x. refused e (gives-hasText (x .gives)), λ n. y .answer ∙ write-without w (length room) h (failing n))
   where
-    refused : a ≡ withoutText → hasText (requestOf w) ≡ true → ⊥
+    refused : a ≡ refusal.badRequest → hasText (requestOf w) ≡ true → ⊥
     refused e t =
         cases (lt-or-le (length room) (length (textOfWords w)))
         (λ l. let z : a ≡ refusal.tooShort = y .answer ∙ write-short w h t (length room) l in omega arith)
@@ -62,7 +62,7 @@ written-exactly {w} {room} {r} {a} h s y = (λ e x. refused e (gives-hasText (x 
     failing n = fails-false (hasText (requestOf w)) (agrees-not (hasText-agrees w h s) .from n)
 
 -- and what is read are words that a text has.
-pub read-has : {s v w : List ℕ} {n : ℕ} → Reads s v 0 n w → HasText w
+pub read-has : {s v w : List ℕ} {n : ℕ} → Reads s v refusal.accepted n w → HasText w
 read-has {s} x = record { text = s; gives = reads-gives x }
 
 -- ---- one answer only

@@ -15,11 +15,11 @@ use Rattle.model.specs.Text.GivenLaws.{fit-small, small-fit}
 use Rattle.model.specs.Text.LineLaws.{Form, line-back, line-there, numbers}
 use Rattle.model.specs.Text.Lines.{line, readLine}
 use Rattle.model.specs.Text.Numbers.{Read, bad, got}
-use Rattle.model.specs.Text.Reading.{Reads, answerIn, lineIn, notRead, readAnswer, readNumber, wordsAfter, wordsIn}
+use Rattle.model.specs.Text.Reading.{Reads, answerIn, lineIn, readAnswer, readNumber, wordsAfter, wordsIn}
 use Rattle.model.specs.Text.ReferenceLaws.{references}
 use Rattle.model.specs.Text.Wording.{Lines, Wording, aKey, atEnd, bKey, badLine, cKey, lines, opKey, orLine, readSeven, readText, ref2Key, refKey}
 use Rattle.model.specs.Text.Wording.{sixteen, userKey}
-use Rattle.model.specs.Text.Writing.{wrongSize}
+use Rattle.model.specs.Request.Refusals as refusal
 
 -- ---- one line
 
@@ -185,19 +185,19 @@ whole-gives {s} x =
 -- ---- the reader
 
 -- Rule 11.4: with 18 the reader's number is the first line that is bad or missing, and the room is as it was;
-pub reads-broken : {s v u : List ℕ} {n : ℕ} → Reads s v notRead n u → FirstBad sorts s n × (u ≡ v)
+pub reads-broken : {s v u : List ℕ} {n : ℕ} → Reads s v refusal.notARequest n u → FirstBad sorts s n × (u ≡ v)
 unfolding readAnswer readNumber wordsAfter
 reads-broken {s} {v} {u} {n} x =
     cases (true-or-false (eqb (length v) requestWords))
     (λ h. go (readText s) refl (rw h at (x .answer)) (rw h at (x .number)) (rw h at (x .words)))
-    (λ h. let z : notRead ≡ wrongSize = rw h at (x .answer) in absurd (omega arith))
+    (λ h. let z : refusal.notARequest ≡ refusal.badLength = rw h at (x .answer) in absurd (omega arith))
   where
-    go : (r : Lines) → readText s ≡ r → notRead ≡ answerIn r → n ≡ lineIn r → u ≡ wordsIn r v → FirstBad sorts s n × (u ≡ v)
+    go : (r : Lines) → readText s ≡ r → refusal.notARequest ≡ answerIn r → n ≡ lineIn r → u ≡ wordsIn r v → FirstBad sorts s n × (u ≡ v)
     go (lines m y) e a b c = absurd (omega arith)
     go (badLine k) e a b c = (subst (FirstBad sorts s) (sym b) (broken-first s k e), c)
 
 -- and wherever a line is bad or missing, a reader with room for sixteen words answers so.
-pub broken-reads : {s v u : List ℕ} {a n k : ℕ} → FirstBad sorts s k → length v ≡ requestWords → Reads s v a n u → (a ≡ notRead) × (n ≡ k) × (u ≡ v)
+pub broken-reads : {s v u : List ℕ} {a n k : ℕ} → FirstBad sorts s k → length v ≡ requestWords → Reads s v a n u → (a ≡ refusal.notARequest) × (n ≡ k) × (u ≡ v)
 unfolding readAnswer readNumber wordsAfter
 broken-reads {s} {v} {u} {a} {n} {k} f h x =
     let e : readText s ≡ badLine k = first-broken s k f in (

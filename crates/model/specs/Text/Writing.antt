@@ -12,11 +12,8 @@ use Rattle.model.specs.Text.Wording.{textOf, wordingOf}
 use Rattle.model.specs.Request.Refusals as refusal
 
 -- Rule 11.3: the refusals of the writer beside 17. Its 5 is no refusal of a step, and leaves no notice.
-abbrev pub wrongSize : ℕ
-wrongSize = 1
-
 abbrev pub withoutText : ℕ
-withoutText = 5
+withoutText = refusal.badRequest
 
 -- Rule 11.3: a request that a text has: no reference longer than four names, the words behind its names zero, and word 15 zero.
 unfoldable pub hasText : Request → Bool
@@ -32,8 +29,8 @@ textOfWords w = textOf (wordingOf (requestOf w))
 unfoldable pub writeAnswer : List ℕ → ℕ → ℕ
 writeAnswer w n =
     pick (eqb (length w) requestWords)
-    (pick (hasText (requestOf w)) (pick (leb (length (textOfWords w)) n) 0 refusal.tooShort) withoutText)
-    wrongSize
+    (pick (hasText (requestOf w)) (pick (leb (length (textOfWords w)) n) refusal.accepted refusal.tooShort) refusal.badRequest)
+    refusal.badLength
 
 -- its number: the bytes written or needed, and none with another refusal;
 unfoldable pub writeNumber : List ℕ → ℕ
@@ -41,7 +38,7 @@ writeNumber w = pick (eqb (length w) requestWords) (pick (hasText (requestOf w))
 
 -- with 0 the text stands at the front and the bytes behind it stay; with a refusal all stay.
 abbrev pub bytesAfter : ℕ → List ℕ → List ℕ → List ℕ
-bytesAfter a w room = pick (eqb a 0) (textOfWords w ++ drop (length (textOfWords w)) room) room
+bytesAfter a w room = pick (eqb a refusal.accepted) (textOfWords w ++ drop (length (textOfWords w)) room) room
 
 -- Rule 11.3: what the writer is, said of any answer a, any number n and any bytes r in the room afterwards.
 pub record Writes (w room : List ℕ) (a n : ℕ) (r : List ℕ) : Type 0 where

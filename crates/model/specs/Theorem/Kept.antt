@@ -30,6 +30,7 @@ use Rattle.model.specs.State.Secure.{Good, Secure}
 use Rattle.model.specs.State.WellFormed.{WellFormed}
 use Rattle.model.specs.Tables.Words.{Tables, deviceKind, firstNoticed, kinds, present, value}
 use Rattle.model.specs.Theorem.Acceptance.{accepted, requester-known}
+use Rattle.model.specs.Request.Refusals as refusal
 
 -- Each operation's effect keeps them.
 module _ (d : Tables) (w : WellFormed d) (g : Secure d) (s : Asked) (p : d .user (s .user) present ≢ 0) where
@@ -83,14 +84,14 @@ pub request-good : (d : Tables) → Good d → (q : Request) → Good (after d q
 unfolding asked
 request-good d g q = after-each d q Good settled (λ l h. g) noticed
   where
-    settled : answer d q ≡ 0 → Good (effect d q)
+    settled : answer d q ≡ refusal.accepted → Good (effect d q)
     settled e =
         let a = accepted d q e (g .0) in
         rw (effect-by d q (a .0) (a .1 .meant .named)) (effect-good d (g .0) (g .1) (asked d q) (a .1 .meant .known .there) (a .0) (a .1 .allowed))
 
     noticed : firstNoticed ≤ answer d q → Good (notice (q .user) (answer d q) (noticedOp q) d)
     noticed l =
-        let k = requester-known d q (answer-is d q .below 4 (omega arith)) in (
+        let k = requester-known d q (answer-is d q .below refusal.unknownRequester (omega arith)) in (
           notice-wellFormed d (g .0) (g .1) (q .user) (answer d q) (noticedOp q) (k .there) (l, answer-range d q) (noticedOp-range q),
           notice-secure d (g .0) (g .1) (q .user) (answer d q) (noticedOp q) (k .there) (l, answer-range d q) (noticedOp-range q),
         )

@@ -11,6 +11,7 @@ use Rattle.model.specs.Request.Step.{afterOf}
 use Rattle.model.specs.Request.Words.{Request}
 use Rattle.model.specs.Tables.Words.{Tables, devices, held, heldOp, missed}
 use Rattle.model.specs.Theorem.Definitions.{Both, NamedOpenly, ShowsId}
+use Rattle.model.specs.Request.Refusals as refusal
 
 -- the notice of user u is the same in both tables
 abbrev pub SameNotice : Tables → Tables → ℕ → Type 0
@@ -39,4 +40,4 @@ afterWords t (q ∷ qs) = afterWords (afterOf t q) qs
 -- along a list of requests from d on, no acknowledgement of user x is accepted
 unfoldable pub Unacknowledged : Tables → ℕ → List Request → Type 0
 Unacknowledged d x [] = Unit {0}
-Unacknowledged d x (q ∷ qs) = (answer d q ≡ 0 → opOf (q .operation) ≡ some toAcknowledge → x ≢ q .user) × Unacknowledged (after d q) x qs
+Unacknowledged d x (q ∷ qs) = (answer d q ≡ refusal.accepted → opOf (q .operation) ≡ some toAcknowledge → x ≢ q .user) × Unacknowledged (after d q) x qs
