@@ -21,9 +21,9 @@ use Rattle.model.specs.Tables.EditLaws.{case, each}
 use Rattle.model.specs.Tables.Edits.{blank, written}
 use Rattle.model.specs.Tables.RowLaws.{sought}
 use Rattle.model.specs.Tables.Rows.{Sought, seek}
-use Rattle.model.specs.Tables.Words.{EntityWord, Tables, absentKind, clearance, containerKind, used, usedPlaces, deviceKind, devices}
-use Rattle.model.specs.Tables.Words.{draftType, entityCount, kinds, level, mark, maximum, objectKind, placeCount, places, plainType}
-use Rattle.model.specs.Tables.Words.{releaser, shown, sums, value}
+use Rattle.model.specs.Tables.Words.{EntityWord, Tables, absentKind, clearance, containerKind, deviceKind, devices, draftType}
+use Rattle.model.specs.Tables.Words.{entityCount, kinds, level, mark, maximum, objectKind, placeCount, places, plainType, releaser}
+use Rattle.model.specs.Tables.Words.{shown, sums, used, usedPlaces, value}
 
 -- the level of e changes, and e neither holds anything nor is held
 module _ (d : Tables) (s : Secure d) (e l : ℕ) (nothing : (c : ℕ) → Holds d e c → ⊥) (nowhere : (x : ℕ) → Holds d x e → ⊥) where
@@ -116,7 +116,7 @@ module _ (d : Tables) (w : WellFormed d) (e : ℕ) (thing : kinds d e ≤ contai
       shows x i false h l = s .valueLabelled x i h l
 
       top : (x : ℕ) (b : Bool) → pick b 0 (kinds d x) ≡ deviceKind → AtMost (pick b 0 (d .entity x level)) (pick b 0 (d .entity x maximum))
-      top x true h = absurd (let z : _≡_ {A = ℕ} 0 3 = h in omega arith)
+      top x true h = absurd (let z : absentKind ≡ deviceKind = h in omega arith)
       top x false h = s .ceiling x h
 
 -- 2 delete: an entity with no contents, on no device
@@ -244,7 +244,8 @@ sort-kind s = go (eqb s objectSort)
 pub sort-type : (s : ℕ) → (sortType s ≡ plainType) ⊎ ((sortKind s ≡ containerKind) × (sortType s ≡ draftType))
 sort-type s = go (eqb s draftSort) (eqb s objectSort) (same s draftSort) (same s objectSort)
   where
-    go : (x y : Bool) → Same s draftSort x → Same s objectSort y → (pick {A = ℕ} x 1 0 ≡ 0) ⊎ ((pick {A = ℕ} y 1 2 ≡ 2) × (pick {A = ℕ} x 1 0 ≡ 1))
+    go : (x y : Bool) → Same s draftSort x → Same s objectSort y → (pick x draftType plainType ≡ plainType)
+        ⊎ ((pick y objectKind containerKind ≡ containerKind) × (pick x draftType plainType ≡ draftType))
     go true true (it e) (it f) = absurd (omega arith)
     go true false (it e) (other f) = inr (refl, refl)
     go false true (other e) (it f) = inl refl

@@ -16,8 +16,8 @@ use Rattle.model.specs.Tables.EditLaws.{all, case, each}
 use Rattle.model.specs.Tables.Edits.{written}
 use Rattle.model.specs.Tables.RowLaws.{append-packed, without-fewer, without-member, without-packed}
 use Rattle.model.specs.Tables.Rows.{Member, left, replace, without}
-use Rattle.model.specs.Tables.Words.{Tables, clearance, containerKind, usedPlaces, deviceKind, devices, kinds, level, placeCount, places}
-use Rattle.model.specs.Tables.Words.{sumMost, sums}
+use Rattle.model.specs.Tables.Words.{Tables, clearance, containerKind, deviceKind, devices, kinds, level, placeCount, places, sumMost}
+use Rattle.model.specs.Tables.Words.{sums, usedPlaces}
 
 -- e is put last in c, with the sum s
 put-filled : (k n e s : ℕ) (at sum : ℕ → ℕ) → (containerKind ≤ k) → n < placeCount → 1 ≤ e → ((i : ℕ) → i < n → at i ≢ e)
@@ -105,14 +105,14 @@ module _ (d : Tables) (w : WellFormed d) (e : ℕ) where
   pub stayed : (x c : ℕ) → Holds (leave e d) x c → Holds d x c × (kinds d x ≡ containerKind → c ≢ e)
   stayed x c = go (eqb (kinds d x) containerKind) (same (kinds d x) containerKind)
     where
-      go : (b : Bool) → Same (kinds d x) 2 b
+      go : (b : Bool) → Same (kinds d x) containerKind b
           → Member (λ i. pick b (without e (places d x) (usedPlaces d x) i) (places d x i)) (pick b (left e (places d x) (usedPlaces d x)) (usedPlaces d x)) c
           → Holds d x c × (kinds d x ≡ containerKind → c ≢ e)
       go true (it q) m = let y = without-member e (places d x) (usedPlaces d x) (w .entities x .filled .packed) c m in (y .0, λ z. y .1)
       go false (other q) m = (m, λ z. absurd (q z))
 
   pub fewer-there : (x : ℕ) → usedPlaces (leave e d) x ≤ usedPlaces d x
-  fewer-there x = case (λ (y : ℕ). y ≤ usedPlaces d x) (kinds d x) 2 (left e (places d x) (usedPlaces d x)) (usedPlaces d x)
+  fewer-there x = case (λ (y : ℕ). y ≤ usedPlaces d x) (kinds d x) containerKind (left e (places d x) (usedPlaces d x)) (usedPlaces d x)
       (λ q. without-fewer e (places d x) (usedPlaces d x) (w .entities x .filled .packed)) (λ q. omega arith)
 
   pub leave-wellFormed : WellFormed (leave e d)

@@ -16,8 +16,8 @@ use Rattle.model.specs.State.WellFormed.{EntityOk, Filled, Holds, UserOk
 use Rattle.model.specs.Tables.EditLaws.{case, each, member-emptied}
 use Rattle.model.specs.Tables.Edits.{userWord, written}
 use Rattle.model.specs.Tables.RowLaws.{packed-none}
-use Rattle.model.specs.Tables.Words.{Tables, authorised, clearance, usedPlaces, current, device, deviceKind, devices, kinds, level}
-use Rattle.model.specs.Tables.Words.{places, present, sums}
+use Rattle.model.specs.Tables.Words.{Tables, authorised, clearance, current, device, deviceKind, devices, kinds, level, places}
+use Rattle.model.specs.Tables.Words.{present, sums, usedPlaces}
 
 -- 11 clear
 empty-filled : (k : ℕ) → Filled k 0 (λ i. 0) (λ i. 0)

@@ -16,7 +16,8 @@ use Rattle.model.specs.Tables.EditLaws.{case, each, member-cases}
 use Rattle.model.specs.Tables.Edits.{onEntity, written}
 use Rattle.model.specs.Tables.RowLaws.{replace-same, sought}
 use Rattle.model.specs.Tables.Rows.{Member, Sought, replace}
-use Rattle.model.specs.Tables.Words.{Tables, clearance, usedPlaces, deviceKind, devices, kinds, level, placeCount, places, sumMost, sums}
+use Rattle.model.specs.Tables.Words.{Tables, clearance, deviceKind, devices, kinds, level, placeCount, places, sumMost, sums}
+use Rattle.model.specs.Tables.Words.{usedPlaces}
 
 -- the entity is there already: only its sum changes
 again-filled : (n i s : ℕ) (at sum : ℕ → ℕ) (k : ℕ) → k ≡ deviceKind → i < n → (1 ≤ s) × (s ≤ sumMost) → Filled k n at sum

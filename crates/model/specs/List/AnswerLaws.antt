@@ -15,9 +15,9 @@ use Rattle.model.specs.List.Further.{asker, checked, further}
 use Rattle.model.specs.List.Listing.{barred, showing}
 use Rattle.model.specs.Request.Asked.{asked, basisOf, operand}
 use Rattle.model.specs.Request.Conditions.{Kind, aSum, between, isEntity, levelOf, showAbove, showNoRoom, showUnlabelled, unused}
-use Rattle.model.specs.Request.Ladder.{Rung, answer, bars, fits, ladder, leadsNowhere, lengthFits, lowest, namesFit, noAccess, notCleared}
-use Rattle.model.specs.Request.Ladder.{notLoggedOn, notSecure, notUnderstood, notWellFormed, ofOp, ownRung, permits, rangeAt, refused}
-use Rattle.model.specs.Request.Ladder.{someOperand, unknownUser, wrongKind}
+use Rattle.model.specs.Request.Ladder.{Rung, answer, bars, fits, ladder, leadsNowhere, lengthFits, lowest, namesFit, noAccess}
+use Rattle.model.specs.Request.Ladder.{notCleared, notLoggedOn, notSecure, notUnderstood, notWellFormed, ofOp, ownRung, permits}
+use Rattle.model.specs.Request.Ladder.{rangeAt, refused, someOperand, unknownUser, wrongKind}
 use Rattle.model.specs.Request.LadderLaws.{lowest-none, ofOp-some}
 use Rattle.model.specs.Request.OperationLaws.{number-opOf}
 use Rattle.model.specs.Request.Operations.{Op, numberOf, opOf, rowOf, toShow}

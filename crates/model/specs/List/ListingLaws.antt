@@ -24,7 +24,7 @@ use Rattle.model.specs.Request.Ladder.{bars}
 use Rattle.model.specs.Request.Reference.{standing}
 use Rattle.model.specs.State.WellFormed.{WellFormed}
 use Rattle.model.specs.Tables.Layout.{tablesOf}
-use Rattle.model.specs.Tables.Words.{Tables, clearance, usedPlaces, entityCount, placeCount}
+use Rattle.model.specs.Tables.Words.{Tables, clearance, entityCount, placeCount, usedPlaces}
 use Rattle.model.specs.Request.Refusals as refusal
 
 -- Rules 10.3 to 10.6: where the list is not refused, the walk makes the complete list.

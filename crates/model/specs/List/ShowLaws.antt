@@ -28,7 +28,7 @@ use Rattle.model.specs.Request.Step.{answerOf}
 use Rattle.model.specs.Request.Words.{nameCount, requestOf}
 use Rattle.model.specs.State.WellFormed.{WellFormed}
 use Rattle.model.specs.Tables.Layout.{tablesOf}
-use Rattle.model.specs.Tables.Words.{Tables, absentKind, clearance, used, usedPlaces, devices, entityCount, kinds, level, mark}
+use Rattle.model.specs.Tables.Words.{Tables, absentKind, clearance, devices, entityCount, kinds, level, mark, used, usedPlaces}
 use Rattle.model.specs.Request.Refusals as refusal
 
 -- Rule 10.3: the test of a reference is its statement.

@@ -12,18 +12,18 @@ use Rattle.model.specs.Level.{AtMost, Lower, Subset, downgrader, levelCo
 use Rattle.model.specs.Request.Asked.{Asked, HasRole, asked, basisOf, namedTriple, operand, own}
 use Rattle.model.specs.Request.Conditions.{levelOf}
 use Rattle.model.specs.Request.Form.{Between, Fits}
-use Rattle.model.specs.Request.Operations.{Op, clearanceEffect, levelEffect, numberOf, opOf, rowOf, toAcknowledge}
-use Rattle.model.specs.Request.Operations.{toAuthorised, toClear, toClearance, toCopy, toCreate, toCurrent, toDelete, toDeviceLevel}
-use Rattle.model.specs.Request.Operations.{toEdit, toGrant, toLevel, toLogin, toLogout, toMark, toMaximum, toMove, toRelease}
-use Rattle.model.specs.Request.Operations.{toRevoke, toShow}
+use Rattle.model.specs.Request.Operations.{Op, clearanceEffect, levelEffect, numberOf, opOf, rowOf, toAcknowledge, toAuthorised}
+use Rattle.model.specs.Request.Operations.{toClear, toClearance, toCopy, toCreate, toCurrent, toDelete, toDeviceLevel, toEdit}
+use Rattle.model.specs.Request.Operations.{toGrant, toLevel, toLogin, toLogout, toMark, toMaximum, toMove, toRelease, toRevoke}
+use Rattle.model.specs.Request.Operations.{toShow}
 use Rattle.model.specs.Request.Words.{Request}
 use Rattle.model.specs.State.Depth.{Within}
 use Rattle.model.specs.State.Secure.{Secure, labelled}
 use Rattle.model.specs.State.WellFormed.{GoodTriple, Holds, InTables, Thing}
 use Rattle.model.specs.Tables.Rows.{Member, seek}
-use Rattle.model.specs.Tables.Words.{Tables, authorised, clearance, containerKind, usedPlaces, current, deviceKind, devices, draftType}
+use Rattle.model.specs.Tables.Words.{Tables, authorised, clearance, containerKind, current, deviceKind, devices, draftType}
 use Rattle.model.specs.Tables.Words.{entityCount, held, kinds, level, mark, missed, objectKind, placeCount, present, releasedType}
-use Rattle.model.specs.Tables.Words.{sumMost, tripleOf, triples, type, userCount, whoRole}
+use Rattle.model.specs.Tables.Words.{sumMost, tripleOf, triples, type, usedPlaces, userCount, whoRole}
 
 -- Rule 7.4: the requester is one of the users that are there.
 pub record Known (d : Tables) (u : ℕ) : Type 0 where

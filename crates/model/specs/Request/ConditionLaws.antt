@@ -24,8 +24,9 @@ use Rattle.model.specs.State.Secure.{Secure, labelled}
 use Rattle.model.specs.State.WellFormed.{Holds, InTables, Thing, WellFormed}
 use Rattle.model.specs.Tables.RowLaws.{sought}
 use Rattle.model.specs.Tables.Rows.{Sought, seek}
-use Rattle.model.specs.Tables.Words.{Tables, authorised, clearance, containerKind, usedPlaces, current, deviceKind, devices, draftType}
+use Rattle.model.specs.Tables.Words.{Tables, authorised, clearance, containerKind, current, deviceKind, devices, draftType}
 use Rattle.model.specs.Tables.Words.{entityCount, held, kinds, missed, objectKind, placeCount, present, releasedType, triples, type}
+use Rattle.model.specs.Tables.Words.{usedPlaces}
 
 -- Rule 5.5: `any` is an object, a container or a device,
 pub any-agrees : (d : Tables) (e : ℕ) → Agrees (isAny d e) (objectKind ≤ kinds d e)

@@ -11,9 +11,9 @@ use Rattle.model.specs.State.Check.{parent, secureTest}
 use Rattle.model.specs.State.Climb.{climb}
 use Rattle.model.specs.State.Secure.{labelled}
 use Rattle.model.specs.Tables.Rows.{seek}
-use Rattle.model.specs.Tables.Words.{Tables, authorised, clearance, containerKind, usedPlaces, current, deviceKind, devices, draftType}
+use Rattle.model.specs.Tables.Words.{Tables, authorised, clearance, containerKind, current, deviceKind, devices, draftType}
 use Rattle.model.specs.Tables.Words.{entityCount, held, kinds, level, missed, objectKind, operationCount, placeCount, places}
-use Rattle.model.specs.Tables.Words.{positionCount, present, releasedType, sumMost, triples, type, userCount, whoMost}
+use Rattle.model.specs.Tables.Words.{positionCount, present, releasedType, sumMost, triples, type, usedPlaces, userCount, whoMost}
 
 -- Rule 5.5.
 abbrev pub Kind : Type 0

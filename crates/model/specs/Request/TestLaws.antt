@@ -25,8 +25,8 @@ use Rattle.model.specs.State.ParentLaws.{parent-held, parent-none, paren
 use Rattle.model.specs.State.WellFormed.{Holds, InTables, WellFormed}
 use Rattle.model.specs.Tables.Layout.{Bounded}
 use Rattle.model.specs.Tables.Rows.{Member, seek}
-use Rattle.model.specs.Tables.Words.{Tables, clearance, usedPlaces, current, device, deviceKind, devices, entityCount, kind, kinds}
-use Rattle.model.specs.Tables.Words.{level, mark, placeCount, places, tripleOf, triples, userCount, whoRole}
+use Rattle.model.specs.Tables.Words.{Tables, clearance, current, device, deviceKind, devices, entityCount, kind, kinds, level, mark}
+use Rattle.model.specs.Tables.Words.{placeCount, places, tripleOf, triples, usedPlaces, userCount, whoRole}
 
 -- Rule 5.6: the test is of current roles.
 pub role-agrees : (d : Tables) (u r : ℕ) → Agrees (hasRole d u r) (HasRole d u r)

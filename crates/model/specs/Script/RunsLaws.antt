@@ -7,7 +7,7 @@ use native.Mathlib.Omega.{arith}
 use lib.ListN.{getD, length, take}
 use Rattle.model.specs.Request.Step.{afterOf}
 use Rattle.model.specs.Script.Reports.{Report, output, report, unread}
-use Rattle.model.specs.Script.Runs.{Answered, Reported, Runs, Outputs, cut, requests, stay, texts, turn, whole}
+use Rattle.model.specs.Script.Runs.{Answered, Outputs, Reported, Runs, cut, requests, stay, texts, turn, whole}
 use Rattle.model.specs.Text.Lines.{readLine}
 use Rattle.model.specs.Text.NearLaws.{read-longer, read-shorter}
 use Rattle.model.specs.Text.Wording.{Lines, Wording, badLine, lines, readSeven, sixteen, textOf}

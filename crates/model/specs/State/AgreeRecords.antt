@@ -14,10 +14,10 @@ use Rattle.model.specs.State.Tests.{tripleTest, userTest}
 use Rattle.model.specs.State.WellFormed.{Access, EntityOk, Filled, GoodTriple, Notice, Shape, UserOk}
 use Rattle.model.specs.Tables.RowLaws.{first-zero}
 use Rattle.model.specs.Tables.Rows.{Packed, seek}
-use Rattle.model.specs.Tables.Words.{EntityWord, UserWord, authorised, clearance, containerKind, used, current, device, deviceKind}
+use Rattle.model.specs.Tables.Words.{EntityWord, UserWord, authorised, clearance, containerKind, current, device, deviceKind}
 use Rattle.model.specs.Tables.Words.{firstNoticed, held, heldOp, kind, lastNoticed, level, mark, maximum, missed, missedMost}
 use Rattle.model.specs.Tables.Words.{objectKind, operationCount, operationIn, place, placeCount, plainType, positionCount, positionOf}
-use Rattle.model.specs.Tables.Words.{present, releasedType, releaser, shown, spare, sumMost, triple, type, userCount, value}
+use Rattle.model.specs.Tables.Words.{present, releasedType, releaser, shown, spare, sumMost, triple, type, used, userCount, value}
 use Rattle.model.specs.Tables.Words.{whoMost, whoOf}
 
 -- Rules 3.3 and 3.8 to 3.11.

@@ -20,8 +20,8 @@ use Rattle.model.specs.State.WellFormed.{Holds, WellFormed}
 use Rattle.model.specs.Tables.EditLaws.{case}
 use Rattle.model.specs.Tables.Layout.{Bounded, tablesOf, wordCount}
 use Rattle.model.specs.Tables.LayoutLaws.{bounded}
-use Rattle.model.specs.Tables.Words.{Tables, authorised, clearance, usedPlaces, current, device, deviceKind, devices, entityCount}
-use Rattle.model.specs.Tables.Words.{kinds, level, maximum, placeCount, places, sums, userCount}
+use Rattle.model.specs.Tables.Words.{Tables, authorised, clearance, current, device, deviceKind, devices, entityCount, kinds, level}
+use Rattle.model.specs.Tables.Words.{maximum, placeCount, places, sums, usedPlaces, userCount}
 use Rattle.model.specs.Request.Refusals as refusal
 
 module _ (d : Tables) (w : WellFormed d) where

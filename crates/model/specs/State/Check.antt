@@ -13,8 +13,8 @@ use Rattle.model.specs.State.Secure.{labelled}
 use Rattle.model.specs.State.Tests.{entityTest, userTest}
 use Rattle.model.specs.Tables.Layout.{tablesOf, wordCount}
 use Rattle.model.specs.Tables.Rows.{seek}
-use Rattle.model.specs.Tables.Words.{Tables, authorised, clearance, containerKind, usedPlaces, current, deviceKind, devices, entityCount}
-use Rattle.model.specs.Tables.Words.{kinds, level, maximum, objectKind, placeCount, places, sums, userCount}
+use Rattle.model.specs.Tables.Words.{Tables, authorised, clearance, containerKind, current, deviceKind, devices, entityCount, kinds}
+use Rattle.model.specs.Tables.Words.{level, maximum, objectKind, placeCount, places, sums, usedPlaces, userCount}
 use Rattle.model.specs.Request.Refusals as refusal
 
 -- a stands directly in the container b

@@ -7,8 +7,8 @@ use lib.Dec.{T}
 use Rattle.model.specs.Basics.Tests.{imp}
 use Rattle.model.specs.Level.{AtMost, Subset, bit, roleCount}
 use Rattle.model.specs.State.WellFormed.{Holds, WellFormed}
-use Rattle.model.specs.Tables.Words.{Tables, authorised, clearance, usedPlaces, current, deviceKind, devices, kinds, labelBit, level}
-use Rattle.model.specs.Tables.Words.{maximum, sums, valueBit}
+use Rattle.model.specs.Tables.Words.{Tables, authorised, clearance, current, deviceKind, devices, kinds, labelBit, level, maximum}
+use Rattle.model.specs.Tables.Words.{sums, usedPlaces, valueBit}
 
 -- the value is shown only where the label is
 unfoldable pub labelled : ℕ → Bool

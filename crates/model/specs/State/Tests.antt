@@ -5,11 +5,11 @@ use lib.Dec.{eqb, leb, ltb}
 use Rattle.model.specs.Basics.Tests.{every, imp}
 use Rattle.model.specs.Level.{levelCount, roleSets}
 use Rattle.model.specs.Tables.Rows.{seek}
-use Rattle.model.specs.Tables.Words.{EntityWord, UserWord, absentKind, authorised, clearance, containerKind, used, current, device}
+use Rattle.model.specs.Tables.Words.{EntityWord, UserWord, absentKind, authorised, clearance, containerKind, current, device}
 use Rattle.model.specs.Tables.Words.{deviceKind, firstNoticed, held, heldOp, kind, lastNoticed, level, mark, maximum, missed}
-use Rattle.model.specs.Tables.Words.{missedMost, objectKind, operationCount, operationIn, place, placeCount, plainType}
-use Rattle.model.specs.Tables.Words.{positionCount, positionOf, present, releasedType, releaser, shown, spare, spareCount, sumMost}
-use Rattle.model.specs.Tables.Words.{triple, type, userCount, value, whoMost, whoOf}
+use Rattle.model.specs.Tables.Words.{missedMost, objectKind, operationCount, operationIn, place, placeCount, plainType, positionCount}
+use Rattle.model.specs.Tables.Words.{positionOf, present, releasedType, releaser, shown, spare, spareCount, sumMost, triple, type}
+use Rattle.model.specs.Tables.Words.{used, userCount, value, whoMost, whoOf}
 
 -- Rules 3.4 and 3.5: the first n places used, distinct, the rest zero.
 unfoldable pub packedTest : (ℕ → ℕ) → ℕ → Bool

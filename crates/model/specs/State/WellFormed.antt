@@ -6,11 +6,11 @@ use Prim.Native.Nat.{_<_, _≤_, ℕ}
 use Rattle.model.specs.Level.{levelCount, roleSets}
 use Rattle.model.specs.State.Depth.{Inside}
 use Rattle.model.specs.Tables.Rows.{Member, Packed}
-use Rattle.model.specs.Tables.Words.{EntityWord, Tables, UserWord, absentKind, authorised, clearance, containerKind, used, usedPlaces}
-use Rattle.model.specs.Tables.Words.{current, device, deviceKind, devices, entityCount, firstNoticed, held, heldOp, kind, kinds}
-use Rattle.model.specs.Tables.Words.{lastNoticed, level, mark, maximum, missed, missedMost, objectKind, operationCount, operationIn}
-use Rattle.model.specs.Tables.Words.{place, places, plainType, positionCount, positionOf, present, releasedType, releaser, shown}
-use Rattle.model.specs.Tables.Words.{spare, sumMost, triple, type, userCount, value, whoMost, whoOf}
+use Rattle.model.specs.Tables.Words.{EntityWord, Tables, UserWord, absentKind, authorised, clearance, containerKind, current, device}
+use Rattle.model.specs.Tables.Words.{deviceKind, devices, entityCount, firstNoticed, held, heldOp, kind, kinds, lastNoticed, level}
+use Rattle.model.specs.Tables.Words.{mark, maximum, missed, missedMost, objectKind, operationCount, operationIn, place, places}
+use Rattle.model.specs.Tables.Words.{plainType, positionCount, positionOf, present, releasedType, releaser, shown, spare, sumMost}
+use Rattle.model.specs.Tables.Words.{triple, type, used, usedPlaces, userCount, value, whoMost, whoOf}
 
 -- Rule 3.22: what a triple may name.
 pub record GoodTriple (t : ℕ) : Type 0 where

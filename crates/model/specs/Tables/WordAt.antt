@@ -2,8 +2,8 @@
 use mathlib.Core.List.{[], _∷_}
 use Prim.Native.Nat.{_%_, _+_, _-_, _/_, min, ℕ}
 use lib.ListN.{getD}
-use Rattle.model.specs.Tables.Words.{EntityWord, UserWord, authorised, clearance, used, current, device, held, heldOp, kind, level}
-use Rattle.model.specs.Tables.Words.{mark, maximum, missed, place, present, releaser, shown, spare, triple, type, value}
+use Rattle.model.specs.Tables.Words.{EntityWord, UserWord, authorised, clearance, current, device, held, heldOp, kind, level, mark}
+use Rattle.model.specs.Tables.Words.{maximum, missed, place, present, releaser, shown, spare, triple, type, used, value}
 
 -- a user's word of a tag and, in a row, of a place
 unfoldable pub userWordOf : ℕ → ℕ → UserWord

@@ -5,10 +5,10 @@ use Prim.Native.Nat.{_+_, _≤_, suc, ℕ}
 use native.Mathlib.Omega.{arith}
 use lib.Dec.{eqb}
 use lib.ListN.{length}
-use borrow.Author.Tests.{eq-eqb}
 use Rattle.model.specs.Basics.Cases.{cases, true-or-false}
 use Rattle.model.specs.Request.Words.{requestWords}
-use Rattle.model.specs.Text.Broken.{Begins, FirstBad, Sort, ValueOf, Whole, end, extra, here, keyOf, later, numbered, onward, referring, sorts}
+use Rattle.model.specs.Text.Broken.{Begins, FirstBad, Sort, ValueOf, Whole, end, extra, here, keyOf, later, numbered, onward}
+use Rattle.model.specs.Text.Broken.{referring, sorts}
 use Rattle.model.specs.Text.CallLaws.{whole-end}
 use Rattle.model.specs.Text.Given.{Gives}
 use Rattle.model.specs.Text.GivenLaws.{fit-small, small-fit}
@@ -17,8 +17,10 @@ use Rattle.model.specs.Text.Lines.{line, readLine}
 use Rattle.model.specs.Text.Numbers.{Read, bad, got}
 use Rattle.model.specs.Text.Reading.{Reads, answerIn, lineIn, readAnswer, readNumber, wordsAfter, wordsIn}
 use Rattle.model.specs.Text.ReferenceLaws.{references}
-use Rattle.model.specs.Text.Wording.{Lines, Wording, aKey, atEnd, bKey, badLine, cKey, lines, opKey, orLine, readSeven, readText, ref2Key, refKey}
-use Rattle.model.specs.Text.Wording.{sixteen, userKey}
+use Rattle.model.specs.Text.Unfinished.{lineTotal}
+use Rattle.model.specs.Text.Wording.{Lines, Wording, aKey, atEnd, bKey, badLine, cKey, lines, opKey, orLine, readSeven, readText}
+use Rattle.model.specs.Text.Wording.{ref2Key, refKey, sixteen, userKey}
+use borrow.Author.Tests.{eq-eqb}
 use Rattle.model.specs.Request.Refusals as refusal
 
 -- ---- one line
@@ -130,7 +132,7 @@ tells-line k ks j {A} F o s f t = go (readLine (keyOf k) (F .read) s) refl
     go (got a x) e = tells-behind k ks j s x (atEnd (f a x)) (got-begins k F o s a x e) (t a x)
     go bad e = (1, omega arith, here (bad-begins k F o s e))
 
-tells-end : (m : Wording) (s : List ℕ) → Tells [] 7 s (atEnd (lines m s))
+tells-end : (m : Wording) (s : List ℕ) → Tells [] lineTotal s (atEnd (lines m s))
 tells-end m [] = end
 tells-end m (b ∷ s) = (1, refl, extra)
 

@@ -7,7 +7,6 @@ use native.Mathlib.Omega.{arith}
 use lib.Dec.{eqb, leb}
 use lib.ListN.{drop, length, take}
 use lib.Seq.{take-at}
-use borrow.Author.Tests.{eq-eqb, eqb-true, le-leb, leb-true, lt-leb}
 use Rattle.model.specs.Basics.Cases.{cases, true-or-false}
 use Rattle.model.specs.Request.Words.{requestOf, requestWords}
 use Rattle.model.specs.Text.Given.{Gives, Small}
@@ -15,6 +14,7 @@ use Rattle.model.specs.Text.GivenLaws.{gives-hasText, gives-length, give
 use Rattle.model.specs.Text.Reading.{Reads, answerIn, readAnswer, readNumber, wordsAfter}
 use Rattle.model.specs.Text.Wording.{Lines, Wording, atEnd, badLine, lines, readSeven, readText, sixteen}
 use Rattle.model.specs.Text.Writing.{Writes, bytesAfter, hasText, textOfWords, writeAnswer, writeNumber}
+use borrow.Author.Tests.{eq-eqb, eqb-true, le-leb, leb-true, lt-leb}
 use Rattle.model.specs.Request.Refusals as refusal
 
 -- ---- the writer

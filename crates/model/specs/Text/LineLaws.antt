@@ -5,11 +5,11 @@ use Prim.Native.Nat.{_+_, _≤_, ℕ}
 use native.Mathlib.Omega.{arith}
 use lib.Dec.{eqb}
 use lib.ListN.{length, length-append}
-use borrow.Author.Tests.{eq-eqb, eqb-true}
 use Rattle.model.specs.Basics.Cases.{cases, true-or-false}
 use Rattle.model.specs.Text.Lines.{behind, line, lineEnd, next, readLine}
 use Rattle.model.specs.Text.NumberLaws.{Back, number-back, number-there}
 use Rattle.model.specs.Text.Numbers.{Read, bad, digits, got, most, number}
+use borrow.Author.Tests.{eq-eqb, eqb-true}
 
 -- a value of a line and its two directions, in front of the LF
 pub record Form (A : Type 0) : Type 1 where

@@ -8,7 +8,6 @@ use Prim.Native.Nat.{_+_, _<_, _≤_, ℕ}
 use native.Mathlib.Omega.{arith}
 use lib.Dec.{eqb, ltb}
 use lib.ListN.{length, length-append}
-use borrow.Author.Tests.{ltb-false, ne-eqb}
 use Rattle.model.specs.Basics.Cases.{cases}
 use Rattle.model.specs.Basics.Choice.{pick}
 use Rattle.model.specs.Text.Lines.{lineEnd, readLine}
@@ -20,6 +19,7 @@ use Rattle.model.specs.Text.WeightLaws.{extended, seven-near, weight}
 use Rattle.model.specs.Text.Wording.{Lines, Wording, aKey, bKey, badLine, cKey, lines, opKey, orLine, readSeven, ref2Key, refKey}
 use Rattle.model.specs.Text.Wording.{textOf, userKey}
 use Rattle.model.specs.Text.WordingLaws.{Written, text-back, text-some, text-there}
+use borrow.Author.Tests.{ltb-false, ne-eqb}
 
 -- a request that was read is read in front of any further bytes, too
 pub read-longer : (s : List ℕ) (m : Wording) (x : List ℕ) → readSeven s ≡ lines m x → (y : List ℕ) → readSeven (s ++ y) ≡ lines m (x ++ y)
@@ -38,7 +38,7 @@ orLine-bad k (got a x) f j e g h = h a x e
 orLine-bad k bad f j e g h = g cc
 
 -- Rule 11.4: a bad line is one of the lines 1 to 7.
-pub read-bad : (s : List ℕ) (j : ℕ) → readSeven s ≡ badLine j → (1 ≤ j) × (j ≤ 7)
+pub read-bad : (s : List ℕ) (j : ℕ) → readSeven s ≡ badLine j → (1 ≤ j) × (j ≤ lineTotal)
 unfolding readSeven
 read-bad s j e =
     orLine-bad 1 (readLine userKey number s) _ j e (λ q. (omega arith, omega arith)) λ user s₁ e₁.

@@ -7,9 +7,9 @@ use native.Mathlib.Nat.{pow-suc}
 use native.Mathlib.Omega.{arith}
 use lib.Dec.{eqb, leb, ltb}
 use lib.ListN.{length, length-append}
-use borrow.Author.Tests.{eqb-false, eqb-true, le-leb, le-ltb, leb-true, lt-ltb, ltb-false, ne-eqb}
 use Rattle.model.specs.Basics.Cases.{cases, lt-or-le, true-or-false}
 use Rattle.model.specs.Text.Numbers.{bad, digitCount, digits, got, isDigit, more, most, nineByte, number, spell, zeroByte}
+use borrow.Author.Tests.{eqb-false, eqb-true, le-leb, le-ltb, leb-true, lt-ltb, ltb-false, ne-eqb}
 
 -- ---- writing: the two equations by which code writes a number
 

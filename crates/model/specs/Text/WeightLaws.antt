@@ -4,11 +4,11 @@ use mathlib.Core.Bool.{true}
 use mathlib.Core.List.{List, [], _++_, _∷_}
 use mathlib.Core.Logic.{_⊎_, inl, inr}
 use mathlib.Core.Path.{_∙_, _≡_, ap, refl, sym}
-use Prim.Native.Nat.{_*_, _+_, _-_, _/_, _<_, _≤_, suc, zero, ℕ}
+use Prim.Native.Nat.{_*_, _+_, _-_, _/_, _<_, _≤_, pred, suc, zero, ℕ}
 use native.Mathlib.Omega.{arith}
 use lib.Dec.{eqb, leb}
-use borrow.Author.Tests.{eqb-false, eqb-true, leb-true}
 use Rattle.model.specs.Basics.Cases.{cases, true-or-false}
+use Rattle.model.specs.Request.Words.{nameCount}
 use Rattle.model.specs.Text.LineLaws.{next-back}
 use Rattle.model.specs.Text.Lines.{behind, lineEnd, next, readLine}
 use Rattle.model.specs.Text.NumberLaws.{digit-of}
@@ -16,6 +16,7 @@ use Rattle.model.specs.Text.Numbers.{Read, bad, digitCount, got, isDigit
 use Rattle.model.specs.Text.ReferenceLaws.{reference-digit}
 use Rattle.model.specs.Text.References.{dotByte, further, nameAnd, reference}
 use Rattle.model.specs.Text.Wording.{Lines, aKey, bKey, badLine, cKey, lines, opKey, orLine, readSeven, ref2Key, refKey, userKey}
+use borrow.Author.Tests.{eqb-false, eqb-true, leb-true}
 
 -- what was read, with further bytes behind it
 abbrev pub extended : Lines → List ℕ → Lines
@@ -205,23 +206,24 @@ module _ (f : ℕ → ℕ) (d : ℕ) (digit : (b : ℕ) → isDigit b ≡ true �
 
     -- a reference of four names
     abbrev four : ℕ
-    four = times digitCount d + names 3
+    four = times digitCount d + names (pred nameCount)
 
     reference-near : (s x : List ℕ) → (reference (s ++ x) ≡ longer (reference s) x) ⊎ (weight f s < suc four)
     reference-near [] x = inr (omega arith)
     reference-near (b ∷ s) x =
         cases (true-or-false (isDigit b))
-        (λ h. cases (takes-nameAnd 3 (takes-further 3) .near (b ∷ s) x) (λ c. inl (on h c)) (λ c. inr c))
+        (λ h. cases (takes-nameAnd (pred nameCount) (takes-further 3) .near (b ∷ s) x) (λ c. inl (on h c)) (λ c. inr c))
         (λ h. inl (rw h))
       where
-        on : isDigit b ≡ true → nameAnd 3 (b ∷ (s ++ x)) ≡ longer (nameAnd 3 (b ∷ s)) x → reference (b ∷ (s ++ x)) ≡ longer (reference (b ∷ s)) x
+        on : isDigit b ≡ true → nameAnd (pred nameCount) (b ∷ (s ++ x)) ≡ longer (nameAnd (pred nameCount) (b ∷ s)) x
+            → reference (b ∷ (s ++ x)) ≡ longer (reference (b ∷ s)) x
         on h c = reference-digit (b ∷ (s ++ x)) b (s ++ x) refl h ∙ c ∙ ap (λ r. longer r x) (sym (reference-digit (b ∷ s) b s refl h))
 
     reference-uses : (s ns u : List ℕ) → reference s ≡ got ns u → weight f s ≤ four + weight f u
     reference-uses [] ns u e = omega arith
     reference-uses (b ∷ s) ns u e =
         cases (true-or-false (isDigit b))
-        (λ h. takes-nameAnd 3 (takes-further 3) .uses (b ∷ s) ns u (sym (reference-digit (b ∷ s) b s refl h) ∙ e))
+        (λ h. takes-nameAnd (pred nameCount) (takes-further 3) .uses (b ∷ s) ns u (sym (reference-digit (b ∷ s) b s refl h) ∙ e))
         (λ h. let y : got [] (b ∷ s) ≡ got ns u = rw h at e in let q : b ∷ s ≡ u = cc in rw (← q) (omega arith))
 
     takes-reference : Takes f reference (suc four) four

@@ -1,11 +1,12 @@
 -- Rules 11.1 and 11.2: the text of a request, its seven lines.
 use mathlib.Core.List.{List, [], _++_, _∷_}
-use Prim.Native.Nat.{ℕ}
+use Prim.Native.Nat.{suc, ℕ}
 use Rattle.model.specs.List.Listing.{entry}
 use Rattle.model.specs.Request.Words.{Request, names}
 use Rattle.model.specs.Text.Lines.{line, readLine}
 use Rattle.model.specs.Text.Numbers.{Read, bad, digits, got, number}
 use Rattle.model.specs.Text.References.{joined, reference}
+use Rattle.model.specs.Text.Unfinished.{lineTotal}
 
 -- What a text says: the values of its lines.
 pub record Wording : Type 0 where
@@ -74,7 +75,7 @@ readSeven s =
 -- Rule 11.4: the seventh is the last, and whatever follows it counts as an eighth.
 abbrev pub atEnd : Lines → Lines
 atEnd (lines m []) = lines m []
-atEnd (lines m (b ∷ s)) = badLine 8
+atEnd (lines m (b ∷ s)) = badLine (suc lineTotal)
 atEnd (badLine k) = badLine k
 
 unfoldable pub readText : List ℕ → Lines

@@ -12,6 +12,9 @@ use Rattle.model.specs.Text.Wording.{textOf, wordingOf}
 use Rattle.model.specs.Request.Refusals as refusal
 
 -- Rule 11.3: the refusals of the writer beside 17. Its 5 is no refusal of a step, and leaves no notice.
+abbrev pub wrongSize : ℕ
+wrongSize = refusal.badLength
+
 abbrev pub withoutText : ℕ
 withoutText = refusal.badRequest
 

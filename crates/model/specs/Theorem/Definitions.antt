@@ -13,9 +13,9 @@ use Rattle.model.specs.Request.Operations.{Op, numberOf, toCopy, toRelea
 use Rattle.model.specs.Request.Words.{Request}
 use Rattle.model.specs.State.Secure.{Good}
 use Rattle.model.specs.Tables.Layout.{Bounded}
-use Rattle.model.specs.Tables.Words.{EntityWord, Tables, UserWord, absentKind, authorised, clearance, usedPlaces, current, deviceKind}
-use Rattle.model.specs.Tables.Words.{devices, draftType, held, idBit, kinds, maximum, missed, places, releasedType, releaser, sums}
-use Rattle.model.specs.Tables.Words.{type, userTag}
+use Rattle.model.specs.Tables.Words.{EntityWord, Tables, UserWord, absentKind, authorised, clearance, current, deviceKind, devices}
+use Rattle.model.specs.Tables.Words.{draftType, held, idBit, kinds, maximum, missed, places, releasedType, releaser, sums, type}
+use Rattle.model.specs.Tables.Words.{usedPlaces, userTag}
 
 -- Definition 3 (rule 9.3): a desk is a transform of tables by requests, and the tables that it starts with.
 abbrev pub Transform : Type 0

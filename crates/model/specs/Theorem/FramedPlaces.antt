@@ -14,8 +14,8 @@ use Rattle.model.specs.Tables.EditLaws.{case}
 use Rattle.model.specs.Tables.Edits.{blank, written}
 use Rattle.model.specs.Tables.RowLaws.{without-none}
 use Rattle.model.specs.Tables.Rows.{left, without}
-use Rattle.model.specs.Tables.Words.{EntityWord, Tables, containerKind, used, usedPlaces, kind, kinds, level, mark, maximum, place}
-use Rattle.model.specs.Tables.Words.{places, releaser, shown, sums, triple, triples, type, value}
+use Rattle.model.specs.Tables.Words.{EntityWord, Tables, containerKind, kind, kinds, level, mark, maximum, place, places, releaser}
+use Rattle.model.specs.Tables.Words.{shown, sums, triple, triples, type, used, usedPlaces, value}
 use Rattle.model.specs.Theorem.MayChange.{Frame, contentWord, holder, wordOrRow}
 use Rattle.model.specs.Theorem.Untouched.{TouchesOnly, both-only, entity-left, row-only, word-left, word-only}
 

@@ -6,8 +6,8 @@ use lib.Dec.{T}
 use Rattle.model.specs.Effect.Notice.{notice}
 use Rattle.model.specs.Request.Words.{Request}
 use Rattle.model.specs.Tables.EditLaws.{elsewhere}
-use Rattle.model.specs.Tables.Words.{Tables, UserWord, authorised, clearance, used, current, device, devices, held, heldOp, kind}
-use Rattle.model.specs.Tables.Words.{level, maximum, missed, place, present, releaser, shown, spare, type}
+use Rattle.model.specs.Tables.Words.{Tables, UserWord, authorised, clearance, current, device, devices, held, heldOp, kind, level}
+use Rattle.model.specs.Tables.Words.{maximum, missed, place, present, releaser, shown, spare, type, used}
 use Rattle.model.specs.Theorem.Definitions.{Obeys, Quiet, ShowsId, noticeWord}
 use Rattle.model.specs.Theorem.LawfulSame.{downgrade-same, release-same, set-same}
 

@@ -17,7 +17,7 @@ use Rattle.model.specs.Request.Words.{Request}
 use Rattle.model.specs.Tables.EditLaws.{case}
 use Rattle.model.specs.Tables.RowLaws.{sought}
 use Rattle.model.specs.Tables.Rows.{Sought, left, replace, without}
-use Rattle.model.specs.Tables.Words.{Tables, containerKind, usedPlaces, deviceKind, devices, idBit, kinds, places, sums}
+use Rattle.model.specs.Tables.Words.{Tables, containerKind, deviceKind, devices, idBit, kinds, places, sums, usedPlaces}
 use Rattle.model.specs.Theorem.Definitions.{NamedOpenly, ShowsId}
 use Rattle.model.specs.Theorem.Statements.{Ids}
 

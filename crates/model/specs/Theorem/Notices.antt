@@ -8,7 +8,7 @@ use Prim.Native.Nat.{_≤_, suc, ℕ}
 use native.Mathlib.Omega.{arith}
 use lib.Dec.{eqb, ltb}
 use Rattle.model.specs.Basics.Choice.{Below, Same, below, it, other, pick, same}
-use Rattle.model.specs.Effect.Notice.{missedMore, keepFirst, notice}
+use Rattle.model.specs.Effect.Notice.{keepFirst, missedMore, notice}
 use Rattle.model.specs.Effect.Words.{acknowledge}
 use Rattle.model.specs.Request.After.{after, effect, noticedOp}
 use Rattle.model.specs.Request.AfterLaws.{after-accepted, after-each, effect-by}
