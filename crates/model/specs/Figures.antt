@@ -21,7 +21,7 @@ use Rattle.model.specs.Tables.Words.{lastNoticed, missedMost, objectKind
 use Rattle.model.specs.Tables.Words.{plainType, positionCount, positionOf, releasedType, spareCount, sumMost, tripleOf, userCount}
 use Rattle.model.specs.Tables.Words.{valueBit, whoMost, whoOf, whoRole, whoWeight}
 use Rattle.model.specs.Text.Lines.{lineEnd}
-use Rattle.model.specs.Text.Numbers.{digitCount, most, nineByte, zeroByte}
+use Rattle.model.specs.Text.Numbers.{base, digitCount, digitsEnd, most, nineByte, zeroByte}
 use Rattle.model.specs.Text.References.{dotByte}
 use Rattle.model.specs.Text.Unfinished.{lineTotal, longest}
 use Rattle.model.specs.Request.Refusals as refusal
@@ -104,8 +104,8 @@ pub lists-are : (entryWords ≡ 5) × (valueAndLabel ≡ 3) × (mostEntries ≡ 
 lists-are = (refl, refl, refl)
 
 -- Rule 11.2: the largest number has ten digits; rule 11.1: a text has seven lines, and by rule 11.2 at most 166 bytes.
-pub texts-are : (most ≡ 4294967295) × (digitCount ≡ 10) × (lineTotal ≡ 7) × (longest ≡ 166)
-texts-are = (refl, refl, refl, refl)
+pub texts-are : (most ≡ 4294967295) × (digitCount ≡ 10) × (base ≡ 10) × (digitsEnd ≡ base ^ digitCount) × (lineTotal ≡ 7) × (longest ≡ 166)
+texts-are = (refl, refl, refl, refl, refl, refl)
 
 -- Rules 11.1 and 11.2: LF, the dot, and the digits from 0 to 9.
 pub bytes-are : (lineEnd ≡ 10) × (dotByte ≡ 46) × (zeroByte ≡ 48) × (nineByte ≡ 57)
