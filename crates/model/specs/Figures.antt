@@ -74,7 +74,7 @@ weights-are = (refl, refl)
 pub triple-parts : (t : ℕ) → t ≡ tripleOf (whoOf t) (operationIn t) (positionOf t)
 triple-parts t = omega arith
 
--- Rules 3.19, 3.21 and 3.22: refusals held, their count, operations and positions.
+-- Rules 3.19, 3.21 and 3.22: refusals held, the number missed, operations and positions.
 pub limits-are : (firstNoticed ≡ 5) × (lastNoticed ≡ 16) × (missedMost ≡ 65535) × (operationCount ≡ 20) × (positionCount ≡ 2)
 limits-are = (refl, refl, refl, refl, refl)
 

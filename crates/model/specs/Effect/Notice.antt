@@ -10,7 +10,7 @@ abbrev pub keepFirst : Bool → ℕ → ℕ → ℕ
 keepFirst true new old = new
 keepFirst false new old = old
 
--- the count, by whether it is still under its limit: one more, else it stops.
+-- the number missed, by whether it is still under its greatest: one more, else it stops there.
 abbrev pub missedMore : Bool → ℕ → ℕ
 missedMore true m = suc m
 missedMore false m = missedMost

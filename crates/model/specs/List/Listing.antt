@@ -16,7 +16,7 @@ use Rattle.model.specs.State.Check.{check}
 use Rattle.model.specs.Tables.Layout.{tablesOf}
 use Rattle.model.specs.Request.Refusals as refusal
 
--- Rule 10.4: an entry is five words, the length and four names, zero behind the length.
+-- Rule 10.4: an entry is five words, the length and four names; those past the length are zero.
 abbrev pub entryWords : ℕ
 entryWords = 5
 
@@ -59,7 +59,7 @@ listAnswer b l n = pick (eqb b refusal.accepted) (pick (leb (entryWords * length
 abbrev pub listNumber : ℕ → List (List ℕ) → ℕ
 listNumber b l = pick (eqb b refusal.accepted) (length l) 0
 
--- Rule 10.7: with 0 the entries stand at the front and the words behind them stay; with a refusal all stay.
+-- Rule 10.7: with 0 the entries stand at the front and the words after them stay; with a refusal all stay.
 abbrev pub roomAfter : ℕ → List (List ℕ) → List ℕ → List ℕ
 roomAfter a l room = pick (eqb a refusal.accepted) (entries l ++ drop (length (entries l)) room) room
 

@@ -126,7 +126,7 @@ module _ (t : List ℕ) (u : ℕ) (room : List ℕ) where
     words = refl;
   }
 
-  -- Rule 10.7: with room enough the entries stand at its front, and the words behind them stay.
+  -- Rule 10.7: with room enough the entries stand at its front, and the words after them stay.
   pub lists-written : (r : List ℕ) → barred t u ≡ refusal.accepted → entryWords * length (found (tablesOf t) u) ≤ length room
       → r ≡ entries (found (tablesOf t) u) ++ drop (length (entries (found (tablesOf t) u))) room
       → Lists t u room refusal.accepted (length (found (tablesOf t) u)) r

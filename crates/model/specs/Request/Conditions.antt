@@ -10,6 +10,7 @@ use Rattle.model.specs.Request.Asked.{Asked, hasRole, namedTriple, own}
 use Rattle.model.specs.State.Check.{parent, secureTest}
 use Rattle.model.specs.State.Climb.{climb}
 use Rattle.model.specs.State.Secure.{labelled}
+use Rattle.model.specs.Tables.Kinds.{screen}
 use Rattle.model.specs.Tables.Rows.{seek}
 use Rattle.model.specs.Tables.Words.{Tables, authorised, clearance, containerKind, current, deviceKind, devices, draftType}
 use Rattle.model.specs.Tables.Words.{entityCount, held, kinds, level, missed, objectKind, operationCount, placeCount, places}
@@ -28,6 +29,7 @@ isEntity d e = leb objectKind (kinds d e) && leb (kinds d e) containerKind
 unfoldable pub isContainer : Kind
 isContainer d e = eqb (kinds d e) containerKind
 
+-- Rule 5.5 has one word, device, for what is logged on to and for what shows things: one test for login and for the two levels of a screen.
 unfoldable pub isDevice : Kind
 isDevice d e = eqb (kinds d e) deviceKind
 
@@ -94,7 +96,7 @@ createNoRoom d s = not (leb (vacant d) entityCount) || leb placeCount (usedPlace
 
 -- Rule 6.2: e stands on a device, whoever's.
 unfoldable pub onScreen : Tables → ℕ → Bool
-onScreen d e = not (every entityCount (λ v. imp (eqb (kinds d (suc v)) deviceKind)
+onScreen d e = not (every entityCount (λ v. imp (screen (kinds d (suc v)))
     (not (ltb (seek e (places d (suc v)) (usedPlaces d (suc v))) (usedPlaces d (suc v))))))
 
 -- Rule 6.2, 15: it holds something, is on a screen, or is released.
@@ -164,6 +166,6 @@ deviceAbove d s = not (atMost (levelOf d (s .first)) (s .a))
 unfoldable pub deviceLowered : Condition
 deviceLowered d s = lower (s .a) (levelOf d (s .first)) && (not (eqb (s .first) (own d s)) && lacks downgrader d s)
 
--- Rule 6.20, 16: nothing is held, or another refusal or count.
+-- Rule 6.20, 16: nothing is held, or another refusal or number.
 unfoldable pub notAcknowledged : Condition
 notAcknowledged d s = eqb (d .user (s .user) held) 0 || (not (eqb (s .a) (d .user (s .user) held)) || not (eqb (s .b) (d .user (s .user) missed)))

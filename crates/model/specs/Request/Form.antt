@@ -9,7 +9,7 @@ use Rattle.model.specs.Request.Operations.{toMove, toRelease, toRevoke, 
 use Rattle.model.specs.Request.Words.{Reference, Request, nameCount}
 use Rattle.model.specs.Tables.Words.{operationCount, positionCount, sumMost, userCount, whoMost}
 
--- Rule 5.4: a reference that an operation takes has 1 to 4 names, and its name words behind them are zero;
+-- Rule 5.4: a reference that an operation takes has 1 to 4 names, and its name words after them are zero;
 abbrev pub Named : Reference → Type 0
 Named r = (1 ≤ r .length) × (r .length ≤ nameCount) × ((i : ℕ) → i < nameCount → r .length ≤ i → r .name i ≡ 0)
 

@@ -42,7 +42,7 @@ notSecure d q = not (secureTest d)
 unfoldable pub unknownUser : Rung
 unknownUser d q = not ((leb 1 (q .user) && leb (q .user) userCount) && not (eqb (d .user (q .user) present) 0))
 
--- Rule 7.5: a reference that is used has 1 to 4 names, another none, and the words behind its names are zero;
+-- Rule 7.5: a reference that is used has 1 to 4 names, another none, and the words after its names are zero;
 unfoldable pub lengthFits : ℕ → List Kind → Reference → Bool
 lengthFits k [] r = eqb (r .length) 0
 lengthFits zero (x ∷ xs) r = leb 1 (r .length) && leb (r .length) nameCount

@@ -55,7 +55,7 @@ missedKey = 109 ∷ 105 ∷ 115 ∷ 115 ∷ 101 ∷ 100 ∷ 61 ∷ []
 unfoldable pub reportText : Report → List ℕ
 reportText r = line answerKey (digits (r .answer)) ++ (line heldKey (digits (r .held)) ++ line missedKey (digits (r .missed)))
 
--- and those of all reports, one behind another.
+-- and those of all reports, one after another.
 unfoldable pub output : List Report → List ℕ
 output [] = []
 output (r ∷ rs) = reportText r ++ output rs

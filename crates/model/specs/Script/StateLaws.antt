@@ -70,7 +70,7 @@ unfolding bytesOf
 bytes-length [] = refl
 bytes-length (v ∷ w) = omega (arith, bytes-length w)
 
--- a place behind the first four bytes
+-- a place after the first four bytes
 later : (a b c d : ℕ) (s : List ℕ) (i j : ℕ) → i ≡ suc (suc (suc (suc j))) → getD (a ∷ b ∷ c ∷ d ∷ s) i 0 ≡ getD s j 0
 later a b c d s i j e = rw e
 

@@ -12,6 +12,7 @@ use Rattle.model.specs.Level.{levelCount, roleSets}
 use Rattle.model.specs.State.Tests.{accessTest, entityTest, filledTest, nobodyTest, noneTest, noticeTest, packedTest, shapeTest}
 use Rattle.model.specs.State.Tests.{tripleTest, userTest}
 use Rattle.model.specs.State.WellFormed.{Access, EntityOk, Filled, GoodTriple, Notice, Shape, UserOk}
+use Rattle.model.specs.Tables.Kinds.{Screen}
 use Rattle.model.specs.Tables.RowLaws.{first-zero}
 use Rattle.model.specs.Tables.Rows.{Packed, seek}
 use Rattle.model.specs.Tables.Words.{EntityWord, UserWord, authorised, clearance, containerKind, current, device, deviceKind}
@@ -26,7 +27,7 @@ unfolding shapeTest
 shape-agrees k t l m v r x = agrees-as
     {P = (k ≤ deviceKind) × ((t ≤ releasedType) × ((l < levelCount) × ((m ≤ 1)
     × ((x < levelCount) × ((t ≢ plainType → k ≡ containerKind) × ((m ≢ 0 → k ≡ containerKind)
-    × ((t ≡ releasedType → (1 ≤ r) × (r ≤ userCount)) × ((t ≢ releasedType → r ≡ 0) × ((k ≢ deviceKind → x ≡ 0) × (k ≡ deviceKind → v ≡ 0))))))))))}
+    × ((t ≡ releasedType → (1 ≤ r) × (r ≤ userCount)) × ((t ≢ releasedType → r ≡ 0) × (((¬ Screen k) → x ≡ 0) × (Screen k → v ≡ 0))))))))))}
     (λ z. search) (λ s. search) (search agreement depth 20)
 
 -- a row of eight is zero from its eighth place on
@@ -72,8 +73,8 @@ notice-agrees h o n = agrees-as
 pub filled-agrees : (k n : ℕ) (at sum : ℕ → ℕ) → Eight at → Eight sum → Agrees (filledTest k n at sum) (Filled k n at sum)
 unfolding filledTest
 filled-agrees k n at sum ea es = agrees-as
-    {P = Packed at n × ((k ≡ objectKind → n ≡ 0) × ((k ≡ deviceKind → (i : ℕ) → i < placeCount → i < n → (1 ≤ sum i) × (sum i ≤ sumMost))
-    × ((k ≢ deviceKind → (i : ℕ) → i < placeCount → sum i ≡ 0) × ((i : ℕ) → i < placeCount → n ≤ i → sum i ≡ 0))))}
+    {P = Packed at n × ((k ≡ objectKind → n ≡ 0) × ((Screen k → (i : ℕ) → i < placeCount → i < n → (1 ≤ sum i) × (sum i ≤ sumMost))
+    × (((¬ Screen k) → (i : ℕ) → i < placeCount → sum i ≡ 0) × ((i : ℕ) → i < placeCount → n ≤ i → sum i ≡ 0))))}
     (λ z. record {
       packed = z .0;
       objectEmpty = z .1 .0;

@@ -18,10 +18,11 @@ use Rattle.model.specs.State.ParentLaws.{entity-out, row-room}
 use Rattle.model.specs.State.Secure.{Good, Secure, labelled}
 use Rattle.model.specs.State.WellFormed.{Holds, WellFormed}
 use Rattle.model.specs.Tables.EditLaws.{case}
+use Rattle.model.specs.Tables.Kinds.{Screen}
 use Rattle.model.specs.Tables.Layout.{Bounded, tablesOf, wordCount}
 use Rattle.model.specs.Tables.LayoutLaws.{bounded}
-use Rattle.model.specs.Tables.Words.{Tables, authorised, clearance, current, device, deviceKind, devices, entityCount, kinds, level}
-use Rattle.model.specs.Tables.Words.{maximum, placeCount, places, sums, usedPlaces, userCount}
+use Rattle.model.specs.Tables.Words.{Tables, authorised, clearance, current, device, devices, entityCount, kinds, level, maximum}
+use Rattle.model.specs.Tables.Words.{placeCount, places, sums, usedPlaces, userCount}
 use Rattle.model.specs.Request.Refusals as refusal
 
 module _ (d : Tables) (w : WellFormed d) where
@@ -45,9 +46,9 @@ module _ (d : Tables) (w : WellFormed d) where
       (λ s n i h l. s (places d (devices d u) i) n (i, l, refl))
       (search (agreement, agrees-T))
 
-  labelled-agrees : (e : ℕ) → Agrees (labelledTest d e) ((i : ℕ) → kinds d e ≡ deviceKind → i < usedPlaces d e → T (labelled (sums d e i)))
+  labelled-agrees : (e : ℕ) → Agrees (labelledTest d e) ((i : ℕ) → Screen (kinds d e) → i < usedPlaces d e → T (labelled (sums d e i)))
   unfolding labelledTest
-  labelled-agrees e = agrees-as {P = kinds d e ≡ deviceKind → (i : ℕ) → i < placeCount → i < usedPlaces d e → T (labelled (sums d e i))}
+  labelled-agrees e = agrees-as {P = Screen (kinds d e) → (i : ℕ) → i < placeCount → i < usedPlaces d e → T (labelled (sums d e i))}
       (λ f i k l. f k i (omega (arith, row-room d w e)) l)
       (λ s k i h l. s i k l)
       (search (agreement, agrees-T))
@@ -56,7 +57,7 @@ module _ (d : Tables) (w : WellFormed d) where
   unfolding rolesTest
   roles-agrees u = agrees-T (subset roleCount (d .user u current) (d .user u authorised))
 
-  ceiling-agrees : (e : ℕ) → Agrees (ceilingTest d e) (kinds d e ≡ deviceKind → AtMost (d .entity e level) (d .entity e maximum))
+  ceiling-agrees : (e : ℕ) → Agrees (ceilingTest d e) (Screen (kinds d e) → AtMost (d .entity e level) (d .entity e maximum))
   unfolding ceilingTest
   ceiling-agrees e = search (agreement, agrees-T)
 
@@ -66,9 +67,9 @@ module _ (d : Tables) (w : WellFormed d) where
   secure-agrees = agrees-as
       {P = ((e c : ℕ) → Holds d e c → AtMost (d .entity c level) (d .entity e level))
       × (((u c : ℕ) → devices d u ≢ 0 → Holds d (devices d u) c → AtMost (d .entity c level) (d .user u clearance))
-      × (((e i : ℕ) → kinds d e ≡ deviceKind → i < usedPlaces d e → T (labelled (sums d e i)))
+      × (((e i : ℕ) → Screen (kinds d e) → i < usedPlaces d e → T (labelled (sums d e i)))
       × (((u : ℕ) → Subset roleCount (d .user u current) (d .user u authorised))
-      × ((e : ℕ) → kinds d e ≡ deviceKind → AtMost (d .entity e level) (d .entity e maximum)))))}
+      × ((e : ℕ) → Screen (kinds d e) → AtMost (d .entity e level) (d .entity e maximum)))))}
       (λ z. record { contained = z .0; seen = z .1 .0; valueLabelled = z .1 .1 .0; roles = z .1 .1 .1 .0; ceiling = z .1 .1 .1 .1 })
       (λ s. (s .contained, (s .seen, (s .valueLabelled, (s .roles, s .ceiling)))))
       (agrees-and (agrees-range entityCount (containedTest d) (λ e. (c : ℕ) → Holds d e c → AtMost (d .entity c level) (d .entity e level)) contained-agrees
@@ -77,11 +78,11 @@ module _ (d : Tables) (w : WellFormed d) where
       (d .user u clearance)) seen-agrees
       (λ c n m. absurd (n (o .userOut 0 (inl refl) device))) (λ u q c n m. absurd (n (o .userOut u (inr q) device))))
       (agrees-and (agrees-range entityCount (labelledTest d)
-      (λ e. (i : ℕ) → kinds d e ≡ deviceKind → i < usedPlaces d e → T (labelled (sums d e i))) labelled-agrees
+      (λ e. (i : ℕ) → Screen (kinds d e) → i < usedPlaces d e → T (labelled (sums d e i))) labelled-agrees
       (λ i k l. absurd (omega (arith, entity-out d w 0 (inl refl)))) (λ e q i k l. absurd (omega (arith, entity-out d w e (inr q)))))
       (agrees-and (agrees-range userCount (rolesTest d) (λ u. Subset roleCount (d .user u current) (d .user u authorised)) roles-agrees
       (no-roles 0 (inl refl)) (λ u q. no-roles u (inr q)))
-      (agrees-range entityCount (ceilingTest d) (λ e. kinds d e ≡ deviceKind → AtMost (d .entity e level) (d .entity e maximum)) ceiling-agrees
+      (agrees-range entityCount (ceilingTest d) (λ e. Screen (kinds d e) → AtMost (d .entity e level) (d .entity e maximum)) ceiling-agrees
       (λ k. absurd (omega (arith, entity-out d w 0 (inl refl)))) (λ e q k. absurd (omega (arith, entity-out d w e (inr q)))))))))
     where
       no-roles : (u : ℕ) → (u ≡ 0) ⊎ (userCount < u) → Subset roleCount (d .user u current) (d .user u authorised)

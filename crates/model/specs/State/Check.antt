@@ -11,10 +11,11 @@ use Rattle.model.specs.Level.{atMost, roleCount, subset}
 use Rattle.model.specs.State.Climb.{up}
 use Rattle.model.specs.State.Secure.{labelled}
 use Rattle.model.specs.State.Tests.{entityTest, userTest}
+use Rattle.model.specs.Tables.Kinds.{screen, terminal}
 use Rattle.model.specs.Tables.Layout.{tablesOf, wordCount}
 use Rattle.model.specs.Tables.Rows.{seek}
-use Rattle.model.specs.Tables.Words.{Tables, authorised, clearance, containerKind, current, deviceKind, devices, entityCount, kinds}
-use Rattle.model.specs.Tables.Words.{level, maximum, objectKind, placeCount, places, sums, usedPlaces, userCount}
+use Rattle.model.specs.Tables.Words.{Tables, authorised, clearance, containerKind, current, devices, entityCount, kinds, level}
+use Rattle.model.specs.Tables.Words.{maximum, objectKind, placeCount, places, sums, usedPlaces, userCount}
 use Rattle.model.specs.Request.Refusals as refusal
 
 -- a stands directly in the container b
@@ -44,18 +45,18 @@ oneTest k n at dev = every entityCount (λ a. imp (eqb (k (suc a)) containerKind
 unfoldable pub loopTest : (k n : ℕ → ℕ) (at : ℕ → ℕ → ℕ) (dev : ℕ → ℕ) → Bool
 loopTest k n at dev = every entityCount (λ e. up (parent k n at) (suc entityCount) (suc e))
 
--- Rule 3.15: who is on is on a device.
+-- Rule 3.15: who is on is on what is logged on to.
 unfoldable pub deviceTest : (k n : ℕ → ℕ) (at : ℕ → ℕ → ℕ) (dev : ℕ → ℕ) → Bool
-deviceTest k n at dev = every userCount (λ u. imp (not (eqb (dev (suc u)) 0)) (eqb (k (dev (suc u))) deviceKind))
+deviceTest k n at dev = every userCount (λ u. imp (not (eqb (dev (suc u)) 0)) (terminal (k (dev (suc u)))))
 
 -- Rule 3.16: one user to a device.
 unfoldable pub aloneTest : (k n : ℕ → ℕ) (at : ℕ → ℕ → ℕ) (dev : ℕ → ℕ) → Bool
 aloneTest k n at dev = every userCount (λ u. every userCount (λ v. imp (not (eqb (dev (suc u)) 0))
     (imp (eqb (dev (suc u)) (dev (suc v))) (eqb (suc u) (suc v)))))
 
--- Rule 3.18: a screen without a user is empty.
+-- Rule 3.18: what is logged on to and has no user shows nothing.
 unfoldable pub idleTest : (k n : ℕ → ℕ) (at : ℕ → ℕ → ℕ) (dev : ℕ → ℕ) → Bool
-idleTest k n at dev = every entityCount (λ e. imp (eqb (k (suc e)) deviceKind)
+idleTest k n at dev = every entityCount (λ e. imp (terminal (k (suc e)))
     (imp (every userCount (λ u. not (eqb (dev (suc u)) (suc e)))) (eqb (n (suc e)) 0)))
 
 unfoldable pub linksTest : (k n : ℕ → ℕ) (at : ℕ → ℕ → ℕ) (dev : ℕ → ℕ) → Bool
@@ -78,15 +79,15 @@ seenTest d u = imp (not (eqb (devices d u) 0))
 
 -- Rule 4.3: no value without its label.
 unfoldable pub labelledTest : Tables → ℕ → Bool
-labelledTest d e = imp (eqb (kinds d e) deviceKind) (every placeCount (λ i. imp (ltb i (usedPlaces d e)) (labelled (sums d e i))))
+labelledTest d e = imp (screen (kinds d e)) (every placeCount (λ i. imp (ltb i (usedPlaces d e)) (labelled (sums d e i))))
 
 -- Rule 4.4: nobody acts with a role that is not authorised.
 unfoldable pub rolesTest : Tables → ℕ → Bool
 rolesTest d u = subset roleCount (d .user u current) (d .user u authorised)
 
--- Rule 4.5: no device is set above its maximum.
+-- Rule 4.5: nothing that shows things is set above its maximum.
 unfoldable pub ceilingTest : Tables → ℕ → Bool
-ceilingTest d e = imp (eqb (kinds d e) deviceKind) (atMost (d .entity e level) (d .entity e maximum))
+ceilingTest d e = imp (screen (kinds d e)) (atMost (d .entity e level) (d .entity e maximum))
 
 -- Rule 4, all of it.
 unfoldable pub secureTest : Tables → Bool

@@ -13,7 +13,7 @@ userWordOf t i = getD (present ∷ clearance ∷ authorised ∷ current ∷ devi
 unfoldable pub entityWordOf : ℕ → ℕ → EntityWord
 entityWordOf t i = getD (kind ∷ type ∷ level ∷ mark ∷ value ∷ releaser ∷ maximum ∷ used ∷ place i ∷ shown i ∷ triple i ∷ []) t kind
 
--- the word m words behind the start of a user's record: eight single words, then the spare ones
+-- the word m words after the start of a user's record: eight single words, then the spare ones
 unfoldable pub userWordAt : ℕ → UserWord
 userWordAt m = userWordOf (min m 8) (m - 8)
 

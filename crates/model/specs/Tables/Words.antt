@@ -21,7 +21,7 @@ pub data UserWord : Type 0 where
   present clearance authorised current device held heldOp missed : UserWord
   spare : ℕ → UserWord
 
--- Rule 2.3: the words of an entity. `count` is the number of places used; the three rows are counted from 0.
+-- Rule 2.3: the words of an entity. `used` is the number of places in use; the three rows are numbered from 0.
 pub data EntityWord : Type 0 where
   kind type level mark value releaser maximum used : EntityWord
   place shown triple : ℕ → EntityWord
@@ -100,7 +100,7 @@ operationCount = 20
 abbrev pub positionCount : ℕ
 positionCount = 2
 
--- Rule 3.19: the refusals of which a notice is kept; rule 3.21: where its count stops.
+-- Rule 3.19: the refusals of which a notice is kept; rule 3.21: where the number missed stops.
 abbrev pub firstNoticed : ℕ
 firstNoticed = refusal.badRequest
 

@@ -112,16 +112,16 @@ first-some extra = omega arith
 
 -- ---- reading
 
--- what a whole text's reading says of the bytes s, which are to be lines of the sorts ks behind j good ones
+-- what a whole text's reading says of the bytes s, which are to be lines of the sorts ks after j good ones
 abbrev Tells : List Sort → ℕ → List ℕ → Lines → Type 0
 Tells ks j s (lines m []) = Whole ks s
 Tells ks j s (lines m (b ∷ x)) = ⊥
 Tells ks j s (badLine k) = (n : ℕ) × (k ≡ j + n) × FirstBad ks s n
 
-tells-behind : (k : Sort) (ks : List Sort) (j : ℕ) (s x : List ℕ) (l : Lines) → Begins k s x → Tells ks (suc j) x l → Tells (k ∷ ks) j s l
-tells-behind k ks j s x (lines m []) b t = onward b t
-tells-behind k ks j s x (lines m (c ∷ y)) b t = t
-tells-behind k ks j s x (badLine i) b t = (suc (t .0), omega (arith, t .1), later b (t .2))
+tells-after : (k : Sort) (ks : List Sort) (j : ℕ) (s x : List ℕ) (l : Lines) → Begins k s x → Tells ks (suc j) x l → Tells (k ∷ ks) j s l
+tells-after k ks j s x (lines m []) b t = onward b t
+tells-after k ks j s x (lines m (c ∷ y)) b t = t
+tells-after k ks j s x (badLine i) b t = (suc (t .0), omega (arith, t .1), later b (t .2))
 
 tells-line : (k : Sort) (ks : List Sort) (j : ℕ) {A : Type 0} (F : Form A) → Sorted k F → (s : List ℕ) (f : A → List ℕ → Lines)
     → ((a : A) (x : List ℕ) → Tells ks (suc j) x (atEnd (f a x)))
@@ -129,7 +129,7 @@ tells-line : (k : Sort) (ks : List Sort) (j : ℕ) {A : Type 0} (F : Form A) →
 tells-line k ks j {A} F o s f t = go (readLine (keyOf k) (F .read) s) refl
   where
     go : (r : Read A) → readLine (keyOf k) (F .read) s ≡ r → Tells (k ∷ ks) j s (atEnd (orLine (suc j) r f))
-    go (got a x) e = tells-behind k ks j s x (atEnd (f a x)) (got-begins k F o s a x e) (t a x)
+    go (got a x) e = tells-after k ks j s x (atEnd (f a x)) (got-begins k F o s a x e) (t a x)
     go bad e = (1, omega arith, here (bad-begins k F o s e))
 
 tells-end : (m : Wording) (s : List ℕ) → Tells [] lineTotal s (atEnd (lines m s))

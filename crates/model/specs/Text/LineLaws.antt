@@ -79,7 +79,7 @@ pub length-line : (key v : List ℕ) → length (line key v) ≡ length key + (l
 unfolding line
 length-line key v = rw (length-append key (v ++ (lineEnd ∷ [])), length-append v (lineEnd ∷ []))
 
--- a key, what stands behind it, and LF are a line
+-- a key, what stands after it, and LF are a line
 pub is-line : (key v : List ℕ) → (key ++ v) ++ (lineEnd ∷ []) ≡ line key v
 unfolding line
 is-line key v = append-assoc key v (lineEnd ∷ [])

@@ -1,4 +1,4 @@
--- Reading a request looks no further than it must: bytes behind a request do not change what is read, a request that is read takes bytes away, and a
+-- Reading a request looks no further than it must: bytes after a request do not change what is read, a request that is read takes bytes away, and a
 -- bad line is one of the seven.
 use mathlib.Core.Bool.{Bool, _&&_, false, true}
 use mathlib.Core.List.{List, [], _++_, _∷_, append-assoc}
@@ -31,7 +31,7 @@ read-longer s m x e y =
 pub read-shorter : (s : List ℕ) (m : Wording) (x : List ℕ) → readSeven s ≡ lines m x → length x < length s
 read-shorter s m x e = rw (text-back s m x e .1, length-append (textOf m) x) (omega (arith, text-some m))
 
--- a bad line is the one at hand, or one behind it
+-- a bad line is the one at hand, or one after it
 orLine-bad : {A C : Type 0} (k : ℕ) (r : Read A) (f : A → List ℕ → Lines) (j : ℕ) → orLine k r f ≡ badLine j → (k ≡ j → C)
     → ((a : A) (x : List ℕ) → f a x ≡ badLine j → C) → C
 orLine-bad k (got a x) f j e g h = h a x e

@@ -14,7 +14,7 @@ use borrow.Author.Tests.{eqb-false, eqb-true, le-leb, le-ltb, leb-true, lt-ltb, 
 
 -- ---- writing: the two equations by which code writes a number
 
--- what follows stands behind the digits
+-- what follows stands after the digits
 spell-onto : (k n : ℕ) (x y : List ℕ) → spell k n (x ++ y) ≡ spell k n x ++ y
 spell-onto zero n x y = refl
 spell-onto (suc k) n x y =
@@ -36,7 +36,7 @@ pub digits-small : (n : ℕ) → n < base → digits n ≡ (zeroByte + n) ∷ []
 unfolding digits
 digits-small n h = rw (lt-ltb n base h)
 
--- and any other one its last digit behind those of its tenth
+-- and any other one its last digit after those of its tenth
 pub digits-step : (n : ℕ) → base ≤ n → n < digitsEnd → digits n ≡ digits (n / base) ++ ((zeroByte + n % base) ∷ [])
 unfolding digits
 digits-step n h l =
@@ -150,7 +150,7 @@ number-back (b ∷ s) n rest e =
     rw (digits-byte b d) at w))
     (λ h. let z : bad ≡ got n rest = rw h at e in let y : _≡_ {A = ℕ} 0 1 = cc in absurd (omega arith))
 
--- a digit more behind leaves the first byte
+-- a digit more after leaves the first byte
 digits-longer : (n b : ℕ) (s : List ℕ) → base ≤ n → n ≤ most → digits (n / base) ≡ b ∷ s → digits n ≡ b ∷ (s ++ ((zeroByte + n % base) ∷ []))
 digits-longer n b s h l e = digits-step n h (omega arith) ∙ ap (λ d. d ++ ((zeroByte + n % base) ∷ [])) e
 

@@ -5,7 +5,7 @@ use Prim.Native.Nat.{_%_, _*_, _+_, _-_, _/_, suc, zero, ℕ}
 use lib.Dec.{eqb, leb, ltb}
 use Rattle.model.specs.Basics.Choice.{pick}
 
--- What reading the front of some bytes gives: a value and the bytes behind it, or that there is none.
+-- What reading the front of some bytes gives: a value and the bytes after it, or that there is none.
 pub data Read (A : Type 0) : Type 0 where
   got : A → List ℕ → Read A
   bad : Read A
@@ -53,7 +53,7 @@ more v (b ∷ bs) =
     (got v (b ∷ bs))
 
 -- Rule 11.2: a number at the front of some bytes: 0 alone, or digits of which the first is not 0. It is read as far as its digits go, and
--- so a digit behind a leading 0 is left over.
+-- so a digit after a leading 0 is left over.
 abbrev pub number : List ℕ → Read ℕ
 number [] = bad
 number (b ∷ bs) = pick (isDigit b) (pick (eqb b zeroByte) (got 0 bs) (more (b - zeroByte) bs)) bad

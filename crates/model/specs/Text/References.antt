@@ -21,7 +21,7 @@ abbrev pub joined : List ℕ → List ℕ
 joined [] = []
 joined (n ∷ ns) = digits n ++ dotted ns
 
--- at most k further names, each behind a dot
+-- at most k further names, each after a dot
 abbrev pub further : ℕ → List ℕ → Read (List ℕ)
 further zero s = got [] s
 further (suc k) [] = got [] []

@@ -18,7 +18,7 @@ use Rattle.model.specs.Text.References.{dotByte, further, nameAnd, refer
 use Rattle.model.specs.Text.Wording.{Lines, aKey, bKey, badLine, cKey, lines, opKey, orLine, readSeven, ref2Key, refKey, userKey}
 use borrow.Author.Tests.{eqb-false, eqb-true, leb-true}
 
--- what was read, with further bytes behind it
+-- what was read, with further bytes after it
 abbrev pub extended : Lines → List ℕ → Lines
 extended (lines m u) x = lines m (u ++ x)
 extended (badLine k) x = badLine k
@@ -33,7 +33,7 @@ abbrev pub times : ℕ → ℕ → ℕ
 times zero d = 0
 times (suc k) d = d + times k d
 
--- what was read, with further bytes behind it
+-- what was read, with further bytes after it
 abbrev longer : {A : Type 0} → Read A → List ℕ → Read A
 longer (got a u) x = got a (u ++ x)
 longer bad x = bad
@@ -43,7 +43,7 @@ record Takes {A : Type 0} (f : ℕ → ℕ) (r : List ℕ → Read A) (n m : ℕ
   near : (w x : List ℕ) → (r (w ++ x) ≡ longer (r w) x) ⊎ (weight f w < n)
   uses : (w : List ℕ) (a : A) (u : List ℕ) → r w ≡ got a u → weight f w ≤ m + weight f u
 
--- ---- one reading behind another
+-- ---- one reading after another
 
 takes-got : {A : Type 0} (f : ℕ → ℕ) (a : A) → Takes f (λ w. got a w) 0 0
 takes-got f a = record { near = λ w x. inl refl; uses = λ w b u e. let q : w ≡ u = cc in rw q (omega arith) }

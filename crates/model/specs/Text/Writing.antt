@@ -18,7 +18,7 @@ wrongSize = refusal.badLength
 abbrev pub withoutText : ℕ
 withoutText = refusal.badRequest
 
--- Rule 11.3: a request that a text has: no reference longer than four names, the words behind its names zero, and word 15 zero.
+-- Rule 11.3: a request that a text has: no reference longer than four names, the words after its names zero, and word 15 zero.
 unfoldable pub hasText : Request → Bool
 hasText q =
     leb (q .first .length) nameCount && (leb (q .second .length) nameCount
@@ -39,7 +39,7 @@ writeAnswer w n =
 unfoldable pub writeNumber : List ℕ → ℕ
 writeNumber w = pick (eqb (length w) requestWords) (pick (hasText (requestOf w)) (length (textOfWords w)) 0) 0
 
--- with 0 the text stands at the front and the bytes behind it stay; with a refusal all stay.
+-- with 0 the text stands at the front and the bytes after it stay; with a refusal all stay.
 abbrev pub bytesAfter : ℕ → List ℕ → List ℕ → List ℕ
 bytesAfter a w room = pick (eqb a refusal.accepted) (textOfWords w ++ drop (length (textOfWords w)) room) room
 

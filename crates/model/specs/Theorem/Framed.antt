@@ -24,7 +24,7 @@ regroup : (a b c : Bool) → T (a || (b || c)) → T ((a || b) || c)
 regroup true b c t = tt
 regroup false b c t = t
 
--- An edit of a screen touches its count, its places and their sums.
+-- An edit of a screen touches its places, their number and their sums.
 screen-only : (n : ℕ) (at sum : ℕ → ℕ) → TouchesOnly (word used n and row place at and row shown sum) screenWord
 screen-only n at sum =
     let parts = both-only (word-only used {v = n}) (both-only (row-only place at) (row-only shown sum)) in

@@ -17,7 +17,7 @@ use Rattle.model.specs.Tables.Words.{usedPlaces, userTag, value}
 abbrev pub holder : Tables → ℕ → ℕ → Bool
 holder d e x = inTest (kinds d) (usedPlaces d) (places d) x e
 
--- the count and the places of a record; also what is shown
+-- the places of a record and their number; also what is shown
 abbrev pub contentWord : EntityWord → Bool
 contentWord f = eqb (tag f) (tag used) || eqb (tag f) (tag (place 0))
 

@@ -110,7 +110,7 @@ module _ (d : Tables) (w : WellFormed d) (s : Asked) where
   noRefusal-allowed toLogin h =
       let k = device-agrees d (s .first) .to (h .kinds .0) in
       let f = loginTaken-fails d s w k .to (h .no15) in
-      record { screen = k; off = f .0; free = f .1 }
+      record { terminal = k; off = f .0; free = f .1 }
   noRefusal-allowed toLogout h = h .on logout-wants
   noRefusal-allowed toCurrent h =
       let p = rolesOff-fails d s .to (h .no11) in
@@ -156,4 +156,4 @@ module _ (d : Tables) (w : WellFormed d) (s : Asked) where
       record { box = k .0; draft = k .1; releaser = lacks-fails d s releasing .to (h .no12) }
   noRefusal-allowed toAcknowledge h =
       let n = notAcknowledged-fails d s .to (h .no16) in
-      record { holding = n .0; refusal = n .1 .0; used = n .1 .1 }
+      record { holding = n .0; refusal = n .1 .0; missed = n .1 .1 }

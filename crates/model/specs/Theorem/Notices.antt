@@ -43,7 +43,7 @@ notice-keeps d u r o x h = go (eqb x u) (same x u)
     go true (it e) = inner e (eqb (d .user u held) 0) (same (d .user u held) 0)
     go false (other e) = (refl, refl)
 
--- the count never falls by a notice
+-- the number missed never falls by a notice
 missed-grows : (d : Tables) (u r o x : ℕ) → d .user x missed ≤ missedMost → d .user x missed ≤ notice u r o d .user x missed
 missed-grows d u r o x h = go (eqb x u) (same x u)
   where

@@ -17,7 +17,7 @@ use Rattle.model.specs.Request.Refusals as refusal
 abbrev pub SameNotice : Tables → Tables → ℕ → Type 0
 SameNotice d d′ u = (d′ .user u held ≡ d .user u held) × (d′ .user u heldOp ≡ d .user u heldOp) × (d′ .user u missed ≡ d .user u missed)
 
--- Rule 8.2: what is held stays held, with its operation, and the count does not fall, until its user's acknowledgement is accepted.
+-- Rule 8.2: what is held stays held, with its operation, and the number missed does not fall, until its user's acknowledgement is accepted.
 pub record StillHeld (d d′ : Tables) (x : ℕ) : Type 0 where
   pub refusal : d′ .user x held ≡ d .user x held
   pub operation : d′ .user x heldOp ≡ d .user x heldOp

@@ -16,7 +16,7 @@ module _ (d : Tables) (q : Request) where
   pub low-refusal : refusal.badLength ≤ answer d q → answer d q < firstNoticed → after d q ≡ d
   low-refusal l h = after-unchanged d q (answer d q) refl l h
 
-  -- Refusals 5 to 16 leave a notice: its first refusal and operation if nothing was held, and a count.
+  -- Refusals 5 to 16 leave a notice: its first refusal and operation if nothing was held, and the number missed.
   pub high-refusal : firstNoticed ≤ answer d q → after d q ≡ notice (q .user) (answer d q) (noticedOp q) d
   high-refusal h = after-noticed d q (answer d q) refl h
 
