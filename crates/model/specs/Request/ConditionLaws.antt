@@ -168,7 +168,7 @@ module _ (d : Tables) (s : Asked) where
       (fails-or (fails-not (agrees-eq (s .a) (d .user (s .user) held))) (fails-not (agrees-eq (s .b) (d .user (s .user) missed))))
 
   module _ (w : WellFormed d) where
-    -- Rule 6.2: no refusal 15 where the entity holds nothing, no device shows it, and it is not released.
+    -- Rule 6.2: no refusal 15 where the entity holds nothing, no screen shows it, and it is not released.
     pub deleteForbidden-fails : Fails (deleteForbidden d s)
         ((usedPlaces d (s .first) ≡ 0) × (((x : ℕ) → Screen (kinds d x) → Holds d x (s .first) → ⊥) × (d .entity (s .first) type ≢ releasedType)))
     unfolding deleteForbidden

@@ -16,7 +16,7 @@ use Rattle.model.specs.Tables.Words.{Tables, authorised, clearance, cont
 use Rattle.model.specs.Tables.Words.{entityCount, held, kinds, level, missed, objectKind, operationCount, placeCount, places}
 use Rattle.model.specs.Tables.Words.{positionCount, present, releasedType, sumMost, triples, type, usedPlaces, userCount, whoMost}
 
--- Rule 5.5.
+-- Rule 5.5: what an operand must be.
 abbrev pub Kind : Type 0
 Kind = Tables → ℕ → Bool
 
@@ -29,14 +29,14 @@ isEntity d e = leb objectKind (kinds d e) && leb (kinds d e) containerKind
 unfoldable pub isContainer : Kind
 isContainer d e = eqb (kinds d e) containerKind
 
--- Rule 5.5 has one word, device, for what is logged on to and for what shows things: one test for login and for the two levels of a screen.
+-- Rule 5.5 says device of a terminal (operation 12) and of a screen (17 and 18), so one test serves all three.
 unfoldable pub isDevice : Kind
 isDevice d e = eqb (kinds d e) deviceKind
 
 unfoldable pub isDraft : Kind
 isDraft d e = eqb (kinds d e) containerKind && eqb (d .entity e type) draftType
 
--- Rule 5.4.
+-- Rule 5.4: the range of an argument.
 abbrev pub Range : Type 0
 Range = ℕ → Bool
 
@@ -94,7 +94,7 @@ createAbove d s = not (atMost (s .b) (levelOf d (s .first)))
 unfoldable pub createNoRoom : Condition
 createNoRoom d s = not (leb (vacant d) entityCount) || leb placeCount (usedPlaces d (s .first))
 
--- Rule 6.2: e stands on a device, whoever's.
+-- Rule 6.2: e stands on some screen.
 unfoldable pub onScreen : Tables → ℕ → Bool
 onScreen d e = not (every entityCount (λ v. imp (screen (kinds d (suc v)))
     (not (ltb (seek e (places d (suc v)) (usedPlaces d (suc v))) (usedPlaces d (suc v))))))
@@ -136,7 +136,7 @@ showNoRoom d s = leb (usedPlaces d (own d s)) (spot (own d s) (s .first) d) && l
 unfoldable pub showUnlabelled : Condition
 showUnlabelled d s = not (labelled (s .a))
 
--- Rule 6.12, 15: on already, or somebody is on that device.
+-- Rule 6.12, 15: the requester is on already, or somebody is on that device.
 unfoldable pub loginTaken : Condition
 loginTaken d s = not (eqb (own d s) 0) || not (every userCount (λ u. not (eqb (devices d (suc u)) (s .first))))
 

@@ -48,7 +48,7 @@ taken toAcknowledge = 0
 abbrev pub Between : ℕ → ℕ → ℕ → Type 0
 Between low high n = (low ≤ n) × (n ≤ high)
 
--- Rules 6.1 to 6.20: what each operation asks of the arguments a, b and c. One that it does not list is zero; of one that may be any word
+-- Rules 6.1 to 6.20: what each operation asks of the arguments a, b and c. One that it does not list is zero. Of one that may be any word
 -- nothing is said.
 abbrev pub InRange : Op → ℕ → ℕ → ℕ → Type 0
 InRange toCreate a b c = Between objectSort draftSort a × ((b < levelCount) × (c ≡ 0))

@@ -21,11 +21,11 @@ use Rattle.model.specs.Request.Refusals as refusal
 abbrev pub Rung : Type 0
 Rung = Tables → Request → Bool
 
--- a question put to the operation that the request names; no where it names none
+-- a question put to the operation that the request names; the answer is no where it names none
 unfoldable pub ofOp : Request → (Op → Bool) → Bool
 ofOp q p = elim (opOf (q .operation)) [ none ↦ false | some o ↦ p o ]
 
--- some operand, by its position and the kind asked of it
+-- whether p passes for some operand, given its position and the kind asked of it
 unfoldable pub someOperand : ℕ → List Kind → (ℕ → Kind → Bool) → Bool
 someOperand k [] p = false
 someOperand k (x ∷ xs) p = elim (p k x) [ true ↦ true | false ↦ someOperand (suc k) xs p ]
@@ -67,7 +67,7 @@ fits o q =
 unfoldable pub notUnderstood : Rung
 notUnderstood d q = not (ofOp q (λ o. fits o q))
 
--- Rule 7.6: on no device, at an operation that wants one.
+-- Rule 7.6: the requester is on no device, and the operation wants one.
 unfoldable pub notLoggedOn : Rung
 notLoggedOn d q = ofOp q (λ o. not (openLoggedOff o) && eqb (devices d (q .user)) 0)
 
@@ -83,7 +83,7 @@ permits d u o k e = ltb (seek (tripleOf u o k) (triples d e) placeCount) placeCo
 unfoldable pub noAccess : Rung
 noAccess d q = ofOp q (λ o. someOperand 1 (rowOf o .operands) (λ k x. not (permits d (q .user) (numberOf o) k (operand (asked d q) k))))
 
--- Rule 7.9: a marked container on the way whose level the clearance l is not at least.
+-- Rule 7.9: the level of a marked container on the way is not at most the clearance l.
 unfoldable pub bars : Tables → ℕ → List ℕ → Bool
 bars d l [] = false
 bars d l (e ∷ es) = elim (not (eqb (d .entity e mark) 0) && not (atMost (d .entity e level) l)) [ true ↦ true | false ↦ bars d l es ]

@@ -74,7 +74,7 @@ module _ (d : Tables) (w : WellFormed d) where
   bound : Bounded d
   bound = wellFormed-bounded d w
 
-  -- Rule 6.2: e stands on no device.
+  -- Rule 6.2: e stands on no screen.
   pub screen-agrees : (e : ℕ) → Agrees (not (onScreen d e)) ((x : ℕ) → Screen (kinds d x) → Holds d x e → ⊥)
   unfolding onScreen
   screen-agrees e =

@@ -18,7 +18,7 @@ pub record Report : Type 0 where
   pub held : ℕ
   pub missed : ℕ
 
--- Rule 12.3: beside the answers 1 to 4 nobody's words are told.
+-- Rule 12.3: with the answers 1 to 4 nobody's words are told.
 unfoldable pub untold : ℕ → Bool
 untold a = leb refusal.badLength a && leb a refusal.unknownRequester
 

@@ -41,20 +41,20 @@ oneTest k n at dev = every entityCount (λ a. imp (eqb (k (suc a)) containerKind
     (every placeCount (λ i. every placeCount (λ j. imp (ltb i (n (suc a))) (imp (ltb j (n (suc b)))
     (imp (eqb (at (suc a) i) (at (suc b) j)) (eqb (suc a) (suc b))))))))))
 
--- Rule 3.14: from every entity the way up ends.
+-- Rule 3.14: the way up from every entity ends.
 unfoldable pub loopTest : (k n : ℕ → ℕ) (at : ℕ → ℕ → ℕ) (dev : ℕ → ℕ) → Bool
 loopTest k n at dev = every entityCount (λ e. up (parent k n at) (suc entityCount) (suc e))
 
--- Rule 3.15: who is on is on what is logged on to.
+-- Rule 3.15: who is on is on a terminal.
 unfoldable pub deviceTest : (k n : ℕ → ℕ) (at : ℕ → ℕ → ℕ) (dev : ℕ → ℕ) → Bool
 deviceTest k n at dev = every userCount (λ u. imp (not (eqb (dev (suc u)) 0)) (terminal (k (dev (suc u)))))
 
--- Rule 3.16: one user to a device.
+-- Rule 3.16: one user to a terminal.
 unfoldable pub aloneTest : (k n : ℕ → ℕ) (at : ℕ → ℕ → ℕ) (dev : ℕ → ℕ) → Bool
 aloneTest k n at dev = every userCount (λ u. every userCount (λ v. imp (not (eqb (dev (suc u)) 0))
     (imp (eqb (dev (suc u)) (dev (suc v))) (eqb (suc u) (suc v)))))
 
--- Rule 3.18: what is logged on to and has no user shows nothing.
+-- Rule 3.18: a terminal without a user shows nothing.
 unfoldable pub idleTest : (k n : ℕ → ℕ) (at : ℕ → ℕ → ℕ) (dev : ℕ → ℕ) → Bool
 idleTest k n at dev = every entityCount (λ e. imp (terminal (k (suc e)))
     (imp (every userCount (λ u. not (eqb (dev (suc u)) (suc e)))) (eqb (n (suc e)) 0)))
@@ -85,7 +85,7 @@ labelledTest d e = imp (screen (kinds d e)) (every placeCount (λ i. imp (ltb i 
 unfoldable pub rolesTest : Tables → ℕ → Bool
 rolesTest d u = subset roleCount (d .user u current) (d .user u authorised)
 
--- Rule 4.5: nothing that shows things is set above its maximum.
+-- Rule 4.5: no screen is set above its maximum.
 unfoldable pub ceilingTest : Tables → ℕ → Bool
 ceilingTest d e = imp (screen (kinds d e)) (atMost (d .entity e level) (d .entity e maximum))
 

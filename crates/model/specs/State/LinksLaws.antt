@@ -1,4 +1,4 @@
--- What each change of the columns (kinds, counts, places, the users' devices) asks, so that the records still fit together.
+-- What each change of the columns (kinds, used places, places, the users' devices) asks, so that the records still fit together.
 use mathlib.Core.Bool.{Bool, false, true}
 use mathlib.Core.Logic.{_≢_, _⊎_, inl, inr}
 use mathlib.Core.Path.{_∙_, _≡_, ap, refl, subst, sym}
@@ -80,7 +80,7 @@ module _ (k n : ℕ → ℕ) (at : ℕ → ℕ → ℕ) (dev : ℕ → ℕ) (l :
         alone a x y p′ q′ (inr p) (inl q) = absurd (free (ap k (sym (p .0)) ∙ p′ .0) y (rw (p .1) at q))
         alone a x y p′ q′ (inr p) (inr q) = p .0 ∙ sym (q .0)
 
-  -- a device is in nothing
+  -- a screen is in nothing
   pub device-apart : (c e : ℕ) → Screen (k c) → (k e ≤ containerKind) → Within (In k n at) c e → ⊥
   device-apart c e h he (inl q) = omega (arith, ap k q)
   device-apart c e h he (inr p) = let x = held-by p in omega (arith, l .contents (x .0) c (x .1 .1))

@@ -24,7 +24,7 @@ pub record Secure (d : Tables) : Type 0 where
   pub valueLabelled : (e i : ℕ) → Screen (kinds d e) → i < usedPlaces d e → T (labelled (sums d e i))
   -- rule 4.4: nobody acts with a role that is not authorised
   pub roles : (u : ℕ) → Subset roleCount (d .user u current) (d .user u authorised)
-  -- rule 4.5: nothing that shows things is set above its maximum
+  -- rule 4.5: no screen is set above its maximum
   pub ceiling : (e : ℕ) → Screen (kinds d e) → AtMost (d .entity e level) (d .entity e maximum)
 
 -- well-formed and secure

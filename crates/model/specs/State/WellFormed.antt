@@ -33,9 +33,9 @@ pub record Shape (k t l m v r x : ℕ) : Type 0 where
   -- rule 3.9: a releaser exactly where something is released
   pub releaserOn : t ≡ releasedType → (1 ≤ r) × (r ≤ userCount)
   pub releaserOff : t ≢ releasedType → r ≡ 0
-  -- rule 3.10: what shows nothing has no maximum
+  -- rule 3.10: what is no screen has no maximum
   pub maximumOn : (¬ Screen k) → x ≡ 0
-  -- rule 3.11: what shows things has no value of its own
+  -- rule 3.11: a screen has no value of its own
   pub deviceValue : Screen k → v ≡ 0
 
 -- The contents of an entity of kind k, n places used, and what is shown of each.
@@ -44,7 +44,7 @@ pub record Filled (k n : ℕ) (at sum : ℕ → ℕ) : Type 0 where
   pub packed : Packed at n
   -- rule 3.7: nothing stands in an object
   pub objectEmpty : k ≡ objectKind → n ≡ 0
-  -- rule 3.12: what shows things says how much it shows of each; nothing else does
+  -- rule 3.12: a screen says how much it shows of each; nothing else does
   pub sums : Screen k → (i : ℕ) → i < n → (1 ≤ sum i) × (sum i ≤ sumMost)
   pub noSums : (¬ Screen k) → (i : ℕ) → sum i ≡ 0
   pub restSums : (i : ℕ) → n ≤ i → sum i ≡ 0
@@ -92,7 +92,7 @@ pub record UserOk (w : UserWord → ℕ) : Type 0 where
 abbrev pub In : (k n : ℕ → ℕ) (at : ℕ → ℕ → ℕ) → ℕ → ℕ → Type 0
 In k n at b c = (k b ≡ containerKind) × Member (at b) (n b) c
 
--- What one record says of another, over the columns kinds k, counts n, places at, and the users' devices dev.
+-- What one record says of another, over the columns kinds k, numbers of used places n, places at, and the users' devices dev.
 pub record Linked (k n : ℕ → ℕ) (at : ℕ → ℕ → ℕ) (dev : ℕ → ℕ) : Type 0 where
   -- rule 3.6: only objects and containers stand in places
   pub contents : (e c : ℕ) → Member (at e) (n e) c → (objectKind ≤ k c) × (k c ≤ containerKind)
@@ -100,17 +100,17 @@ pub record Linked (k n : ℕ → ℕ) (at : ℕ → ℕ → ℕ) (dev : ℕ → 
   pub oneContainer : (c a b : ℕ) → In k n at a c → In k n at b c → a ≡ b
   -- rule 3.14: nothing lies in itself, however deep
   pub noLoop : (e : ℕ) → Inside (In k n at) e e → ⊥
-  -- rule 3.15: who is on is on what is logged on to
+  -- rule 3.15: who is on is on a terminal
   pub deviceIs : (u : ℕ) → dev u ≢ 0 → Terminal (k (dev u))
-  -- rule 3.16: one user to a device; 0 is none
+  -- rule 3.16: one user to a terminal; 0 is none
   pub oneUser : (u v : ℕ) → dev u ≢ 0 → dev u ≡ dev v → u ≡ v
-  -- rule 3.18: what is logged on to and has no user shows nothing
+  -- rule 3.18: a terminal without a user shows nothing
   pub idle : (e : ℕ) → Terminal (k e) → ((u : ℕ) → dev u ≢ e) → n e ≡ 0
 
 abbrev pub Links : Tables → Type 0
 Links d = Linked (kinds d) (usedPlaces d) (places d) (devices d)
 
--- c stands in a used place of e: in a container, or on a device
+-- c stands in a used place of e: in a container, or on a screen
 abbrev pub Holds : Tables → ℕ → ℕ → Type 0
 Holds d e c = Member (places d e) (usedPlaces d e) c
 

@@ -54,7 +54,7 @@ draftType = 1
 abbrev pub releasedType : ℕ
 releasedType = 2
 
--- What a device shows of an entity (rule 2.4): the value, the label, the ID are bits 0, 1 and 2 of its sum.
+-- What a screen shows of an entity (rule 2.4): the value, the label and the ID are bits 0, 1 and 2 of a sum.
 abbrev pub valueBit : ℕ
 valueBit = 0
 
@@ -67,7 +67,7 @@ idBit = 2
 abbrev pub sumMost : ℕ
 sumMost = 7
 
--- Rule 2.5: an access triple is one number of three parts, who, operation and operand position, which weigh so much.
+-- Rule 2.5: an access triple is one number of three parts: who, operation and operand position. The first two have these weights.
 abbrev pub operationWeight : ℕ
 operationWeight = 256
 
@@ -129,7 +129,7 @@ triples d e i = d .entity e (triple i)
 abbrev pub devices : Tables → ℕ → ℕ
 devices d u = d .user u device
 
--- Words are told apart by a tag and, in a row, by their place: literal numbers, so that the question computes.
+-- Words are told apart by a tag and, in a row, by their place. Both are literal numbers, so that the question computes.
 abbrev pub userTag : UserWord → ℕ
 userTag present = 0
 userTag clearance = 1

@@ -14,7 +14,7 @@ pub data Read (A : Type 0) : Type 0 where
 abbrev pub most : ℕ
 most = 4294967295
 
--- as many digits as it has, and what their numbers stay below
+-- how many digits it has, and what the numbers of so many digits stay below
 abbrev pub digitCount : ℕ
 digitCount = 10
 

@@ -9,7 +9,7 @@ use Rattle.model.specs.Request.Words.{requestWords}
 use Rattle.model.specs.Text.Wording.{Lines, badLine, lines, readText, sixteen}
 use Rattle.model.specs.Request.Refusals as refusal
 
--- The reader's own refusal (rule 7.18).
+-- Rule 7.18: the reader's own refusal under the name by which other crates cite it.
 abbrev pub notRead : ℕ
 notRead = refusal.notARequest
 

@@ -60,7 +60,7 @@ abbrev pub CcrSecure : Tables → Request → Tables → Type 0
 CcrSecure d q d′ = Quiet d (q .user) d′
     ⊎ ((o : Op) × Meant o d q × ((k : ℕ) → Operand o k → Open d (q .user) (basisOf (asked d q) k)))
 
--- device v shows the ID of x
+-- the screen v shows the ID of x
 abbrev pub ShowsId : Tables → ℕ → ℕ → Type 0
 ShowsId d v x = (Screen (kinds d v)) × ((i : ℕ) × (i < usedPlaces d v) × (places d v i ≡ x) × T (bit idBit (sums d v i)))
 
