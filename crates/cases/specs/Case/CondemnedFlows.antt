@@ -62,7 +62,7 @@ pub second-access-condemned : AccessSecure s1 (ask 2 5 (5 ∷ []) (5 ∷ []) 0 0
 unfolding opened s1 s1Sheet
 second-access-condemned = access-rejects toCopy refl (λ h. loud 5 value h tt) 2 (lit≤ tt, lit≤ tt) (denied s1 2 5 2 5 tt)
 
--- Rule 9.6: the desk copied 6, at 513, to 7, at 256, for user 2.
+-- Rule 9.6: the desk copied 6, of rank 2, to 7, of rank 1, for user 2.
 pub copy-condemned : CopySecure s1 (ask 2 5 (6 ∷ []) (7 ∷ []) 0 0 0) (onEntity 7 (word value 41) s1) → ⊥
 unfolding opened s1 s1Sheet
 copy-condemned = copy-rejects toCopy refl (λ h. loud 7 value h tt) (λ f. f .copied refl (kept 2 tt) (kept 2 tt))
@@ -71,7 +71,7 @@ copy-condemned = copy-rejects toCopy refl (λ h. loud 7 value h tt) (λ f. f .co
 abbrev screening : ℕ → ℕ → ℕ → Tables → Tables
 screening v x n = onEntity v (word used 1 and word (place 0) x and word (shown 0) n)
 
--- Rule 9.6: the desk showed 6, at 513, on device 2, at 512, to user 2.
+-- Rule 9.6: the desk showed 6 on device 2, which is of the same rank and lacks its compartment, to user 2.
 pub show-condemned : CopySecure s1 (ask 2 10 (6 ∷ []) [] 3 0 0) (screening 2 6 3 s1) → ⊥
 unfolding opened s1 s1Sheet
 show-condemned = copy-rejects toShow refl (λ h. loud 2 used h tt) (λ f. f .shown refl (kept 2 tt) (kept 3 tt))
@@ -86,7 +86,7 @@ barred : {w : List ℕ} → Open s1 2 (4 ∷ w) → ⊥
 unfolding opened s1 s1Sheet
 barred h = h 4 (List·Memᴰ·head refl) (differ 1 0 tt)
 
--- Rule 9.7: the desk edited 5 for user 2, who named it 4.1, through the marked container 4, at 513, with clearance 256.
+-- Rule 9.7: the desk edited 5 for user 2, who named it 4.1, through the marked container 4, of rank 2, with a clearance of rank 1.
 pub ccr-condemned : CcrSecure s1 (ask 2 4 (4 ∷ 1 ∷ []) [] 41 0 0) (onEntity 5 (word value 41) s1) → ⊥
 unfolding opened s1 s1Sheet
 ccr-condemned = ccr-rejects toEdit refl (λ h. loud 5 value h tt) 1 (lit≤ tt, lit≤ tt) barred
@@ -217,4 +217,5 @@ pub taken-screen-condemned : TranslationSecure (screening 2 5 4 s1) (ask 3 12 (2
     (onUser 2 (userWord device 0) (onUser 3 (userWord device 2) (screening 2 5 4 s1))) → ⊥
 unfolding opened s1 s1Sheet
 taken-screen-condemned h =
-    elim (h 5 (kept 1 tt) (refl, (0, lit< tt, refl, tt))) [ inl z ↦ dark (screening 2 5 4 s1) 0 refl z | inr z ↦ differ 2 5 tt (named-one toLogin refl refl z .0) ]
+    elim (h 5 (kept 1 tt) (refl, (0, lit< tt, refl, tt)))
+    [ inl z ↦ dark (screening 2 5 4 s1) 0 refl z | inr z ↦ differ 2 5 tt (named-one toLogin refl refl z .0) ]

@@ -45,7 +45,7 @@ module _ (room : List ℕ) where
   pub disordered-condemned : 10 ≤ length room → Lists s1Unmarked 2 room 0 2 ((1 ∷ 5 ∷ 0 ∷ 0 ∷ 0 ∷ 2 ∷ 4 ∷ 1 ∷ 0 ∷ 0 ∷ []) ++ drop 10 room) → ⊥
   disordered-condemned h x = differ 1 2 tt (ap (λ (l : List ℕ). getD l 0 0) (lists-unique x (s1-list-unmarked room h) .2))
 
--- Rule 10.7: the desk wrote the entry 5, and a zero over the word behind it.
+-- Rule 10.7: the desk wrote the entry 5, and a zero over the word after it.
 pub behind-condemned : (a b c d e : ℕ) (room : List ℕ) → Lists s1Words 2 (a ∷ b ∷ c ∷ d ∷ e ∷ 1 ∷ room) 0 1 (1 ∷ 5 ∷ 0 ∷ 0 ∷ 0 ∷ 0 ∷ room) → ⊥
 behind-condemned a b c d e room x =
     differ 0 1 tt (ap (λ (l : List ℕ). getD l 5 0) (lists-unique x (s1-list-2 (a ∷ b ∷ c ∷ d ∷ e ∷ 1 ∷ room) (omega arith)) .2))
