@@ -1,11 +1,13 @@
 //! Whether any 2,304 words are well-formed tables [section 3 of the rules].
 
+use crate::refusal::Refusal;
 use crate::set::EntitySet;
 use crate::tables::*;
 use crate::words::*;
+use std::ops::RangeInclusive;
 
 /// The first and the last refusal that can be held.
-const HELD: std::ops::RangeInclusive<u32> = 5..=16;
+const HELD: RangeInclusive<u32> = Refusal::BadRequest as u32..=Refusal::NotAcknowledged as u32;
 
 /// Well-formed: each record by itself, and all of them together.
 pub fn holds(tables: &Tables) -> bool {
@@ -31,22 +33,22 @@ fn user_fits(words: &UserWords) -> bool {
         return all_zero(words);
     }
     words[user::PRESENT] == 1
-        && words[user::CLEARANCE] <= HIGHEST_LEVEL
-        && words[user::AUTHORISED] <= ALL_ROLES
-        && words[user::CURRENT] <= ALL_ROLES
+        && words[user::CLEARANCE] <= LEVEL_MOST
+        && words[user::AUTHORISED] <= ROLES_MOST
+        && words[user::CURRENT] <= ROLES_MOST
         && words[user::DEVICE] <= ENTITIES
         && (words[user::DEVICE] != 0 || words[user::CURRENT] == 0)
         && notice_fits(words)
         && all_zero(&words[user::SPARE..])
 }
 
-/// Either nothing is held and nothing counted, or a refusal of the ladder with its operation [rules 3.19 to 3.21].
+/// Either nothing is held and nothing missed, or a refusal of the ladder with its operation [rules 3.19 to 3.21].
 fn notice_fits(words: &UserWords) -> bool {
-    let (held, operation, count) = (words[user::HELD], words[user::HELD_OPERATION], words[user::COUNT]);
+    let (held, operation, missed) = (words[user::HELD], words[user::HELD_OPERATION], words[user::MISSED]);
     if held == 0 {
-        return operation == 0 && count == 0;
+        return operation == 0 && missed == 0;
     }
-    HELD.contains(&held) && operation <= OPERATIONS && (1..=MOST_COUNTED).contains(&count)
+    HELD.contains(&held) && operation <= OPERATIONS && (1..=MISSED_MOST).contains(&missed)
 }
 
 /// All entities' records, each by itself and then what they say of each other and of the devices in use.
@@ -70,15 +72,15 @@ fn entities_fit(tables: &Tables, in_use: EntitySet) -> bool {
 fn fields_fit(words: &EntityWords) -> bool {
     let kind = words[entity::KIND];
     let (container, device) = (kind == kind::CONTAINER, kind == kind::DEVICE);
-    let released = words[entity::TYPE] == sort::RELEASED;
+    let released = words[entity::TYPE] == type_of::RELEASED;
     kind <= kind::DEVICE
-        && words[entity::TYPE] <= if container { sort::RELEASED } else { sort::PLAIN }
-        && words[entity::LEVEL] <= HIGHEST_LEVEL
+        && words[entity::TYPE] <= if container { type_of::RELEASED } else { type_of::PLAIN }
+        && words[entity::LEVEL] <= LEVEL_MOST
         && words[entity::MARK] <= u32::from(container)
         && (!device || words[entity::VALUE] == 0)
         && (words[entity::RELEASER] != 0) == released
         && words[entity::RELEASER] <= USERS
-        && words[entity::MAXIMUM] <= if device { HIGHEST_LEVEL } else { 0 }
+        && words[entity::MAXIMUM] <= if device { LEVEL_MOST } else { 0 }
         && words[entity::USED] <= if kind == kind::OBJECT { 0 } else { PLACES as u32 }
 }
 
@@ -97,7 +99,7 @@ fn all_differ(words: &[u32]) -> bool {
 /// Who 1 to 24, operation 1 to 20, position 1 or 2 [rule 3.22].
 fn is_triple(word: u32) -> bool {
     let (who, operation, position) = (word >> 16, word >> 8 & 0xff, word & 0xff);
-    (1..=WHOS).contains(&who) && (1..=OPERATIONS).contains(&operation) && (1..=POSITIONS).contains(&position)
+    (1..=WHO_MOST).contains(&who) && (1..=OPERATIONS).contains(&operation) && (1..=POSITIONS).contains(&position)
 }
 
 /// No bit set in any word. Without an early exit, since most records are absent and this way they go by quickly.
@@ -141,7 +143,7 @@ impl Census {
         if used > 0 {
             self.showing.insert(entity);
         }
-        self.shows(contents) && sums.iter().all(|sum| (1..=shown::ALL).contains(sum))
+        self.shows(contents) && sums.iter().all(|sum| (1..=SUM_MOST).contains(sum))
     }
 
     /// Notes what stands in a container, unless it is no entity's number or stands in a container already [rule 3.13].
