@@ -1,7 +1,7 @@
 //! Tables with something amiss: a few words changed, by chance or with a rule in view. They may stay good.
 use crate::layout::{
-    entity, entity_base, kind, triple, user, user_base, ENTITIES, ENTITY_WORDS, FIRST_ENTITY_WORD, LEVEL_MOST,
-    OPERATIONS, PLACES, ROLES_MOST, SUM_MOST, TRIPLES, USERS, USER_WORDS, WHO_MOST,
+    entity, entity_base, kind, triple, user, user_base, ENTITIES, ENTITY_WORDS, FIRST_ENTITY_WORD, KIND_MOST,
+    LEVEL_MOST, OPERATIONS, PLACES, ROLES_MOST, SUM_MOST, TRIPLES, USERS, USER_WORDS, WHO_MOST,
 };
 use crate::view::{entity_record, present_entity, present_user, user_record, Holders};
 use crate::{levels, Dice};
@@ -82,7 +82,7 @@ fn change_entity(dice: &mut Dice, tables: &mut [u32]) {
             record[entity::TYPE] = dice.below(3);
             record[entity::RELEASER] = dice.between(0, USERS + 1);
         }
-        _ => record[entity::KIND] = dice.between(0, kind::DEVICE),
+        _ => record[entity::KIND] = dice.between(0, KIND_MOST),
     }
 }
 

@@ -14,6 +14,7 @@ pub const NAMES: u32 = 4;
 /// A reference: its length, then its names.
 pub const ENTRY_WORDS: usize = 1 + NAMES as usize;
 pub const OPERATIONS: u32 = 20;
+pub const KIND_MOST: u32 = kind::DEVICE;
 pub const LEVEL_MOST: u32 = 1023;
 /// The bits of a level's compartments; its rank stands above them.
 pub const COMPARTMENT_BITS: u32 = 8;

@@ -23,8 +23,8 @@ pub fn contents(record: &[u32]) -> &[u32] {
 /// The triples of an entity, without the zeros behind them.
 pub fn triples(record: &[u32]) -> &[u32] {
     let all = &record[entity::TRIPLES..][..TRIPLES as usize];
-    let used = all.iter().position(|&triple| triple == 0).unwrap_or(all.len());
-    &all[..used]
+    let end = all.iter().position(|&triple| triple == 0).unwrap_or(all.len());
+    &all[..end]
 }
 
 /// The place, from 1, at which a record holds an entity.

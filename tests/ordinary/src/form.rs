@@ -1,6 +1,7 @@
 //! What each operation takes, and whether a request has that form: rung 5 [rules 5.4, 7.5].
 
 use crate::refusal::Refusal;
+use crate::tables::{is_screen, is_terminal};
 use crate::words::*;
 
 /// What an operand must be [rule 5.5].
@@ -11,7 +12,8 @@ pub enum Operand {
     Entity,
     Container,
     Draft,
-    Device,
+    Screen,
+    Terminal,
 }
 
 impl Operand {
@@ -24,7 +26,8 @@ impl Operand {
             Operand::Entity => kind == kind::OBJECT || kind == kind::CONTAINER,
             Operand::Container => kind == kind::CONTAINER,
             Operand::Draft => kind == kind::CONTAINER && words[entity::TYPE] == type_of::DRAFT,
-            Operand::Device => kind == kind::DEVICE,
+            Operand::Screen => is_screen(kind),
+            Operand::Terminal => is_terminal(kind),
         }
     }
 }
@@ -64,13 +67,13 @@ static FORMS: [Form; OPERATIONS as usize] = [
     one(Operand::Any, [WHO, OPERATION, POSITION]),   // revoke
     one(Operand::Entity, [SUM, UNUSED, UNUSED]),     // show
     none([UNUSED; 3]),                               // clear
-    one(Operand::Device, [UNUSED; 3]),               // login
+    one(Operand::Terminal, [UNUSED; 3]),             // login
     none([UNUSED; 3]),                               // logout
     none([USER, ROLE_SET, UNUSED]),                  // current roles
     none([USER, LEVEL, UNUSED]),                     // clearance
     none([USER, ROLE_SET, UNUSED]),                  // authorised roles
-    one(Operand::Device, [LEVEL, UNUSED, UNUSED]),   // maximum
-    one(Operand::Device, [LEVEL, UNUSED, UNUSED]),   // device level
+    one(Operand::Screen, [LEVEL, UNUSED, UNUSED]),   // maximum
+    one(Operand::Screen, [LEVEL, UNUSED, UNUSED]),   // device level
     one(Operand::Draft, [UNUSED; 3]),                // release
     none([FREE, FREE, UNUSED]),                      // acknowledge
 ];

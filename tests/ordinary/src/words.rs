@@ -16,6 +16,7 @@ pub const PLACES: usize = 8;
 /// Names of the longest reference.
 pub const NAMES: usize = 4;
 
+pub const KIND_MOST: u32 = kind::DEVICE;
 pub const LEVEL_MOST: u32 = 1023;
 pub const ROLES_MOST: u32 = 255;
 pub const OPERATIONS: u32 = 20;
