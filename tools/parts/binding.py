@@ -4,14 +4,17 @@ import re
 
 from parts.clauses import clauses
 from parts.long_lines import LONGEST, broken
-from parts.paths import FIRST_AGAIN, PATH, binds, one_line, stands_free, steps, written_out
-from parts.wrap import wrapped
+from parts.paths import PATH, binds, depth_of, one_line, stands_free, steps, written_out
+from parts.wrap import lets_apart, wrapped
 
 FAR = 6  # an answer with a longer path is bound, however short it is
 NEAR = 3  # paths up to here stay as they are
-STRIDE = 16  # steps that fit on the line of one let
+STRIDE = 14  # steps that fit on the line of one let
 INDENT = "    "
-LOOKS_FOR_FACTS = re.compile(r"\bomega arith\b|\bsearch\b|\bcc\b")
+AS_RECORD = (" =", "")
+AS_FUNCTION = (" : _ → _ = λ _.", " c")
+# These read every variable in scope with the fields of records, 128 records at most: a bound record would fill that up, a function does not.
+LOOKS_FOR_FACTS = re.compile(r"\bomega\b|\bsearch\b|\bcc\b")
 
 
 def undone_text(text):
@@ -55,7 +58,7 @@ def foreign(term):
 
 def depths(term):
     """The numbers of `.before` of the term's paths from `c`, in order, each once."""
-    return sorted({m.group(2).count(".") for m in PATH.finditer(term) if stands_free(term, m.start())})
+    return sorted({depth_of(m) for m in PATH.finditer(term) if stands_free(term, m.start())})
 
 
 def stations(far):
@@ -73,17 +76,16 @@ def bound(head, term):
     all_depths = depths(term)
     if len(head) + 1 + len(term) <= LONGEST and max(all_depths, default=0) <= FAR:
         return head + " " + term
-    lines, last = [], ("c", 0)
+    binder, of_c = AS_FUNCTION if LOOKS_FOR_FACTS.search(term) else AS_RECORD
+    lines, last = [head], ("c", 0)
     for depth in stations([d for d in all_depths if d > NEAR]):
-        lines.append("%slet s%d = %s%s in" % (INDENT, depth, last[0], steps(depth - last[1])))
-        last = ("s%d" % depth, depth)
-    if lines and LOOKS_FOR_FACTS.search(term):
-        lines.append(INDENT + FIRST_AGAIN)
-    lines += wrapped(PATH.sub(lambda m: shortened(m, term), term), INDENT)
-    return "\n".join([head] + lines)
+        lines.append("%slet s%d%s %s%s in" % (INDENT, depth, binder, last[0], steps(depth - last[1])))
+        last = ("s%d%s" % (depth, of_c), depth)
+    term = PATH.sub(lambda m: shortened(m, term, of_c), term)
+    return "\n".join(lines + [line for part in lets_apart(term) for line in wrapped(part, INDENT)])
 
 
-def shortened(match, term):
+def shortened(match, term, of_c):
     """A path from `c`, from the bound record where it has one."""
-    depth = match.group(2).count(".")
-    return "s%d" % depth if depth > NEAR and stands_free(term, match.start()) else match.group(0)
+    depth = depth_of(match)
+    return "s%d%s" % (depth, of_c) if depth > NEAR and stands_free(term, match.start()) else match.group(0)

@@ -1,13 +1,10 @@
-"""The paths of a term: `c .before .before .pre`, written out, or from a bound record `sN`, N steps before."""
+"""The paths of a term: `c .before .before .pre`, written out, or from a bound record: `sN`, or `sN c`, is N steps before c."""
 
 import re
 
-from parts.clauses import NAME
-
 WORDS_BEFORE_A_TERM = ("in", "rw", "simp", "at", "omega", "cc", "search")
-PATH = re.compile(r"(?<![^\s(\[,{])(c|s\d+)((?: \.before)*)(?= \.|[\s)\],}]|$)")
-BOUND = re.compile(r"let (s\d+) = (c|s\d+)((?: \.before)+) in ")
-FIRST_AGAIN = "let c = c in"  # omega, search and cc read the last bound first, and enter 128 records at most: let that be c
+PATH = re.compile(r"(?<![^\s(\[,{])(c|s\d+)( c)?((?: \.before)*)(?= \.|[\s)\],}]|$)")
+BOUND = re.compile(r"let (s\d+)(?: : _ → _ = λ _\.| =) (c|s\d+)(?: c)?((?: \.before)+) in ")
 
 
 def stands_free(text, at):
@@ -35,20 +32,25 @@ def binds(term, name):
 
 def written_out(term):
     """The term on one line with every bound record put back in its place as a path from `c`."""
-    term, depths = one_line(term), {}
+    term, depths = one_line(term), {"c": 0}
     while True:
         bound = BOUND.search(term)
-        if not bound or (bound.group(2) != "c" and bound.group(2) not in depths):
+        if not bound or bound.group(2) not in depths:
             break
-        depths[bound.group(1)] = depths.get(bound.group(2), 0) + bound.group(3).count(".")
+        depths[bound.group(1)] = depths[bound.group(2)] + bound.group(3).count(".")
         term = term[:bound.start()] + term[bound.end():]
-    term = term.replace(FIRST_AGAIN + " ", "", 1) if depths else term
     return PATH.sub(lambda m: put_back(m, term, depths), term)
 
 
 def put_back(match, term, depths):
     """A path from a bound record, as a path from `c`; in brackets where the record is an argument."""
-    if match.group(1) not in depths:
+    name, of_c, more = match.groups()
+    if name == "c" or name not in depths:
         return match.group(0)
-    path = "c" + steps(depths[match.group(1)]) + match.group(2)
+    path = "c" + steps(depths[name]) + more
     return path if stands_free(term, match.start()) else "(%s)" % path
+
+
+def depth_of(match):
+    """How many steps a written out path goes back."""
+    return match.group(3).count(".")

@@ -1,8 +1,30 @@
 """Breaking a term into lines: at a space, at the outermost bracket that leaves no line short, and never before a projection."""
 
+import re
+
 WIDTH = 150  # of a wrapped line
 SHORT = 80  # a line is broken after this column where it can be
 OPENING, CLOSING = "([{", ")]}"
+
+
+def lets_apart(term):
+    """The term in parts that each start a line: every let at its start, up to its `in`, and the rest."""
+    out = []
+    while term.startswith("let "):
+        end = let_end(term)
+        out, term = out + [term[:end]], term[end + 1:]
+    return out + [term]
+
+
+def let_end(term):
+    """Where the let at the start of the term ends: after the `in` that is its own."""
+    depth = lets = 0
+    for word in re.finditer(r"[(\[{]|[)\]}]|(?<!\S)let(?= )|(?<!\S)in(?= )", term):
+        depth += (word.group(0) in OPENING) - (word.group(0) in CLOSING)
+        lets += (depth == 0) * ((word.group(0) == "let") - (word.group(0) == "in"))
+        if depth == 0 and word.group(0) == "in" and lets == 0:
+            return word.end()
+    return len(term)
 
 
 def breaks(text, within_paths):
