@@ -14,8 +14,8 @@ use Rattle.reference.proofs.follow.Reads as follow
 use Rattle.reference.proofs.follow.Kinds as follow-kinds
 use Rattle.reference.proofs.+follow.Lts-follow as follow-lts
 use Rattle.reference.proofs.is_bar.Reads as is-bar-reads
-use Rattle.tables.proofs.entities.used.Reads as used-reads
-use Rattle.tables.proofs.entities.place.Reads as place-reads
+use Rattle.tables.proofs.used.Reads as used-reads
+use Rattle.tables.proofs.place.Reads as place-reads
 use Rattle.reference.proofs.+follow.{statement}
 use Rattle.reference.proofs.+follow.Tie.{close}
 
