@@ -12,8 +12,6 @@ use Rattle.model.specs.Tables.Words.{triples}
 use Rattle.model.specs.Tables.Layout.{tablesOf}
 use Rattle.reference.proofs.all_shut.Statement.{statement}
 use Rattle.reference.proofs.all_shut.Tie as tie
-use Rattle.reference.proofs.all_shut.Reads as reads
-use Rattle.reference.proofs.all_shut.Lts as lts
 use Rattle.reference.proofs.shuts.Reads as shuts-reads
 
 abbrev Inv-loop : tie.InvT-loop

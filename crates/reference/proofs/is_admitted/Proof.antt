@@ -4,9 +4,6 @@ use Rattle.reference.specs.Ways.{admits}
 use borrow.Author.Needs.{needs}
 use Rattle.reference.proofs.is_admitted.Statement.{statement}
 use Rattle.reference.proofs.is_admitted.Tie as tie
-use Rattle.reference.proofs.is_admitted.Reads as reads
-use Rattle.reference.proofs.is_admitted.Lts as lts
-use Rattle.levels.proofs.has_bit.Reads as has-bit-reads
 
 returns : tie.Need-returns
 unfolding admits

@@ -4,11 +4,14 @@ use Rattle.reference.specs.Ways.{bar}
 use borrow.Author.Needs.{needs}
 use Rattle.reference.proofs.is_bar.Statement.{statement}
 use Rattle.reference.proofs.is_bar.Tie as tie
+<<<<<<< HEAD
 use Rattle.reference.proofs.is_bar.Reads as reads
 use Rattle.reference.proofs.is_bar.Lts as lts
 use Rattle.levels.proofs.at_most.Reads as at-most-reads
 use Rattle.tables.proofs.level.Reads as level-reads
 use Rattle.tables.proofs.mark.Reads as mark-reads
+=======
+>>>>>>> state
 
 mark-requires : tie.Need-mark-requires
 mark-requires c κs = search needs

@@ -2,10 +2,11 @@ use Rattle.reference.specs.TripleLaws.{permits-some}
 use borrow.Author.Needs.{needs}
 use Rattle.reference.proofs.is_permitted.Statement.{statement}
 use Rattle.reference.proofs.is_permitted.Tie as tie
-use Rattle.reference.proofs.is_permitted.Reads as reads
-use Rattle.reference.proofs.is_permitted.Lts as lts
 use Rattle.reference.proofs.all_shut.Reads as all-shut-reads
+<<<<<<< HEAD
 use Rattle.tables.proofs.current.Reads as current-reads
+=======
+>>>>>>> state
 
 current-requires : tie.Need-current-requires
 current-requires c κs = search needs

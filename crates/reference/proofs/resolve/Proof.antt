@@ -4,10 +4,11 @@ use Rattle.reference.specs.WayLaws.{resolve-on, resolve-one, resolve-sto
 use borrow.Author.Needs.{needs}
 use Rattle.reference.proofs.resolve.Statement.{statement}
 use Rattle.reference.proofs.resolve.Tie as tie
-use Rattle.reference.proofs.resolve.Reads as reads
-use Rattle.reference.proofs.resolve.Lts as lts
 use Rattle.reference.proofs.follow.Reads as follow-reads
+<<<<<<< HEAD
 use Rattle.tables.proofs.kind.Reads as kind-reads
+=======
+>>>>>>> state
 
 shared-slice-read-n : tie.Need-shared-slice-read-n
 shared-slice-read-n c = search needs
