@@ -9,12 +9,6 @@ use Rattle.model.specs.Tables.Words.{placeCount, places}
 use Rattle.rows.specs.SweepLaws.{sweep-more, sweep-none, swept}
 use Rattle.rows.proofs.holds.Statement.{statement}
 use Rattle.rows.proofs.holds.Tie as tie
-<<<<<<< HEAD
-use Rattle.rows.proofs.holds.Reads as reads
-use Rattle.rows.proofs.holds.Lts as lts
-use Rattle.tables.proofs.place.Reads as place-reads
-=======
->>>>>>> state
 
 abbrev Inv-loop : tie.InvT-loop
 Inv-loop t v e found₀ i₀ found i = (i ≤ placeCount) × (found ≡ ltb (seek (e .0) (places (tablesOf t) (v .0)) i) i)

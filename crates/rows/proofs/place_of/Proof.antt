@@ -8,12 +8,6 @@ use Rattle.model.specs.Tables.Layout.{tablesOf}
 use Rattle.model.specs.Tables.Words.{places}
 use Rattle.rows.proofs.place_of.Statement.{statement}
 use Rattle.rows.proofs.place_of.Tie as tie
-<<<<<<< HEAD
-use Rattle.rows.proofs.place_of.Reads as reads
-use Rattle.rows.proofs.place_of.Lts as lts
-use Rattle.tables.proofs.place.Reads as place-reads
-=======
->>>>>>> state
 
 abbrev Inv-loop : tie.InvT-loop
 Inv-loop t v e n i₀ i = (i ≤ n) × ((j : ℕ) → j < i → places (tablesOf t) (v .0) j ≢ e .0)

@@ -8,12 +8,6 @@ use Rattle.model.specs.Tables.Layout.{tablesOf}
 use Rattle.model.specs.Tables.Words.{placeCount, triples}
 use Rattle.rows.proofs.triple_place.Statement.{statement}
 use Rattle.rows.proofs.triple_place.Tie as tie
-<<<<<<< HEAD
-use Rattle.rows.proofs.triple_place.Reads as reads
-use Rattle.rows.proofs.triple_place.Lts as lts
-use Rattle.tables.proofs.triple.Reads as triple-reads
-=======
->>>>>>> state
 
 abbrev Inv-loop : tie.InvT-loop
 Inv-loop t e x i₀ i = (i ≤ placeCount) × ((j : ℕ) → j < i → triples (tablesOf t) (e .0) j ≢ x)

@@ -6,11 +6,6 @@ use Rattle.disclosure.proofs.verdicts.judge.Statement.{statement}
 use Rattle.disclosure.proofs.verdicts.judge.Tie as tie
 use Rattle.disclosure.proofs.verdicts.is_showable.Reads as is-showable-reads
 use Rattle.disclosure.proofs.verdicts.weigh.Reads as weigh-reads
-<<<<<<< HEAD
-use Rattle.reference.proofs.is_bar.Reads as is-bar-reads
-use Rattle.tables.proofs.used.Reads as used-reads
-=======
->>>>>>> state
 
 is-bar-requires : tie.Need-is-bar-requires
 is-bar-requires c κs = search needs

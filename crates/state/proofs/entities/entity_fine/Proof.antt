@@ -6,10 +6,6 @@ use Rattle.state.proofs.entities.entity_fine.Statement.{statement}
 use Rattle.state.proofs.entities.entity_fine.Tie as tie
 use Rattle.state.proofs.entities.entity_blank.Reads as entity-blank-reads
 use Rattle.state.proofs.entities.present_fine.Reads as present-fine-reads
-<<<<<<< HEAD
-use Rattle.tables.proofs.kind.Reads as kind-reads
-=======
->>>>>>> state
 
 kind-requires : tie.Need-kind-requires
 kind-requires c κs = search needs

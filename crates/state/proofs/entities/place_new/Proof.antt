@@ -13,10 +13,6 @@ use Rattle.state.specs.RowLaws.{new-of, new-zero}
 use Rattle.state.proofs.entities.place_new.Statement.{statement}
 use Rattle.state.proofs.entities.place_new.Tie as tie
 use Rattle.state.proofs.entities.place_other.Reads as place-other-reads
-<<<<<<< HEAD
-use Rattle.tables.proofs.place.Reads as place-reads
-=======
->>>>>>> state
 
 abbrev Inv-loop : tie.InvT-loop
 Inv-loop t e i x j₀ j = (j ≤ i) × (every j (λ k. not (eqb (places (tablesOf t) (e .0) k) x)) ≡ true)

@@ -13,17 +13,6 @@ use Rattle.state.proofs.entities.places_fine.Reads as places-fine-reads
 use Rattle.state.proofs.entities.places_new.Reads as places-new-reads
 use Rattle.state.proofs.entities.shape_fine.Reads as shape-fine-reads
 use Rattle.state.proofs.entities.triples_fine.Reads as triples-fine-reads
-<<<<<<< HEAD
-use Rattle.tables.proofs.nobody_on.Reads as nobody-on-reads
-use Rattle.tables.proofs.used.Reads as used-reads
-use Rattle.tables.proofs.level.Reads as level-reads
-use Rattle.tables.proofs.mark.Reads as mark-reads
-use Rattle.tables.proofs.maximum.Reads as maximum-reads
-use Rattle.tables.proofs.releaser.Reads as releaser-reads
-use Rattle.tables.proofs.type_of.Reads as type-of-reads
-use Rattle.tables.proofs.value.Reads as value-reads
-=======
->>>>>>> state
 
 type-of-requires : tie.Need-type-of-requires
 type-of-requires c κs = search needs

@@ -7,10 +7,6 @@ use Rattle.state.proofs.entities.triple_fine.Statement.{statement}
 use Rattle.state.proofs.entities.triple_fine.Tie as tie
 use Rattle.state.proofs.entities.named.Reads as named-reads
 use Rattle.state.proofs.entities.triple_unlike.Reads as triple-unlike-reads
-<<<<<<< HEAD
-use Rattle.tables.proofs.triple.Reads as triple-reads
-=======
->>>>>>> state
 
 triple-requires : tie.Need-triple-requires
 triple-requires c κs = search needs

@@ -1,12 +1,6 @@
 use borrow.Author.Needs.{needs}
 use Rattle.state.proofs.entities.triple_other.Statement.{statement}
 use Rattle.state.proofs.entities.triple_other.Tie as tie
-<<<<<<< HEAD
-use Rattle.state.proofs.entities.triple_other.Reads as reads
-use Rattle.state.proofs.entities.triple_other.Lts as lts
-use Rattle.tables.proofs.triple.Reads as triple-reads
-=======
->>>>>>> state
 
 triple-requires : tie.Need-triple-requires
 triple-requires c κs = search needs

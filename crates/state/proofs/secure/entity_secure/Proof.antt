@@ -9,13 +9,6 @@ use Rattle.state.proofs.secure.entity_secure.Statement.{statement}
 use Rattle.state.proofs.secure.entity_secure.Tie as tie
 use Rattle.state.proofs.secure.at_most_eight.Reads as at-most-eight-reads
 use Rattle.state.proofs.secure.places_secure.Reads as places-secure-reads
-<<<<<<< HEAD
-use Rattle.tables.proofs.used.Reads as used-reads
-use Rattle.tables.proofs.kind.Reads as kind-reads
-use Rattle.tables.proofs.level.Reads as level-reads
-use Rattle.tables.proofs.maximum.Reads as maximum-reads
-=======
->>>>>>> state
 
 used-requires : tie.Need-used-requires
 used-requires c κs = search needs

@@ -7,15 +7,6 @@ use Rattle.state.proofs.secure.user_secure.Statement.{statement}
 use Rattle.state.proofs.secure.user_secure.Tie as tie
 use Rattle.state.proofs.secure.at_most_eight.Reads as at-most-eight-reads
 use Rattle.state.proofs.secure.places_below.Reads as places-below-reads
-<<<<<<< HEAD
-use Rattle.tables.proofs.authorised.Reads as authorised-reads
-use Rattle.tables.proofs.clearance.Reads as clearance-reads
-use Rattle.tables.proofs.used.Reads as used-reads
-use Rattle.tables.proofs.current.Reads as current-reads
-use Rattle.tables.proofs.device.Reads as device-reads
-use Rattle.tables.proofs.level.Reads as level-reads
-=======
->>>>>>> state
 
 current-requires : tie.Need-current-requires
 current-requires c κs = search needs

@@ -10,17 +10,6 @@ use Rattle.state.proofs.users.notice_fine.Reads as notice-fine-reads
 use Rattle.state.proofs.users.spares_zero.Reads as spares-zero-reads
 use Rattle.state.proofs.users.user_blank.Reads as user-blank-reads
 use Rattle.state.proofs.users.user_head.Reads as user-head-reads
-<<<<<<< HEAD
-use Rattle.tables.proofs.authorised.Reads as authorised-reads
-use Rattle.tables.proofs.clearance.Reads as clearance-reads
-use Rattle.tables.proofs.current.Reads as current-reads
-use Rattle.tables.proofs.device.Reads as device-reads
-use Rattle.tables.proofs.held.Reads as held-reads
-use Rattle.tables.proofs.held_op.Reads as held-op-reads
-use Rattle.tables.proofs.missed.Reads as missed-reads
-use Rattle.tables.proofs.present.Reads as present-reads
-=======
->>>>>>> state
 
 present-requires : tie.Need-present-requires
 present-requires c κs = search needs
