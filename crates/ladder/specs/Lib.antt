@@ -10,3 +10,7 @@ pub mod OperandLaws
 pub mod NameLaws
 pub mod JudgeLaws
 pub mod ArgumentLaws
+pub mod Rungs
+pub mod RungLaws
+pub mod Trial
+pub mod TrialLaws
