@@ -20,7 +20,14 @@ at-most-requires c κs = search needs
 
 returns-2 : tie.Need-returns-2
 unfolding bar
-returns-2 c = rw (c .at-most .ensures, c .before .level .ensures, ← c .before .before .before .mark .ensures, ne-eqb (c .before .before .before .mark .result) 0 (c .before .before .if1 .left))
+returns-2 c =
+    rw (
+      c .at-most .ensures,
+      c .before .level .ensures,
+      ← c .before .before .before .mark .ensures,
+      ne-eqb (c .before .before .before .mark .result) 0
+          (c .before .before .if1 .left),
+    )
 
 pub is-bar-spec : {M : Type 1} → statement M
 is-bar-spec = tie.close (tie.spec mark-requires returns level-requires at-most-requires returns-2)
