@@ -20,8 +20,8 @@ class Clause:
 
 
 def term_end(text, start):
-    """Where the term that starts here ends: before the next line that is not indented."""
-    end = re.compile(r"\n(?=\S)|\Z").search(text, start).start()
+    """Where the term that starts here ends: before the next line that is neither indented nor a closing bracket."""
+    end = re.compile(r"\n(?=[^\s)\]}])|\Z").search(text, start).start()
     return start + len(text[start:end].rstrip())
 
 

@@ -19,9 +19,9 @@ def steps(depth):
 
 
 def one_line(term):
-    """The term on one line: one space where a line ended, and tuples with no comma after their last part."""
+    """The term on one line: one space where a line ended, and no comma or semicolon after the last part of a tuple or record."""
     term = re.sub(r"\s*\n\s*", " ", term).strip()
-    return re.sub(r",? ([)\]}])", r"\1", re.sub(r"([(\[{]) ", r"\1", term))
+    return re.sub(r"[,;]? ([)\]}])", r"\1", re.sub(r"([(\[{]) ", r"\1", term))
 
 
 def binds(term, name):
