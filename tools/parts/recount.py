@@ -2,8 +2,9 @@
 
 import re
 
-from parts.clauses import NAME
-from parts.paths import stands_free, steps
+from parts.binding import bound_text
+from parts.clauses import NAME, speaking
+from parts.paths import stands_free, steps, written_out
 
 THING = re.compile(r"(?<![^\s(\[,{])c((?: \.before)*) \.(?!before\b)(%s)" % NAME)
 
@@ -26,3 +27,17 @@ def recount(name, term, chain):
         return "c" + steps(depths[thing]) + " ." + thing
 
     return THING.sub(anew, term)
+
+
+def recounted(text, member, records):
+    """The text of a proof file with the paths of its answers counted anew, in a cycle those of one member. An answer
+    with nothing to count stays as it is laid out."""
+    for clause in reversed(speaking(text)):
+        place = records.needs.get(clause.place) if clause.is_need else clause.place
+        if clause.member not in (None, member) or place not in records.fields:
+            continue
+        old = written_out(clause.term)
+        new = recount(clause.name, old, records.chain(place))
+        if new != old:
+            text = text[:clause.start] + " " + new + text[clause.end:]
+    return bound_text(text)[0]
