@@ -85,11 +85,16 @@ class Left(unittest.TestCase):
     """What bind leaves alone."""
 
     def test_an_answer_that_binds_c_or_a_name_of_ours_is_named_and_left(self):
-        for term in ("λ c. " + FAR, "f (λ a c b. a) (%s)" % FAR, "let c = c .before in " + FAR, "let s4 = law in f s4 (%s)" % FAR, FAR + "\n    -- why"):
+        for term in ("λ c. " + FAR, "f (λ a c b. a) (%s)" % FAR, "λ (x : f a .now) c. " + FAR, "let c = c .before in " + FAR, "let (a, c) = d in " + FAR,
+                     "elim d [ zero ↦ d | suc c ↦ %s ]" % FAR, "let s4 = law in f s4 (%s)" % FAR, FAR + "\n    -- why"):
             text = proof(clause("returns", term))
             new, left = bound_text(text)
             self.assertEqual(left, ["returns"])
             self.assertIn(clause("returns", term).split("\n")[1][:60], new)
+
+    def test_a_name_that_only_reads_c_is_no_binding(self):
+        for term in ("λ z. " + FAR, "let i : f c .pre = d in " + FAR, "f (λ (z : g c). z) (%s)" % FAR, "elim d [ zero ↦ c .pre | suc k ↦ %s ]" % FAR):
+            self.assertEqual(bound_text(proof(clause("returns", term)))[1], [])
 
     def test_a_function_of_c_starts_no_path(self):
         text = bound(clause("returns", "law c" + " .before" * 9 + " .pre"))
