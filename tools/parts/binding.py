@@ -18,32 +18,35 @@ LOOKS_FOR_FACTS = re.compile(r"\bomega\b|\bsearch\b|\bcc\b")
 
 
 def undone_text(text):
-    """The file's text with every path written out, and the names of the answers that were left."""
-    return rewritten(text, lambda head, term: head + " " + term)
+    """The file's text with every path written out and every answer on one line, and the names of the answers that were left."""
+    return rewritten(text, lambda head, term, old: head + " " + term)
 
 
 def bound_text(text):
     """The file's text with its long paths bound and its lines broken, and the names of the answers that were left."""
-    text, left = rewritten(text, bound)
+    text, left = rewritten(text, laid_out)
     return broken(text), left
 
 
 def rewritten(text, write):
-    """The text with each answer about a record `c` written anew, from the last to the first. One that says the same
-    already, on lines that are short enough, stays as it is laid out."""
+    """The text with each answer about a record `c` written anew, from the last to the first."""
     left = []
     for clause in reversed(clauses(text)):
         if "c" not in clause.args.split():
             continue
-        start = text.rfind("\n", 0, clause.start) + 1
-        old, term = text[start:clause.end], written_out(clause.term)
+        start, term = text.rfind("\n", 0, clause.start) + 1, written_out(clause.term)
         if "--" in clause.term or binds(term, "c") or foreign(term):
             left.append(clause.name)
             continue
-        new = write(text[start:clause.start], term)
-        if one_line(new) != one_line(old) or longest(old) > LONGEST:
-            text = text[:start] + new + text[clause.end:]
+        new = write(text[start:clause.start], term, text[start:clause.end])
+        text = text[:start] + new + text[clause.end:]
     return text, left[::-1]
+
+
+def laid_out(head, term, old):
+    """A clause bound anew; one that says the same already, on lines that are short enough, stays as it is laid out."""
+    new = bound(head, term)
+    return old if one_line(new) == one_line(old) and longest(old) <= LONGEST else new
 
 
 def longest(text):

@@ -4,6 +4,7 @@ import re
 
 WORDS_BEFORE_A_TERM = ("in", "rw", "simp", "at", "omega", "cc", "search")
 PATH = re.compile(r"(?<![^\s(\[,{])(c|s\d+)( c)?((?: \.before)*)(?= \.|[\s)\],}]|$)")
+LAMBDA = re.compile(r"λ((?:\s*(?:[^\s().]+|\((?:[^()]|\([^()]*\))*\)))+)\.")  # its binders
 BOUND = re.compile(r"let (s\d+)(?: : _ → _ = λ _\.| =) (c|s\d+)(?: c)?((?: \.before)+) in ")
 
 
@@ -19,15 +20,18 @@ def steps(depth):
 
 
 def one_line(term):
-    """The term on one line: one space where a line ended, and tuples with no comma after their last part."""
+    """The term on one line: one space where a line ended, and no comma or semicolon after the last part of a tuple or record."""
     term = re.sub(r"\s*\n\s*", " ", term).strip()
-    return re.sub(r",? ([)\]}])", r"\1", re.sub(r"([(\[{]) ", r"\1", term))
+    return re.sub(r"[,;]? ([)\]}])", r"\1", re.sub(r"([(\[{]) ", r"\1", term))
 
 
 def binds(term, name):
-    """Whether a λ, a let or a type inside the term binds this name."""
-    word = re.escape(name)
-    return bool(re.search(r"λ[^.]*(?<![^\s({])%s(?![^\s:.)}])|\blet \(?%s\b|\(%s :" % (word, word, word), term))
+    """Whether a λ, a let, a case, a `←` or a type inside the term binds this name."""
+    word = re.compile(r"(?<![^\s({,])%s(?![^\s:.)},])" % re.escape(name))
+    patterns = [part.split(" : ")[0] for binders in LAMBDA.findall(term) for part in re.split(r"[()]", binders)]
+    patterns += re.findall(r"(?<!\S)let ([^=:]*)", term) + re.findall(r"[\[|] *([^|\[↦]*)↦", term) + re.findall(r"(\S+|\([^()]*\)) ←", term)
+    patterns += re.findall(r"[({]([^(){}:]*) : ", term)
+    return any(word.search(pattern) for pattern in patterns)
 
 
 def written_out(term):
