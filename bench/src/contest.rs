@@ -123,6 +123,11 @@ impl Contest {
             Call::Step | Call::Advance => self.request_load(&mut dice, tables),
             Call::Read | Call::Write => self.text_load(&mut dice, tables),
         };
+        self.checked(load)
+    }
+
+    /// A load whose tables have all passed the check; else what is wrong.
+    pub fn checked(&self, load: Load) -> Result<Load, String> {
         match load.tables.iter().all(|tables| (PROVED.check)(tables) == 0) {
             true => Ok(load),
             false => Err(format!("{}: tables that are meant to be good are not", self.name())),
