@@ -51,7 +51,7 @@ impl Rooms {
 }
 
 /// A pass makes the calls one after the other, each on its tables as those before have left them. What a call does not take is not there.
-#[derive(Clone, Default)]
+#[derive(Clone, Debug, Default, PartialEq, Eq)]
 pub struct Load {
     /// As a pass finds them.
     pub tables: Vec<Vec<u32>>,

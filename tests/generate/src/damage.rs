@@ -1,7 +1,7 @@
 //! Tables with something amiss: a few words changed, by chance or with a rule in view. They may stay good.
 use crate::layout::{
     entity, entity_base, kind, triple, user, user_base, ENTITIES, ENTITY_WORDS, FIRST_ENTITY_WORD, KIND_MOST,
-    LEVEL_MOST, OPERATIONS, PLACES, ROLES_MOST, SUM_MOST, TRIPLES, USERS, USER_WORDS, WHO_MOST,
+    LEVEL_MOST, OPERATION_MOST, PLACES, ROLES_MOST, SUM_MOST, TRIPLES, USERS, USER_WORDS, WHO_MOST,
 };
 use crate::view::{entity_record, present_entity, present_user, user_record, Holders};
 use crate::{levels, Dice};
@@ -76,7 +76,7 @@ fn change_entity(dice: &mut Dice, tables: &mut [u32]) {
         2 => record[entity::TRIPLES + place] = record[entity::TRIPLES + dice.below(TRIPLES) as usize],
         3 => {
             record[entity::TRIPLES + place] =
-                triple(dice.below(WHO_MOST + 2), dice.below(OPERATIONS + 2), dice.below(4))
+                triple(dice.below(WHO_MOST + 2), dice.below(OPERATION_MOST + 2), dice.below(4))
         }
         4 => {
             record[entity::TYPE] = dice.below(3);

@@ -13,7 +13,7 @@ pub const TRIPLES: u32 = 8;
 pub const NAMES: u32 = 4;
 /// A reference: its length, then its names.
 pub const ENTRY_WORDS: usize = 1 + NAMES as usize;
-pub const OPERATIONS: u32 = 20;
+pub const OPERATION_MOST: u32 = 20;
 pub const KIND_MOST: u32 = kind::DEVICE;
 pub const LEVEL_MOST: u32 = 1023;
 /// The bits of a level's compartments; its rank stands above them.
@@ -81,7 +81,7 @@ pub mod kind {
     pub const DEVICE: u32 = 3;
 }
 
-pub mod type_of {
+pub mod types {
     pub const PLAIN: u32 = 0;
     pub const DRAFT: u32 = 1;
     pub const RELEASED: u32 = 2;

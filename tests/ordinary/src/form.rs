@@ -25,7 +25,7 @@ impl Operand {
             Operand::Any => true,
             Operand::Entity => kind == kind::OBJECT || kind == kind::CONTAINER,
             Operand::Container => kind == kind::CONTAINER,
-            Operand::Draft => kind == kind::CONTAINER && words[entity::TYPE] == type_of::DRAFT,
+            Operand::Draft => kind == kind::CONTAINER && words[entity::TYPE] == types::DRAFT,
             Operand::Screen => is_screen(kind),
             Operand::Terminal => is_terminal(kind),
         }
@@ -48,14 +48,14 @@ const SORT: Span = Span(sort::OBJECT, sort::DRAFT);
 const LEVEL: Span = Span(0, LEVEL_MOST);
 const FLAG: Span = Span(0, 1);
 const WHO: Span = Span(1, WHO_MOST);
-const OPERATION: Span = Span(1, OPERATIONS);
-const POSITION: Span = Span(1, POSITIONS);
+const OPERATION: Span = Span(1, OPERATION_MOST);
+const POSITION: Span = Span(1, POSITION_MOST);
 const SUM: Span = Span(1, SUM_MOST);
 const USER: Span = Span(1, USERS);
 const ROLE_SET: Span = Span(0, ROLES_MOST);
 
 /// The forms of operations 1 to 20 in their order.
-static FORMS: [Form; OPERATIONS as usize] = [
+static FORMS: [Form; OPERATION_MOST as usize] = [
     one(Operand::Container, [SORT, LEVEL, UNUSED]),  // create
     one(Operand::Entity, [UNUSED; 3]),               // delete
     two(Operand::Entity, Operand::Container),        // move

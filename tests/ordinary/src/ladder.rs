@@ -54,7 +54,7 @@ fn judge<R: Rules>(tables: &mut Tables, requester: User, request: &Request) -> R
 fn leave_notice<R: Rules>(words: &mut UserWords, refusal: u32, operation: u32) {
     if words[user::HELD] == 0 || R::NOTICE {
         words[user::HELD] = refusal;
-        words[user::HELD_OPERATION] = if operation <= OPERATIONS { operation } else { 0 };
+        words[user::HELD_OPERATION] = if operation <= OPERATION_MOST { operation } else { 0 };
     }
     words[user::MISSED] = (words[user::MISSED] + 1).min(MISSED_MOST);
 }

@@ -19,8 +19,8 @@ pub const NAMES: usize = 4;
 pub const KIND_MOST: u32 = kind::DEVICE;
 pub const LEVEL_MOST: u32 = 1023;
 pub const ROLES_MOST: u32 = 255;
-pub const OPERATIONS: u32 = 20;
-pub const POSITIONS: u32 = 2;
+pub const OPERATION_MOST: u32 = 20;
+pub const POSITION_MOST: u32 = 2;
 /// Users and then roles: whom a triple can name.
 pub const WHO_MOST: u32 = USERS + ROLES;
 pub const ROLES: u32 = 8;
@@ -88,7 +88,7 @@ pub mod kind {
 }
 
 /// Types of containers; all other entities are plain.
-pub mod type_of {
+pub mod types {
     pub const PLAIN: u32 = 0;
     pub const DRAFT: u32 = 1;
     pub const RELEASED: u32 = 2;

@@ -6,7 +6,7 @@ use common::random::{first_tables, follow, operand, permit, random_request, BEYO
 use common::*;
 use generate::layout::{
     entity, entity_base, kind, op, refusal, request, shown, triple, user, user_base, ENTITIES, NAMES, NOTICE_WORDS,
-    OPERATIONS, PLACES, STEP_MOST, USERS,
+    OPERATION_MOST, PLACES, STEP_MOST, USERS,
 };
 use generate::view::{is_on, users_where};
 use generate::Dice;
@@ -44,7 +44,7 @@ fn compare_notice(before: &Tables, after: &Tables, request: &[u32], given: u32) 
         let notice = &mut expected[user_base(request[request::USER]) + user::HELD..][..NOTICE_WORDS];
         if notice[0] == 0 {
             notice[0] = given;
-            notice[1] = if (1..=OPERATIONS).contains(&operation) { operation } else { 0 };
+            notice[1] = if (1..=OPERATION_MOST).contains(&operation) { operation } else { 0 };
         }
         notice[2] += 1;
     }
@@ -93,7 +93,7 @@ fn compare_list(tables: &Tables, user: u32) -> usize {
 }
 
 /// Answers to whatever is asked for as an operation, from 0 on, by how often they are given.
-type Answers = [[u32; STEP_MOST as usize + 1]; (OPERATIONS + BEYOND) as usize + 1];
+type Answers = [[u32; STEP_MOST as usize + 1]; (OPERATION_MOST + BEYOND) as usize + 1];
 
 /// Where a walk has come to, and what was seen on it.
 struct Walk {
@@ -126,7 +126,7 @@ impl Walk {
 
     /// Every operation was accepted at least once, and some list was not empty.
     fn assert_went_far(&self) {
-        for (operation, given) in (1..=OPERATIONS).zip(&self.answers[1..]) {
+        for (operation, given) in (1..=OPERATION_MOST).zip(&self.answers[1..]) {
             println!("{:2} {:?}", operation, given);
             assert!(given[refusal::ACCEPTED as usize] > 0, "operation {} is never accepted", operation);
         }

@@ -1,11 +1,11 @@
 //! Which answers the steps of a run gave, by operation, and whether these are the ones that can be given.
 use crate::outcome::Out;
-use generate::layout::{refusal, request, OPERATIONS, STEP_MOST};
+use generate::layout::{refusal, request, OPERATION_MOST, STEP_MOST};
 
 /// Answers 0 to 16.
 const COLUMNS: usize = STEP_MOST as usize + 1;
 /// The operations, and before them one row for whatever is none.
-const ROWS: usize = OPERATIONS as usize + 1;
+const ROWS: usize = OPERATION_MOST as usize + 1;
 
 /// What an operation asks for; from this it follows which answers it can get.
 struct Row {
@@ -69,7 +69,7 @@ fn can_be(operation: usize, given: usize) -> bool {
 /// The row of a request, which may be too short to have an operation.
 fn row_of(request: &[u32]) -> usize {
     match request.get(request::OPERATION) {
-        Some(&operation) if operation <= OPERATIONS => operation as usize,
+        Some(&operation) if operation <= OPERATION_MOST => operation as usize,
         _ => 0,
     }
 }

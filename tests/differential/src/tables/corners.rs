@@ -1,8 +1,8 @@
 //! Corners of the rules that a run must have been to: a cell of operation and answer says nothing of them.
 use crate::outcome::Out;
 use generate::layout::{
-    at_most, entity, kind, op, refusal, request, role, triple, user, ENTITIES, MISSED_MOST, NAMES, OPERATIONS, PLACES,
-    TRIPLES,
+    at_most, entity, kind, op, refusal, request, role, triple, user, ENTITIES, MISSED_MOST, NAMES, OPERATION_MOST,
+    PLACES, TRIPLES,
 };
 use generate::view::{contents, entity_record, is_full_container, place_in, triples, user_record, Holders};
 
@@ -108,7 +108,9 @@ const CORNERS: [Corner; 26] = [
         d.is_refused() && d.requester()[user::MISSED] == MISSED_MOST
     }),
     ("a first refusal of what is no operation [8.2]", |d| {
-        d.requester()[user::HELD] == 0 && d.is_refused() && !(1..=OPERATIONS).contains(&d.request[request::OPERATION])
+        d.requester()[user::HELD] == 0
+            && d.is_refused()
+            && !(1..=OPERATION_MOST).contains(&d.request[request::OPERATION])
     }),
     ("four names, accepted [5.2]", |d| d.given == refusal::ACCEPTED && d.request[request::FIRST] == NAMES),
     ("a reference through a device, accepted [5.3]", |d| {

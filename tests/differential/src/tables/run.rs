@@ -7,7 +7,7 @@ use super::list_call::ListCalls;
 use super::lists::Lists;
 use super::Comparison;
 use crate::guarded;
-use generate::layout::{refusal, request, OPERATIONS, REQUEST_WORDS, TABLE_WORDS, USERS};
+use generate::layout::{refusal, request, OPERATION_MOST, REQUEST_WORDS, TABLE_WORDS, USERS};
 use generate::{dice_for, Dice};
 
 /// Long enough for tables to fill and to empty.
@@ -146,7 +146,7 @@ impl<'a> Run<'a> {
         let mut request = request.to_vec();
         generate::damage(&mut self.dice, &mut tables);
         if self.dice.chance(10) {
-            request[request::OPERATION] = self.dice.below(OPERATIONS + 2);
+            request[request::OPERATION] = self.dice.below(OPERATION_MOST + 2);
         }
         self.check(&tables)?;
         self.step(&tables, &request)?;
@@ -167,7 +167,7 @@ impl<'a> Run<'a> {
     /// Steps on these tables with requests of all lengths that are tried.
     fn other_requests(&mut self, tables: &[u32]) -> Result<(), Difference> {
         for length in REQUEST_LENGTHS {
-            let operation = self.dice.between(1, OPERATIONS);
+            let operation = self.dice.between(1, OPERATION_MOST);
             let mut request = generate::request_for(&mut self.dice, &self.tables, operation).to_vec();
             request.push(0);
             self.step(tables, &request[..length])?;
@@ -184,7 +184,7 @@ impl<'a> Run<'a> {
         // With a good requester, and then a good operation: most would end at rung 4 and 5 else.
         request[request::USER] = self.dice.between(1, USERS);
         self.step(&good, &request)?;
-        request[request::OPERATION] = self.dice.between(1, OPERATIONS);
+        request[request::OPERATION] = self.dice.between(1, OPERATION_MOST);
         self.step(&good, &request)?;
         let mut tables = good;
         generate::random_words(&mut self.dice, &mut tables);

@@ -5,7 +5,7 @@ use crate::guarded::Guarded;
 use crate::outcome::{Out, Outcome};
 use crate::side::Side;
 use generate::layout::{
-    entity, entity_base, kind, op, refusal, request, type_of, user, user_base, ENTRY_WORDS, REQUEST_WORDS,
+    entity, entity_base, kind, op, refusal, request, types, user, user_base, ENTRY_WORDS, REQUEST_WORDS,
 };
 use generate::{s1, s1_unmarked};
 use ordinary::{Reply, Right};
@@ -202,7 +202,7 @@ impl Trial<'_> {
         self.expect("user 1 current roles 5", given, 0);
         let given = self.ask(&release_6());
         self.expect("user 1 release 6 after that", given, 0);
-        self.expect("type of 6 after that", self.entity(6, entity::TYPE), type_of::RELEASED);
+        self.expect("type of 6 after that", self.entity(6, entity::TYPE), types::RELEASED);
         self.expect("releaser of 6 after that", self.entity(6, entity::RELEASER), 1);
     }
 

@@ -1,6 +1,8 @@
 //! The access triples of good tables: for whom, and for what.
 use super::Plan;
-use crate::layout::{entity, entity_base, kind, op, triple, user, ENTITIES, FIRST_ROLE, OPERATIONS, TRIPLES, WHO_MOST};
+use crate::layout::{
+    entity, entity_base, kind, op, triple, user, ENTITIES, FIRST_ROLE, OPERATION_MOST, TRIPLES, WHO_MOST,
+};
 use crate::view::{any_of, entity_record, is_full_container, is_off, is_on, user_record, users_where, Holders};
 
 /// Operations and positions that an entity can stand in; those that are hard to come by stand twice.
@@ -89,7 +91,7 @@ impl Plan<'_> {
             0..=14 if in_full => (op::MOVE, 1),
             0..=74 => self.dice.one_of(useful),
             75..=84 => self.dice.one_of(of_others),
-            _ => (self.dice.between(1, OPERATIONS), self.dice.between(1, 2)),
+            _ => (self.dice.between(1, OPERATION_MOST), self.dice.between(1, 2)),
         }
     }
 

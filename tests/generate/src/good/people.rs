@@ -1,7 +1,7 @@
 //! The users of good tables, and what their screens show.
 use super::Plan;
 use crate::layout::{
-    at_most, entity, refusal, role, user, user_base, LEVEL_MOST, MISSED_MOST, OPERATIONS, PLACES, ROLES_MOST,
+    at_most, entity, refusal, role, user, user_base, LEVEL_MOST, MISSED_MOST, OPERATION_MOST, PLACES, ROLES_MOST,
     STEP_MOST, USERS,
 };
 use crate::view::{entity_record, is_on, user_record, users_where};
@@ -52,7 +52,7 @@ impl Plan<'_> {
             return;
         }
         let held = self.dice.between(refusal::BAD_REQUEST, STEP_MOST);
-        let operation = self.dice.between(0, OPERATIONS);
+        let operation = self.dice.between(0, OPERATION_MOST);
         let missed = if self.dice.chance(50) { self.dice.one_of(&EDGES) } else { self.dice.between(1, MISSED_MOST) };
         let record = self.user(number);
         record[user::HELD] = held;

@@ -1,6 +1,6 @@
 //! Arguments that lie in their ranges, and mostly let the operation succeed.
 use super::Drawing;
-use crate::layout::{entity, op, parts_of, request, sort, user, OPERATIONS, ROLES_MOST, SUM_MOST, USERS, WHO_MOST};
+use crate::layout::{entity, op, parts_of, request, sort, user, OPERATION_MOST, ROLES_MOST, SUM_MOST, USERS, WHO_MOST};
 use crate::view::{entity_record, present_user, triples, user_record};
 use crate::{levels, Dice};
 
@@ -41,7 +41,7 @@ impl Drawing<'_> {
         let parts = if !held.is_empty() && self.dice.chance(percent) {
             parts_of(self.dice.one_of(held))
         } else {
-            [self.dice.between(1, WHO_MOST), self.dice.between(1, OPERATIONS), self.dice.between(1, 2)]
+            [self.dice.between(1, WHO_MOST), self.dice.between(1, OPERATION_MOST), self.dice.between(1, 2)]
         };
         self.words[request::A..=request::C].copy_from_slice(&parts);
     }

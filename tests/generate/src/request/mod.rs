@@ -5,7 +5,7 @@ mod reference;
 mod second;
 mod spoil;
 
-use crate::layout::{op, request, user, OPERATIONS, REQUEST_WORDS};
+use crate::layout::{op, request, user, OPERATION_MOST, REQUEST_WORDS};
 use crate::view::{allows, present_user, user_record, Holders};
 use crate::Dice;
 use operands::Aim;
@@ -104,7 +104,7 @@ fn draw(dice: &mut Dice, tables: &[u32], operation: u32) -> ([u32; REQUEST_WORDS
 
 /// All operations alike, but fewer logouts than logins: a logout nearly always succeeds, a login seldom, and soon nobody would be left on.
 fn choose_operation(dice: &mut Dice) -> u32 {
-    match dice.between(1, OPERATIONS) {
+    match dice.between(1, OPERATION_MOST) {
         op::LOGOUT if dice.chance(65) => op::LOGIN,
         chosen => chosen,
     }

@@ -1,6 +1,6 @@
 //! Who asks, and about what first. Refusals deep in the ladder are reached by looking for them, since chance seldom gets there.
 use super::{in_place_to_ask, Drawing};
-use crate::layout::{at_most, entity, kind, op, right, right_of, type_of, user, who_of, ENTITIES, FIRST_ROLE, USERS};
+use crate::layout::{at_most, entity, kind, op, right, right_of, types, user, who_of, ENTITIES, FIRST_ROLE, USERS};
 use crate::view::{
     any_of, entity_record, is_off, is_on, present_entity, present_user, stands_for, triples, user_record, users_where,
     Holders,
@@ -68,7 +68,7 @@ fn kind_suits(record: &[u32], of: u32) -> bool {
         CREATE | SET_MARK => record[entity::KIND] == kind::CONTAINER,
         GRANT | REVOKE => true,
         LOGIN | MAXIMUM | DEVICE_LEVEL => record[entity::KIND] == kind::DEVICE,
-        RELEASE => record[entity::TYPE] == type_of::DRAFT,
+        RELEASE => record[entity::TYPE] == types::DRAFT,
         _ => record[entity::KIND] != kind::DEVICE,
     }
 }

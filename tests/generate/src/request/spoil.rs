@@ -1,7 +1,7 @@
 //! Requests with something amiss: a name that leads nowhere, a word out of its range, a requester who is none.
 use super::Drawing;
 use crate::layout::{
-    op, request, sort, ENTITIES, LEVEL_MOST, NAMES, OPERATIONS, PLACES, ROLES_MOST, SUM_MOST, USERS, WHO_MOST,
+    op, request, sort, ENTITIES, LEVEL_MOST, NAMES, OPERATION_MOST, PLACES, ROLES_MOST, SUM_MOST, USERS, WHO_MOST,
 };
 
 /// Numbers at the edges of the ranges there are, and of the word.
@@ -46,7 +46,7 @@ fn ranges(of: u32) -> [(u32, u32); 3] {
         EDIT => [ANY, NONE, NONE],
         SET_LEVEL | MAXIMUM | DEVICE_LEVEL => [LEVEL, NONE, NONE],
         SET_MARK => [(0, 1), NONE, NONE],
-        GRANT | REVOKE => [(1, WHO_MOST), (1, OPERATIONS), (1, 2)],
+        GRANT | REVOKE => [(1, WHO_MOST), (1, OPERATION_MOST), (1, 2)],
         SHOW => [(1, SUM_MOST), NONE, NONE],
         CURRENT_ROLES | AUTHORISED_ROLES => [USER, (0, ROLES_MOST), NONE],
         CLEARANCE => [USER, LEVEL, NONE],

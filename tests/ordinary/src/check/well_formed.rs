@@ -48,7 +48,7 @@ fn notice_fits(words: &UserWords) -> bool {
     if held == 0 {
         return operation == 0 && missed == 0;
     }
-    HELD.contains(&held) && operation <= OPERATIONS && (1..=MISSED_MOST).contains(&missed)
+    HELD.contains(&held) && operation <= OPERATION_MOST && (1..=MISSED_MOST).contains(&missed)
 }
 
 /// All entities' records, each by itself and then what they say of each other and of the terminals in use.
@@ -72,9 +72,9 @@ fn entities_fit(tables: &Tables, in_use: EntitySet) -> bool {
 fn fields_fit(words: &EntityWords) -> bool {
     let kind = words[entity::KIND];
     let (container, screen) = (kind == kind::CONTAINER, is_screen(kind));
-    let released = words[entity::TYPE] == type_of::RELEASED;
+    let released = words[entity::TYPE] == types::RELEASED;
     kind <= KIND_MOST
-        && words[entity::TYPE] <= if container { type_of::RELEASED } else { type_of::PLAIN }
+        && words[entity::TYPE] <= if container { types::RELEASED } else { types::PLAIN }
         && words[entity::LEVEL] <= LEVEL_MOST
         && words[entity::MARK] <= u32::from(container)
         && (!screen || words[entity::VALUE] == 0)
@@ -99,7 +99,9 @@ fn all_differ(words: &[u32]) -> bool {
 /// Who 1 to 24, operation 1 to 20, position 1 or 2 [rule 3.22].
 fn is_triple(word: u32) -> bool {
     let (who, operation, position) = (word >> 16, word >> 8 & 0xff, word & 0xff);
-    (1..=WHO_MOST).contains(&who) && (1..=OPERATIONS).contains(&operation) && (1..=POSITIONS).contains(&position)
+    (1..=WHO_MOST).contains(&who)
+        && (1..=OPERATION_MOST).contains(&operation)
+        && (1..=POSITION_MOST).contains(&position)
 }
 
 /// No bit set in any word. Without an early exit, since most records are absent and this way they go by quickly.

@@ -16,9 +16,9 @@ pub fn create<R: Rules>(turn: &mut Turn, container: Entity) -> Result<(), Refusa
     let new = Entity::all().find(absent).ok_or(Refusal::NoRoom)?;
 
     let (kind, type_of) = match turn.a() {
-        sort::CONTAINER => (kind::CONTAINER, type_of::PLAIN),
-        sort::DRAFT => (kind::CONTAINER, type_of::DRAFT),
-        _ => (kind::OBJECT, type_of::PLAIN),
+        sort::CONTAINER => (kind::CONTAINER, types::PLAIN),
+        sort::DRAFT => (kind::CONTAINER, types::DRAFT),
+        _ => (kind::OBJECT, types::PLAIN),
     };
     // An absent record is all zero, so that only these words are to be written.
     let parent = *turn.entity(container);
@@ -35,7 +35,7 @@ pub fn create<R: Rules>(turn: &mut Turn, container: Entity) -> Result<(), Refusa
 pub fn delete(turn: &mut Turn, entity: Entity) -> Result<(), Refusal> {
     let words = turn.entity(entity);
     let shown = logged_on(turn.tables).any(|(_, device)| holds(turn.entity(device), entity));
-    let released = words[entity::TYPE] == type_of::RELEASED;
+    let released = words[entity::TYPE] == types::RELEASED;
     Refusal::Arrangement.unless(words[entity::USED] == 0 && !released && !shown)?;
 
     if let Some(container) = container_of(turn.tables, entity) {

@@ -2,7 +2,7 @@
 
 use super::{accepted, entity_word, notice, request, set_entity, set_user, Tables};
 use generate::layout::{
-    entity, entity_base, kind, op, sort, triple, ENTITIES, ENTITY_WORDS, LEVEL_MOST, NAMES, OPERATIONS, PLACES,
+    entity, entity_base, kind, op, sort, triple, ENTITIES, ENTITY_WORDS, LEVEL_MOST, NAMES, OPERATION_MOST, PLACES,
     ROLES_MOST, SUM_MOST, USERS, WHO_MOST,
 };
 use generate::{s1, Dice};
@@ -97,7 +97,7 @@ pub fn permit(tables: &mut Tables, entity: Option<u32>, triple: u32) {
 
 /// Any operation, and now and then something that is none.
 fn random_operation(dice: &mut Dice) -> u32 {
-    match number(dice, OPERATIONS, OPERATIONS) {
+    match number(dice, OPERATION_MOST, OPERATION_MOST) {
         // Seldom clears a screen or logs off, so that screens fill.
         op::CLEAR | op::LOGOUT if dice.chance(95) => op::SHOW,
         operation => operation,
@@ -122,7 +122,7 @@ pub fn random_request(tables: &mut Tables, dice: &mut Dice) -> Vec<u32> {
     let (first, entity) = reference(tables, dice);
     let (second, other) = reference(tables, dice);
     if user <= USERS && dice.chance(90) {
-        let permitted = operation.min(OPERATIONS);
+        let permitted = operation.min(OPERATION_MOST);
         permit(tables, entity.filter(|_| operands > 0), triple(user, permitted, 1));
         permit(tables, other.filter(|_| operands > 1), triple(user, permitted, 2));
     }
@@ -152,7 +152,7 @@ fn arguments(tables: &Tables, user: u32, operation: u32, dice: &mut Dice) -> [u3
         EDIT => [dice.word(), 0, 0],
         SET_LEVEL | MAXIMUM | DEVICE_LEVEL => [level, 0, 0],
         SET_MARK => [dice.below(2), 0, 0],
-        GRANT | REVOKE => [dice.between(1, WHO_MOST), dice.between(1, OPERATIONS), dice.between(1, 2)],
+        GRANT | REVOKE => [dice.between(1, WHO_MOST), dice.between(1, OPERATION_MOST), dice.between(1, 2)],
         SHOW => [dice.between(1, SUM_MOST), 0, 0],
         CURRENT_ROLES | AUTHORISED_ROLES => [someone, dice.word() & dice.word() & ROLES_MOST, 0],
         CLEARANCE => [someone, level, 0],
