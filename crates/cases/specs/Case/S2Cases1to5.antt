@@ -38,7 +38,7 @@ createCases =
     entityIs 7 (triple 2) (tripleOf 1 3 2) ∷ [])
     -- 5: sort 0
     ∷ noted (ask 1 1 (12 ∷ []) [] 0 (at 1 0) 0) 5 []
-    -- 5: a sort too great
+    -- 5: a sort over the last
     ∷ noted (ask 1 1 (12 ∷ []) [] (suc draftSort) (at 1 0) 0) 5 []
     -- 5: a level over the highest
     ∷ noted (ask 1 1 (12 ∷ []) [] 3 levelCount 0) 5 []

@@ -96,15 +96,15 @@ grantCases =
     ∷ expect [] (ask 1 8 (14 ∷ []) [] 1 3 2) 0 (entityIs 14 (triple 0) (tripleOf 1 3 2) ∷ entityIs 14 (triple 7) (tripleOf 1 19 1) ∷ userIs 1 held 0 ∷ [])
     -- 5: who 0
     ∷ noted (ask 1 8 (4 ∷ []) [] 0 1 1) 5 []
-    -- 5: who, too great
+    -- 5: who over the last
     ∷ noted (ask 1 8 (4 ∷ []) [] (suc whoMost) 1 1) 5 []
     -- 5: operation 0
     ∷ noted (ask 1 8 (4 ∷ []) [] 1 0 1) 5 []
-    -- 5: an operation too great
+    -- 5: an operation over the last
     ∷ noted (ask 1 8 (4 ∷ []) [] 1 (suc operationCount) 1) 5 []
     -- 5: position 0
     ∷ noted (ask 1 8 (4 ∷ []) [] 1 1 0) 5 []
-    -- 5: a position too great
+    -- 5: a position over the last
     ∷ noted (ask 1 8 (4 ∷ []) [] 1 1 (suc positionCount)) 5 (entityIs 4 (triple 3) 0 ∷ [])
     -- 5: no name
     ∷ noted (ask 1 8 [] [] 1 1 1) 5 []
@@ -134,15 +134,15 @@ revokeCases =
     entityIs 4 (triple 2) (tripleOf (whoRole 1) 12 1) ∷ entityIs 4 (triple 3) 0 ∷ userIs 1 held 0 ∷ [])
     -- 5: who 0
     ∷ noted (ask 1 9 (4 ∷ []) [] 0 8 1) 5 []
-    -- 5: who, too great
+    -- 5: who over the last
     ∷ noted (ask 1 9 (4 ∷ []) [] (suc whoMost) 8 1) 5 []
     -- 5: operation 0
     ∷ noted (ask 1 9 (4 ∷ []) [] 1 0 1) 5 []
-    -- 5: an operation too great
+    -- 5: an operation over the last
     ∷ noted (ask 1 9 (4 ∷ []) [] 1 (suc operationCount) 1) 5 []
     -- 5: position 0
     ∷ noted (ask 1 9 (4 ∷ []) [] 1 8 0) 5 []
-    -- 5: a position too great
+    -- 5: a position over the last
     ∷ noted (ask 1 9 (4 ∷ []) [] 1 8 (suc positionCount)) 5 []
     -- 5: five names
     ∷ noted (ask 1 9 (16 ∷ 1 ∷ 1 ∷ 1 ∷ 1 ∷ []) [] 1 8 1) 5 []
@@ -174,7 +174,7 @@ showCases =
     ∷ expect [] (ask 2 10 (1 ∷ 1 ∷ []) [] 6 0 0) 0 (entityIs 2 used 2 ∷ entityIs 2 (place 1) 31 ∷ entityIs 2 (shown 1) 6 ∷ entityIs 1 (shown 0) 3 ∷ [])
     -- 5: a sum of 0
     ∷ noted (ask 1 10 (28 ∷ []) [] 0 0 0) 5 (entityIs 1 (shown 1) 6 ∷ [])
-    -- 5: a sum too great
+    -- 5: a sum over the greatest
     ∷ noted (ask 1 10 (28 ∷ []) [] (suc sumMost) 0 0) 5 (entityIs 1 (shown 1) 6 ∷ [])
     -- 5: b is not used
     ∷ noted (ask 1 10 (28 ∷ []) [] 7 1 0) 5 []
