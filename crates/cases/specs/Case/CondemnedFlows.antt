@@ -5,7 +5,7 @@ use mathlib.Core.List.{List, List·Memᴰ·head, List·Memᴰ·tail, [], _∷_}
 use mathlib.Core.Logic.{_≢_, inl, inr}
 use mathlib.Core.Option.{none, some}
 use mathlib.Core.Path.{_≡_, refl, subst}
-use Prim.Native.Nat.{_<_, ℕ}
+use Prim.Native.Nat.{_<_, suc, ℕ}
 use native.Mathlib.Omega.{arith}
 use lib.Dec.{T, T-not, eqb, lit<, lit≤}
 use Rattle.cases.specs.Case.Cases.{ask}
@@ -21,9 +21,8 @@ use Rattle.model.specs.Request.Operations.{Op, numberOf, opOf, toClear, toCopy,
 use Rattle.model.specs.Request.TestLaws.{permits-agrees}
 use Rattle.model.specs.Request.Words.{Request}
 use Rattle.model.specs.Tables.Edits.{_and_, onEntity, onUser, userWord, word}
-use Rattle.model.specs.Tables.Words.{EntityWord, Tables, used, usedPlaces, device, idBit, place, shown, sums, value}
-use Rattle.model.specs.Theorem.Definitions.{AccessSecure, CcrSecure, CopySecure, Flows, NamedOpenly, Quiet, ShowsId}
-use Rattle.model.specs.Theorem.Definitions.{TranslationSecure}
+use Rattle.model.specs.Tables.Words.{EntityWord, Tables, device, idBit, operationCount, place, shown, sums, used, usedPlaces, value}
+use Rattle.model.specs.Theorem.Definitions.{AccessSecure, CcrSecure, CopySecure, Flows, NamedOpenly, Quiet, ShowsId, TranslationSecure}
 
 -- A changed word of an entity is more than the notice.
 loud : {d d′ : Tables} {u : ℕ} (x : ℕ) (f : EntityWord) → Quiet d u d′ → T (not (eqb (d′ .entity x f) (d .entity x f))) → ⊥
@@ -127,8 +126,8 @@ unfolding opened s1 s1Sheet
 nobody-ccr-condemned (inl h) = loud 7 value h tt
 nobody-ccr-condemned (inr z) = nobody-means (z .0) (z .1)
 
--- Operation 21 means nothing;
-pub no-operation-condemned : (o : Op) → Meant o s1 (ask 2 21 [] [] 0 0 0) → ⊥
+-- An operation over the last means nothing;
+pub no-operation-condemned : (o : Op) → Meant o s1 (ask 2 (suc operationCount) [] [] 0 0 0) → ⊥
 unfolding opened s1 s1Sheet
 no-operation-condemned o m =
     let p : none ≡ some o = m .named in

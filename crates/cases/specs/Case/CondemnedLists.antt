@@ -14,7 +14,7 @@ use Rattle.model.specs.Request.Refusals as refusal
 
 -- Rule 10.2: the desk offered a list to user 3, who is off.
 pub offered-condemned : (room : List ℕ) (n : ℕ) (r : List ℕ) → Lists s1Words 3 room 0 n r → ⊥
-offered-condemned room n r x = differ 0 6 tt (lists-unique x (s1-list-off room) .0)
+offered-condemned room n r x = differ 0 refusal.notLoggedOn tt (lists-unique x (s1-list-off room) .0)
 
 -- Rule 10.2: in a room of fewer than five words the desk answered 17 for user 2, and wrote in it all the same.
 pub overwritten-condemned : (room r : List ℕ) → (r ≡ room → ⊥) → length room < 5 → Lists s1Words 2 room refusal.tooShort 1 r → ⊥

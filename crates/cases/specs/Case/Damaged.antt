@@ -94,7 +94,7 @@ recordDamages =
     ∷ spoilt 2 (onScreen2 (suc sumMost) [])
     ∷ spoilt 2 (entityIs 1 (shown 0) 3 ∷ [])
     ∷ spoilt 0 (onScreen2 sumMost [])
-    -- 3.22: who, operation and position 0 and too great, and more in the word
+    -- 3.22: who, operation and position 0 and over the last, and more in the word
     ∷ spoilt 2 (entityIs 5 (triple 1) (tripleOf 0 5 1) ∷ [])
     ∷ spoilt 2 (entityIs 5 (triple 1) (tripleOf (suc whoMost) 5 1) ∷ [])
     ∷ spoilt 2 (entityIs 5 (triple 1) (tripleOf 2 0 1) ∷ [])

@@ -10,6 +10,7 @@ use Rattle.cases.specs.Case.S1.{s1, s1Sheet}
 use Rattle.cases.specs.Case.S1Holds.{s1-good}
 use Rattle.model.specs.Request.After.{after}
 use Rattle.model.specs.Request.Ladder.{answer}
+use Rattle.model.specs.Request.Refusals as refusal
 use Rattle.model.specs.Request.Step.{afterOf, answerOf, sized}
 use Rattle.model.specs.Request.Words.{requestOf, requestWords}
 use Rattle.model.specs.State.AgreeSecure.{check-agrees}
@@ -87,9 +88,9 @@ s1Words-after q h = afterOf-tables s1Words q (sized-agrees s1Words q .from (s1Wo
 
 -- a word too few or too many, of the tables or of a request, is answered 1
 pub s1Words-sizes :
-    (answerOf (take (wordCount - 1) s1Words) (asking 2 10 (5 ∷ []) [] 3 0 0) ≡ 1)
-    × (answerOf (0 ∷ s1Words) (asking 2 10 (5 ∷ []) [] 3 0 0) ≡ 1)
-    × (answerOf s1Words (take (requestWords - 1) (asking 2 10 (5 ∷ []) [] 3 0 0)) ≡ 1)
-    × (answerOf s1Words (0 ∷ asking 2 10 (5 ∷ []) [] 3 0 0) ≡ 1)
+    (answerOf (take (wordCount - 1) s1Words) (asking 2 10 (5 ∷ []) [] 3 0 0) ≡ refusal.badLength)
+    × (answerOf (0 ∷ s1Words) (asking 2 10 (5 ∷ []) [] 3 0 0) ≡ refusal.badLength)
+    × (answerOf s1Words (take (requestWords - 1) (asking 2 10 (5 ∷ []) [] 3 0 0)) ≡ refusal.badLength)
+    × (answerOf s1Words (0 ∷ asking 2 10 (5 ∷ []) [] 3 0 0) ≡ refusal.badLength)
 unfolding opened answerOf sized s1Words s1Users s1Entities
 s1Words-sizes = (refl, refl, refl, refl)

@@ -2,8 +2,8 @@
 use mathlib.Core.List.{[], _∷_}
 use Rattle.cases.specs.Case.Cases.{at, gone, highest, item}
 use Rattle.model.specs.Tables.Sheet.{Sheet, sheetTables}
-use Rattle.model.specs.Tables.Words.{Tables, containerKind, deviceKind, draftType, missedMost, objectKind, plainType, releasedType}
-use Rattle.model.specs.Tables.Words.{tripleOf}
+use Rattle.model.specs.Tables.Words.{Tables, containerKind, deviceKind, draftType, missedMost, objectKind, operationCount, plainType}
+use Rattle.model.specs.Tables.Words.{releasedType, tripleOf, userCount, whoRole}
 
 -- Seven users and thirty-three entities. Entity 7 is absent, so it is the lowest free number; 35 to 64 are absent too. Entity 8 is
 -- the marked one. User 1 has all three named roles; 2 is a downgrader and a releaser who now has only two house roles (8 and 128);
@@ -32,10 +32,10 @@ s2Sheet = record {
       ∷ item deviceKind plainType (at 1 0) 0 0 0 (at 1 0) [] [] (tripleOf 1 6 1 ∷ tripleOf 1 7 1 ∷ tripleOf 1 10 1 ∷ tripleOf 1 19 1 ∷ tripleOf 2 18 1 ∷ [])
       -- 4: user 6's device, its level over its user's clearance; seven on its screen
       ∷ item deviceKind plainType highest 0 0 0 highest (28 ∷ 20 ∷ 21 ∷ 23 ∷ 24 ∷ 25 ∷ 26 ∷ []) (2 ∷ 3 ∷ 6 ∷ 7 ∷ 4 ∷ 3 ∷ 2 ∷ []) (tripleOf 1 8 1 ∷
-      tripleOf 1 9 1 ∷ tripleOf 18 12 1 ∷ [])
+      tripleOf 1 9 1 ∷ tripleOf (whoRole 1) 12 1 ∷ [])
       -- 5: user 7's device, with eight on its screen
       ∷ item deviceKind plainType (at 2 0) 0 0 0 (at 2 0) (20 ∷ 21 ∷ 22 ∷ 23 ∷ 24 ∷ 25 ∷ 26 ∷ 27 ∷ []) (3 ∷ 2 ∷ 4 ∷ 6 ∷ 7 ∷ 3 ∷ 2 ∷ 3 ∷ []) (tripleOf 2 18 1 ∷
-      tripleOf 17 17 1 ∷ [])
+      tripleOf (whoRole 0) 17 1 ∷ [])
       -- 6: a device that nobody is on
       ∷ item deviceKind plainType (at 2 1) 0 0 0 highest [] [] (tripleOf 3 12 1 ∷ tripleOf 1 12 1 ∷ tripleOf 2 18 1 ∷ tripleOf 1 17 1 ∷ tripleOf 7 17 1 ∷
       tripleOf 1 18 1 ∷ [])
@@ -52,7 +52,7 @@ s2Sheet = record {
       -- 11: an unmarked container around the marked one
       ∷ item containerKind plainType (at 3 3) 0 0 0 0 (8 ∷ []) [] []
       -- 12: a container of three
-      ∷ item containerKind plainType (at 2 0) 0 70 0 0 (13 ∷ 14 ∷ 15 ∷ []) [] (tripleOf 1 1 1 ∷ tripleOf 20 1 1 ∷ tripleOf 1 3 2 ∷ tripleOf 1 3 1 ∷
+      ∷ item containerKind plainType (at 2 0) 0 70 0 0 (13 ∷ 14 ∷ 15 ∷ []) [] (tripleOf 1 1 1 ∷ tripleOf (whoRole 3) 1 1 ∷ tripleOf 1 3 2 ∷ tripleOf 1 3 1 ∷
       tripleOf 1 2 1 ∷ tripleOf 1 6 1 ∷ [])
       -- 13: an object with eight triples
       ∷ item objectKind plainType (at 1 0) 0 40 0 0 [] [] (tripleOf 1 1 1 ∷ tripleOf 1 2 1 ∷ tripleOf 1 3 1 ∷ tripleOf 1 3 2 ∷ tripleOf 1 4 1 ∷
@@ -61,7 +61,7 @@ s2Sheet = record {
       ∷ item containerKind plainType (at 1 0) 0 50 0 0 [] [] (tripleOf 1 3 2 ∷ tripleOf 1 5 1 ∷ tripleOf 1 5 2 ∷ tripleOf 1 7 1 ∷ tripleOf 7 10 1 ∷
       tripleOf 1 8 1 ∷ tripleOf 1 9 1 ∷ tripleOf 1 19 1 ∷ [])
       -- 15: an object with triples for roles
-      ∷ item objectKind plainType (at 2 0) 0 42 0 0 [] [] (tripleOf 1 2 2 ∷ tripleOf 24 2 1 ∷ tripleOf 19 4 1 ∷ tripleOf 1 19 1 ∷ [])
+      ∷ item objectKind plainType (at 2 0) 0 42 0 0 [] [] (tripleOf 1 2 2 ∷ tripleOf (whoRole 7) 2 1 ∷ tripleOf (whoRole 2) 4 1 ∷ tripleOf 1 19 1 ∷ [])
       -- 16: a container around 17, which is around 18
       ∷ item containerKind plainType (at 1 0) 0 0 0 0 (17 ∷ []) [] (tripleOf 1 3 1 ∷ tripleOf 1 3 2 ∷ tripleOf 2 6 1 ∷ tripleOf 1 2 1 ∷ [])
       -- 17
@@ -98,8 +98,8 @@ s2Sheet = record {
       -- 32: an object of the same level on user 2's screen
       ∷ item objectKind plainType (at 0 1) 0 45 0 0 [] [] (tripleOf 1 2 1 ∷ tripleOf 1 5 2 ∷ tripleOf 1 6 1 ∷ [])
       -- 33: the object at the end of a reference of four names, with seven triples
-      ∷ item objectKind plainType 0 0 46 0 0 [] [] (tripleOf 1 4 1 ∷ tripleOf 1 8 1 ∷ tripleOf 1 18 1 ∷ tripleOf 16 20 1 ∷ tripleOf 21 1 1 ∷ tripleOf 22 2 1 ∷
-      tripleOf 23 3 2 ∷ [])
+      ∷ item objectKind plainType 0 0 46 0 0 [] [] (tripleOf 1 4 1 ∷ tripleOf 1 8 1 ∷ tripleOf 1 18 1 ∷ tripleOf userCount operationCount 1 ∷
+      tripleOf (whoRole 4) 1 1 ∷ tripleOf (whoRole 5) 2 1 ∷ tripleOf (whoRole 6) 3 2 ∷ [])
       -- 34: a released container, empty and on no screen; its releaser is not a present user
       ∷ item containerKind releasedType (at 2 0) 0 47 9 0 [] [] (tripleOf 1 2 1 ∷ tripleOf 1 4 1 ∷ tripleOf 6 4 1 ∷ tripleOf 1 5 2 ∷ tripleOf 1 19 1 ∷ [])
       ∷ [];

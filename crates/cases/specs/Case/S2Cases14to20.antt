@@ -21,7 +21,7 @@ currentCases =
     ∷ expect [] (ask 7 14 [] [] 7 1 0) 0 (userIs 7 current 1 ∷ userIs 7 authorised 1 ∷ userIs 7 held 0 ∷ [])
     -- 5: user 0
     ∷ noted (ask 1 14 [] [] 0 0 0) 5 []
-    -- 5: a user too great
+    -- 5: a user over the last
     ∷ noted (ask 1 14 [] [] (suc userCount) 0 0) 5 []
     -- 5: a role too many
     ∷ noted (ask 1 14 [] [] 1 roleSets 0) 5 (userIs 1 current 7 ∷ [])
@@ -55,7 +55,7 @@ clearanceCases =
     ∷ expect [] (ask 1 15 [] [] 1 (at 1 1) 0) 0 (userIs 1 clearance (at 1 1) ∷ entityIs 1 used 2 ∷ [])
     -- 5: user 0
     ∷ noted (ask 1 15 [] [] 0 0 0) 5 []
-    -- 5: a user too great
+    -- 5: a user over the last
     ∷ noted (ask 1 15 [] [] (suc userCount) 0 0) 5 []
     -- 5: over the highest
     ∷ noted (ask 1 15 [] [] 3 levelCount 0) 5 (userIs 3 clearance (at 2 1) ∷ [])
@@ -83,7 +83,7 @@ authorisedCases =
     ∷ expect [] (ask 1 16 [] [] 2 136 0) 0 (userIs 2 authorised 136 ∷ userIs 2 current 136 ∷ [])
     -- 5: user 0
     ∷ noted (ask 1 16 [] [] 0 0 0) 5 []
-    -- 5: a user too great
+    -- 5: a user over the last
     ∷ noted (ask 1 16 [] [] (suc userCount) 0 0) 5 []
     -- 5: a role too many
     ∷ noted (ask 1 16 [] [] 3 roleSets 0) 5 (userIs 3 authorised 6 ∷ [])
@@ -241,7 +241,7 @@ ladderCases =
     ∷ expect [] (ask 8 0 [] [] 0 0 0) 4 (userIs 8 present 0 ∷ userIs 8 held 0 ∷ userIs 8 missed 0 ∷ [])
     -- 5: operation 0, which the notice keeps as 0
     ∷ noted (ask 1 0 [] [] 0 0 0) 5 []
-    -- 5 before 6: an operation too great, which the notice keeps as 0, by one who is off
+    -- 5 before 6: an operation over the last, which the notice keeps as 0, by one who is off
     ∷ expect [] (ask 3 (suc operationCount) [] [] 0 0 0) 5 (userIs 3 held 5 ∷ userIs 3 heldOp 0 ∷ userIs 3 missed 1 ∷ [])
     -- 5: a name word of a second reference of no names
     ∷ noted (raw (1 ∷ 4 ∷ 1 ∷ 13 ∷ 0 ∷ 0 ∷ 0 ∷ 0 ∷ 13 ∷ 0 ∷ 0 ∷ 0 ∷ 77 ∷ 0 ∷ 0 ∷ 0 ∷ [])) 5 (entityIs 13 value 40 ∷ [])
@@ -251,7 +251,7 @@ ladderCases =
     ∷ noted (raw (1 ∷ 11 ∷ 0 ∷ 0 ∷ 0 ∷ 0 ∷ 0 ∷ 0 ∷ 0 ∷ 0 ∷ 0 ∷ 0 ∷ 0 ∷ 0 ∷ 0 ∷ 1 ∷ [])) 5 (entityIs 1 used 2 ∷ [])
     -- 5: a name word where the operation takes no reference
     ∷ noted (raw (1 ∷ 13 ∷ 0 ∷ 1 ∷ 0 ∷ 0 ∷ 0 ∷ 0 ∷ 0 ∷ 0 ∷ 0 ∷ 0 ∷ 0 ∷ 0 ∷ 0 ∷ 0 ∷ [])) 5 (userIs 1 device 1 ∷ [])
-    -- 5 before 6: off, and a sum too great
+    -- 5 before 6: off, and a sum over the greatest
     ∷ noted (ask 3 10 (31 ∷ []) [] (suc sumMost) 0 0) 5 []
     -- 6 before 7: off, and the name leads nowhere
     ∷ noted (ask 3 10 (suc entityCount ∷ []) [] 3 0 0) 6 []

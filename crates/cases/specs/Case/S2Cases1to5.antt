@@ -5,7 +5,7 @@ use Rattle.cases.specs.Case.Cases.{Case, ask, at, entityIs, expect, high
 use Rattle.model.specs.Effect.Places.{draftSort}
 use Rattle.model.specs.Level.{levelCount}
 use Rattle.model.specs.Tables.Words.{containerKind, deviceKind, draftType, entityCount, held, kind, level, mark, objectKind, place}
-use Rattle.model.specs.Tables.Words.{plainType, releasedType, releaser, triple, tripleOf, type, used, value}
+use Rattle.model.specs.Tables.Words.{plainType, releasedType, releaser, triple, tripleOf, type, used, value, whoRole}
 use Rattle.model.specs.Text.Numbers.{most}
 
 -- every case: what was asked before (from S2 on), what is asked, the answer, and words that stand afterwards
@@ -13,7 +13,7 @@ unfoldable pub createCases : List Case
 createCases =
     -- a draft under the container's level: the lowest free number, last in the container, its triples copied and all else zero
     expect [] (ask 1 1 (12 ∷ []) [] 3 (at 1 0) 0) 0 (entityIs 7 kind containerKind ∷ entityIs 7 type draftType ∷ entityIs 7 level (at 1 0) ∷
-    entityIs 7 value 0 ∷ entityIs 7 used 0 ∷ entityIs 7 (triple 0) (tripleOf 1 1 1) ∷ entityIs 7 (triple 1) (tripleOf 20 1 1) ∷
+    entityIs 7 value 0 ∷ entityIs 7 used 0 ∷ entityIs 7 (triple 0) (tripleOf 1 1 1) ∷ entityIs 7 (triple 1) (tripleOf (whoRole 3) 1 1) ∷
     entityIs 7 (triple 2) (tripleOf 1 3 2) ∷ entityIs 7 (triple 3) (tripleOf 1 3 1) ∷ entityIs 7 (triple 4) (tripleOf 1 2 1) ∷
     entityIs 7 (triple 5) (tripleOf 1 6 1) ∷ entityIs 7 (triple 6) 0 ∷ entityIs 12 used 4 ∷ entityIs 12 (place 3) 7 ∷ entityIs 12 (place 2) 15 ∷
     entityIs 12 value 70 ∷ [])
@@ -23,7 +23,7 @@ createCases =
     entityIs 7 (triple 3) (tripleOf 1 1 1) ∷ entityIs 8 used 4 ∷ entityIs 8 (place 3) 7 ∷ entityIs 8 mark 1 ∷ [])
     -- an object, by a house role that the requester now has
     ∷ expect [] (ask 2 1 (12 ∷ []) [] 1 0 0) 0 (entityIs 7 kind objectKind ∷ entityIs 7 type plainType ∷ entityIs 7 level 0 ∷
-    entityIs 7 (triple 0) (tripleOf 1 1 1) ∷ entityIs 7 (triple 1) (tripleOf 20 1 1) ∷ entityIs 7 (triple 2) (tripleOf 1 3 2) ∷
+    entityIs 7 (triple 0) (tripleOf 1 1 1) ∷ entityIs 7 (triple 1) (tripleOf (whoRole 3) 1 1) ∷ entityIs 7 (triple 2) (tripleOf 1 3 2) ∷
     entityIs 7 (triple 3) (tripleOf 1 3 1) ∷ entityIs 7 (triple 4) (tripleOf 1 2 1) ∷ entityIs 7 (triple 5) (tripleOf 1 6 1) ∷ entityIs 12 used 4 ∷
     entityIs 12 (place 3) 7 ∷ userIs 2 held 0 ∷ [])
     -- under the marked container but named directly; eight triples are copied, the draft's type and value are not
@@ -38,7 +38,7 @@ createCases =
     entityIs 7 (triple 2) (tripleOf 1 3 2) ∷ [])
     -- 5: sort 0
     ∷ noted (ask 1 1 (12 ∷ []) [] 0 (at 1 0) 0) 5 []
-    -- 5: a sort too great
+    -- 5: a sort over the last
     ∷ noted (ask 1 1 (12 ∷ []) [] (suc draftSort) (at 1 0) 0) 5 []
     -- 5: a level over the highest
     ∷ noted (ask 1 1 (12 ∷ []) [] 3 levelCount 0) 5 []

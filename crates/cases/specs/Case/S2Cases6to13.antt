@@ -5,7 +5,7 @@ use Rattle.cases.specs.Case.Cases.{Case, ask, at, entityIs, expect, high
 use Rattle.model.specs.Level.{levelCount}
 use Rattle.model.specs.Tables.Words.{authorised, clearance, current, device, draftType, entityCount, held, heldOp, level, mark, missed}
 use Rattle.model.specs.Tables.Words.{missedMost, operationCount, place, placeCount, positionCount, shown, sumMost, triple, tripleOf, type}
-use Rattle.model.specs.Tables.Words.{used, value, whoMost}
+use Rattle.model.specs.Tables.Words.{used, value, whoMost, whoRole}
 
 -- every case: what was asked before (from S2 on), what is asked, the answer, and words that stand afterwards
 unfoldable pub levelCases : List Case
@@ -86,25 +86,25 @@ unfoldable pub grantCases : List Case
 grantCases =
     -- on a device, with the highest of each range: it becomes the last
     expect [] (ask 1 8 (4 ∷ []) [] whoMost operationCount positionCount) 0 (entityIs 4 (triple 3) (tripleOf whoMost operationCount positionCount) ∷
-    entityIs 4 (triple 2) (tripleOf 18 12 1) ∷ entityIs 4 (triple 4) 0 ∷ entityIs 4 used 7 ∷ [])
+    entityIs 4 (triple 2) (tripleOf (whoRole 1) 12 1) ∷ entityIs 4 (triple 4) 0 ∷ entityIs 4 used 7 ∷ [])
     -- on an object, with the lowest of each range: the eighth
     ∷ expect [] (ask 1 8 (33 ∷ []) [] 1 1 1) 0 (entityIs 33 (triple 7) (tripleOf 1 1 1) ∷ entityIs 33 (triple 0) (tripleOf 1 4 1) ∷
-    entityIs 33 (triple 6) (tripleOf 23 3 2) ∷ [])
+    entityIs 33 (triple 6) (tripleOf (whoRole 6) 3 2) ∷ [])
     -- already held: no change
     ∷ expect [] (ask 1 8 (33 ∷ []) [] 1 4 1) 0 (entityIs 33 (triple 0) (tripleOf 1 4 1) ∷ entityIs 33 (triple 7) 0 ∷ [])
     -- already held among eight: no change, and no room is asked
     ∷ expect [] (ask 1 8 (14 ∷ []) [] 1 3 2) 0 (entityIs 14 (triple 0) (tripleOf 1 3 2) ∷ entityIs 14 (triple 7) (tripleOf 1 19 1) ∷ userIs 1 held 0 ∷ [])
     -- 5: who 0
     ∷ noted (ask 1 8 (4 ∷ []) [] 0 1 1) 5 []
-    -- 5: who, too great
+    -- 5: who over the last
     ∷ noted (ask 1 8 (4 ∷ []) [] (suc whoMost) 1 1) 5 []
     -- 5: operation 0
     ∷ noted (ask 1 8 (4 ∷ []) [] 1 0 1) 5 []
-    -- 5: an operation too great
+    -- 5: an operation over the last
     ∷ noted (ask 1 8 (4 ∷ []) [] 1 (suc operationCount) 1) 5 []
     -- 5: position 0
     ∷ noted (ask 1 8 (4 ∷ []) [] 1 1 0) 5 []
-    -- 5: a position too great
+    -- 5: a position over the last
     ∷ noted (ask 1 8 (4 ∷ []) [] 1 1 (suc positionCount)) 5 (entityIs 4 (triple 3) 0 ∷ [])
     -- 5: no name
     ∷ noted (ask 1 8 [] [] 1 1 1) 5 []
@@ -123,26 +123,26 @@ grantCases =
 unfoldable pub revokeCases : List Case
 revokeCases =
     -- the first of three, the requester's own right to grant: the others move up
-    expect [] (ask 1 9 (4 ∷ []) [] 1 8 1) 0 (entityIs 4 (triple 0) (tripleOf 1 9 1) ∷ entityIs 4 (triple 1) (tripleOf 18 12 1) ∷ entityIs 4 (triple 2) 0 ∷
-    entityIs 4 (place 0) 28 ∷ [])
+    expect [] (ask 1 9 (4 ∷ []) [] 1 8 1) 0 (entityIs 4 (triple 0) (tripleOf 1 9 1) ∷ entityIs 4 (triple 1) (tripleOf (whoRole 1) 12 1) ∷
+    entityIs 4 (triple 2) 0 ∷ entityIs 4 (place 0) 28 ∷ [])
     -- one in the middle of eight
     ∷ expect [] (ask 6 9 (10 ∷ []) [] 6 5 2) 0 (entityIs 10 (triple 1) (tripleOf 6 3 2) ∷ entityIs 10 (triple 2) (tripleOf 6 7 1) ∷
     entityIs 10 (triple 3) (tripleOf 6 8 1) ∷ entityIs 10 (triple 4) (tripleOf 6 9 1) ∷ entityIs 10 (triple 5) (tripleOf 6 18 1) ∷
     entityIs 10 (triple 6) (tripleOf 6 19 1) ∷ entityIs 10 (triple 7) 0 ∷ [])
     -- one that is not held, with the highest of each range: no change
     ∷ expect [] (ask 1 9 (4 ∷ []) [] whoMost operationCount positionCount) 0 (entityIs 4 (triple 0) (tripleOf 1 8 1) ∷
-    entityIs 4 (triple 2) (tripleOf 18 12 1) ∷ entityIs 4 (triple 3) 0 ∷ userIs 1 held 0 ∷ [])
+    entityIs 4 (triple 2) (tripleOf (whoRole 1) 12 1) ∷ entityIs 4 (triple 3) 0 ∷ userIs 1 held 0 ∷ [])
     -- 5: who 0
     ∷ noted (ask 1 9 (4 ∷ []) [] 0 8 1) 5 []
-    -- 5: who, too great
+    -- 5: who over the last
     ∷ noted (ask 1 9 (4 ∷ []) [] (suc whoMost) 8 1) 5 []
     -- 5: operation 0
     ∷ noted (ask 1 9 (4 ∷ []) [] 1 0 1) 5 []
-    -- 5: an operation too great
+    -- 5: an operation over the last
     ∷ noted (ask 1 9 (4 ∷ []) [] 1 (suc operationCount) 1) 5 []
     -- 5: position 0
     ∷ noted (ask 1 9 (4 ∷ []) [] 1 8 0) 5 []
-    -- 5: a position too great
+    -- 5: a position over the last
     ∷ noted (ask 1 9 (4 ∷ []) [] 1 8 (suc positionCount)) 5 []
     -- 5: five names
     ∷ noted (ask 1 9 (16 ∷ 1 ∷ 1 ∷ 1 ∷ 1 ∷ []) [] 1 8 1) 5 []
@@ -174,7 +174,7 @@ showCases =
     ∷ expect [] (ask 2 10 (1 ∷ 1 ∷ []) [] 6 0 0) 0 (entityIs 2 used 2 ∷ entityIs 2 (place 1) 31 ∷ entityIs 2 (shown 1) 6 ∷ entityIs 1 (shown 0) 3 ∷ [])
     -- 5: a sum of 0
     ∷ noted (ask 1 10 (28 ∷ []) [] 0 0 0) 5 (entityIs 1 (shown 1) 6 ∷ [])
-    -- 5: a sum too great
+    -- 5: a sum over the greatest
     ∷ noted (ask 1 10 (28 ∷ []) [] (suc sumMost) 0 0) 5 (entityIs 1 (shown 1) 6 ∷ [])
     -- 5: b is not used
     ∷ noted (ask 1 10 (28 ∷ []) [] 7 1 0) 5 []

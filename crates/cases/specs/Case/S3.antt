@@ -1,11 +1,11 @@
 -- Case state S3: all sixty-four numbers are present, so that a create finds none free.
 use mathlib.Core.List.{List, [], _++_, _∷_}
-use Prim.Native.Nat.{ℕ}
+use Prim.Native.Nat.{_-_, ℕ}
 use lib.ListN.{replicate}
 use Rattle.cases.specs.Case.Cases.{Case, ask, at, entityIs, expect, highest, item, noted}
 use Rattle.model.specs.Tables.Sheet.{Sheet, sheetTables}
-use Rattle.model.specs.Tables.Words.{Tables, containerKind, deviceKind, draftType, kind, objectKind, place, plainType, triple, tripleOf}
-use Rattle.model.specs.Tables.Words.{type, used, value}
+use Rattle.model.specs.Tables.Words.{Tables, containerKind, deviceKind, draftType, entityCount, kind, objectKind, place, plainType, triple}
+use Rattle.model.specs.Tables.Words.{tripleOf, type, used, value}
 
 -- an object with nothing in it
 abbrev bare : List ℕ
@@ -22,8 +22,8 @@ s3Sheet = record {
       item deviceKind plainType highest 0 0 0 highest [] [] []
       -- 2: an empty container
       ∷ item containerKind plainType 0 0 0 0 0 [] [] (tripleOf 1 1 1 ∷ [])
-      -- 3 to 39 and 41 to 64: objects; 40: one that user 1 may delete
-      ∷ (replicate 37 bare ++ (item objectKind plainType 0 0 9 0 0 [] [] (tripleOf 1 2 1 ∷ []) ∷ replicate 24 bare));
+      -- 3 to 39 and all from 41 on: objects; 40: one that user 1 may delete
+      ∷ (replicate 37 bare ++ (item objectKind plainType 0 0 9 0 0 [] [] (tripleOf 1 2 1 ∷ []) ∷ replicate (entityCount - 40) bare));
 }
 
 unfoldable pub s3 : Tables
@@ -39,5 +39,5 @@ fullCases =
     -- the number of one that was deleted is free again, and nothing of the old record is left in it
     ∷ expect (ask 1 2 (40 ∷ []) [] 0 0 0 ∷ []) (ask 1 1 (2 ∷ []) [] 3 0 0) 0 (entityIs 40 kind containerKind ∷ entityIs 40 type draftType ∷
     entityIs 40 value 0 ∷ entityIs 40 (triple 0) (tripleOf 1 1 1) ∷ entityIs 40 (triple 1) 0 ∷ entityIs 2 used 1 ∷ entityIs 2 (place 0) 40 ∷
-    entityIs 64 kind objectKind ∷ [])
+    entityIs entityCount kind objectKind ∷ [])
     ∷ []

@@ -4,7 +4,7 @@ use Prim.Native.Nat.{ℕ}
 use lib.ListN.{replicate}
 use Rattle.cases.specs.Case.Cases.{at, item}
 use Rattle.model.specs.Tables.Sheet.{Sheet, sheetTables}
-use Rattle.model.specs.Tables.Words.{Tables, containerKind, deviceKind, objectKind, plainType, tripleOf}
+use Rattle.model.specs.Tables.Words.{Tables, containerKind, deviceKind, objectKind, plainType, tripleOf, whoRole}
 
 -- an object with nothing in it
 abbrev bare : List ℕ
@@ -27,7 +27,7 @@ s4Sheet = record {
       -- 4: a container that nobody may show; it is around 5
       ∷ item containerKind plainType (at 2 0) 0 0 0 0 (5 ∷ []) [] []
       -- 5: an object that the role 8 may show
-      ∷ item objectKind plainType (at 1 0) 0 60 0 0 [] [] (tripleOf 20 10 1 ∷ [])
+      ∷ item objectKind plainType (at 1 0) 0 60 0 0 [] [] (tripleOf (whoRole 3) 10 1 ∷ [])
       -- 6: an object on the screen that user 1 may show
       ∷ item objectKind plainType 0 0 61 0 0 [] [] (tripleOf 1 10 1 ∷ [])
       -- 7 to 13: the others on the screen; 14: a container around 2, so that five names would lead to 5
