@@ -33,14 +33,14 @@ key-at h e = record { is = sym e; within = h }
 pub key-none : {s : List ℕ} {at : ℕ} → at ≤ length s → KeyAt s at [] (At at)
 key-none h = record { is = refl; within = h }
 
--- where a key stands, the answer is the index behind it
+-- where a key stands, the answer is the index after it
 pub key-index : {s : List ℕ} {at : ℕ} {key : List ℕ} {i : ℕ} → at ≤ length s → KeyAt s at key (At i) → i ≡ at + length key
 key-index {s} {at} {key} {i} h k =
     let e : drop at s ≡ key ++ drop i s = behind-back key (drop at s) (drop i s) (sym (k .is)) in
     let l : length (drop at s) ≡ length key + length (drop i s) = ap length e ∙ length-append key (drop i s) in
     omega (arith, l, length-drop at s, length-drop i s, k .within)
 
--- and with two bytes of place behind it, both are there
+-- and with two bytes of place after it, both are there
 pub key-room : {s : List ℕ} {at : ℕ} {key : List ℕ} {i : ℕ} → at ≤ length s → length key + 2 ≤ length s - at → KeyAt s at key (At i) → i + 1 < length s
 key-room h l k = omega (arith, l, key-index h k)
 
@@ -105,7 +105,7 @@ module _ {s : List ℕ} {at : ℕ} {key : List ℕ} where
   unfolding readLine
   line-read k n e = record { is = rw (← k .is, ← n .is, ← e .is); within = e .within }
 
-  -- a line has a digit and LF behind its key, and so place for them
+  -- a line has a digit and LF after its key, and so place for them
   pub line-short : length s - at < length key + 2 → LineAt s at key Bad
   line-short h = record { is = go (readLine key number (drop at s)) refl; within = zero-le }
     where

@@ -1,4 +1,4 @@
--- Rule 11.3: bytes written into a room. What they cover is replaced, and what stands before and behind them stays.
+-- Rule 11.3: bytes written into a room. What they cover is replaced, and what stands before and after them stays.
 use mathlib.Core.List.{List, _++_}
 use mathlib.Core.Path.{_≡_}
 use Prim.Native.Nat.{_+_, ℕ}
@@ -13,7 +13,7 @@ pub record Wrote (s d e : List ℕ) (r : ℕ) : Type 0 where
   pub many : r ≡ length s
   pub now-is : e ≡ onto s d
 
--- s was written at an index of the room d, which is now e, and r is the index behind it
+-- s was written at an index of the room d, which is now e, and r is the index after it
 pub record Puts (s d : List ℕ) (at : ℕ) (e : List ℕ) (r : ℕ) : Type 0 where
   pub many : r ≡ at + length s
   pub now-is : e ≡ take at d ++ onto s (drop at d)

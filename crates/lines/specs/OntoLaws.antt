@@ -1,4 +1,4 @@
--- The laws of bytes written into a room: one write behind another is one write.
+-- The laws of bytes written into a room: one write after another is one write.
 use mathlib.Core.List.{List, [], _++_, _∷_, append-assoc, append-nil}
 use mathlib.Core.Path.{_∙_, _≡_, refl, sym}
 use Prim.Native.Nat.{_+_, _-_, _<_, _≤_, suc, ℕ}
@@ -13,7 +13,7 @@ pub empty : (s : List ℕ) → length s ≡ 0 → s ≡ []
 empty [] h = refl
 empty (b ∷ s) h = absurd (omega arith)
 
--- one byte more behind what was written
+-- one byte more after what was written
 onto-snoc : (s d : List ℕ) (b n : ℕ) → n ≡ length s → n < length d → set (onto s d) n b ≡ onto (s ++ (b ∷ [])) d
 onto-snoc s d b n e h =
     rw (
@@ -28,7 +28,7 @@ onto-snoc s d b n e h =
 length-onto : (s d : List ℕ) → length s ≤ length d → length (onto s d) ≡ length d
 length-onto s d h = rw (length-append, length-drop) (omega arith)
 
--- more is written behind it, in the part of the room that starts there
+-- more is written after it, in the part of the room that starts there
 onto-behind : (s t d : List ℕ) (n : ℕ) → n ≡ length s → take n (onto s d) ++ onto t (drop n (onto s d)) ≡ onto (s ++ t) d
 onto-behind s t d n e =
     rw (e, take-at s _ (length s) refl, drop-at s _ (length s) refl, drop-drop, length-append s t) (sym (append-assoc s t (drop (length s + length t) d)))
@@ -49,7 +49,7 @@ part-is xs a = take-all (length xs - a) (drop a xs) (omega (arith, length-drop a
 pub length-part : (xs : List ℕ) (a : ℕ) → length (take (length xs - a) (drop a xs)) ≡ length xs - a
 length-part xs a = rw (part-is xs a) (length-drop a xs)
 
--- nothing stands behind it
+-- nothing stands after it
 part-last : (xs : List ℕ) (a : ℕ) → drop (length xs - a) (drop a xs) ≡ []
 part-last xs a = drop-of-length-le (drop a xs) {i = length xs - a} (omega (arith, length-drop a xs))
 
@@ -67,7 +67,7 @@ wrote-byte {s} {d} {xs} {a} b w h =
       now-is = rw (w .now-is) (onto-snoc s d b a (w .many) h);
     }
 
--- t is written behind s, in the part of the room that starts there
+-- t is written after s, in the part of the room that starts there
 pub wrote-behind : {s t d xs ys : List ℕ} {a r : ℕ}
     → Wrote s d xs a → Wrote t (take (length xs - a) (drop a xs)) ys r
     → Wrote (s ++ t) d (take a xs ++ (ys ++ drop (length xs - a) (drop a xs))) (a + r)
@@ -89,11 +89,11 @@ puts {s} {d} {ys} {at} {n} w =
     let e : ys ≡ onto s (drop at d) = w .now-is ∙ rw (part-is d at) in
     record { many = rw (w .many); now-is = rw (part-last d at, append-nil, e) }
 
--- there is room at the index behind s where the room had enough for both
+-- there is room at the index after s where the room had enough for both
 pub puts-room : {s d e : List ℕ} {a : ℕ} (t : List ℕ) → Wrote s d e a → length s + length t ≤ length d → a + length t ≤ length e
 puts-room t w h = omega (arith, w .many, wrote-length w (omega (arith, w .many)))
 
--- a write at the index behind what was written before
+-- a write at the index after what was written before
 pub wrote-puts : {s t d e f : List ℕ} {a r : ℕ} → Wrote s d e a → Puts t e a f r → Wrote (s ++ t) d f r
 wrote-puts {s} {t} {d} {e} {f} {a} {r} w p =
     record {

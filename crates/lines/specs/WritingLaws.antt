@@ -79,7 +79,7 @@ tens n = omega arith
 ones : (n : ℕ) → n % 10000 % 10 ≡ n % 10
 ones n = omega arith
 
--- four digits behind those of the ten thousands
+-- four digits after those of the ten thousands
 digits-more : (n : ℕ) → 10000 ≤ n → n < 10000000000 → digits n ≡ digits (n / 10000) ++ four (n % 10000)
 unfolding four
 digits-more n h l =
@@ -140,14 +140,14 @@ pub four-long : (n : ℕ) → length (four n) ≡ 4
 unfolding four
 four-long n = refl
 
--- behind the ten thousands there is room for four digits
+-- after the ten thousands there is room for four digits
 pub more-room : {d xs : List ℕ} {a : ℕ} (n : ℕ) → 10000 ≤ n → n < 10000000000 → length (digits n) ≤ length d
     → Wrote (digits (n / 10000)) d xs a → a + 4 ≤ length xs
 more-room {d} {xs} {a} n h l m w =
     let e : a + 4 ≤ length d = omega (arith, length-more n h l, w .many) in
     omega (arith, wrote-length w (omega arith))
 
--- the ten thousands are written, and four digits directly behind them
+-- the ten thousands are written, and four digits directly after them
 pub wrote-more : {d xs ys : List ℕ} {a r : ℕ} (n : ℕ) → 10000 ≤ n → n < 10000000000
     → Wrote (digits (n / 10000)) d xs a → Wrote (four (n % 10000)) (take (length xs - a) (drop a xs)) ys r
     → Wrote (digits n) d (take a xs ++ (ys ++ drop (length xs - a) (drop a xs))) (a + r)
@@ -159,7 +159,7 @@ pub record LineWrote (key v d xs ys : List ℕ) (k n : ℕ) : Type 0 where
   pub whole : length (take k xs ++ (ys ++ drop (length xs - k) (drop k xs))) ≡ length d
   pub line-is : Wrote (line key v) d (set (take k xs ++ (ys ++ drop (length xs - k) (drop k xs))) (k + n) lineEnd) (k + n + 1)
 
--- a key is written, and its value directly behind it
+-- a key is written, and its value directly after it
 pub line-wrote : {key v d xs ys : List ℕ} {k n : ℕ}
     → length (line key v) ≤ length d → Wrote key d xs k → Wrote v (take (length xs - k) (drop k xs)) ys n → LineWrote key v d xs ys k n
 line-wrote {key} {v} {d} {xs} {ys} {k} {n} h w u =

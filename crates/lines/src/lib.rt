@@ -1,3 +1,3 @@
-// Lines of text, for any key: a key, an equals sign, a value and LF, and the decimal numbers that stand in them.
+// Lines of text for any key, and the decimal numbers in them. A line is a key, an equals sign, a value and LF.
 pub mod reading;
 pub mod writing;

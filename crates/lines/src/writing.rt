@@ -1,5 +1,6 @@
-// The writers of numbers and lines (rules 11.2 and 11.3). Each writes at the front of the part of the output that it is lent, leaves what
-// stands behind, and answers how many bytes it wrote.
+// Writes numbers and lines (rules 11.2 and 11.3). Each writer writes at the front of the part of the output that it is lent, leaves what
+// stands after that, and answers how many bytes it wrote.
+use names::text;
 ghost use mathlib.Core.Path.{_≡_};
 ghost use Prim.Native.Nat.{_+_, _<_, _≤_};
 ghost use lib.ListN.{length};
@@ -8,7 +9,7 @@ ghost use Rattle.lines.specs.Onto.{Puts, Wrote};
 ghost use Rattle.model.specs.Text.Lines.{line};
 ghost use Rattle.model.specs.Text.Numbers.{digits};
 
-// How many digits a number has, four of them in one go.
+// How many digits a number has. Four of them are counted in one go.
 pub fn number_len(v: u32) -> usize
     ensures { λ r. ⌜ r ≡ length (digits v) ⌝ }
 {
@@ -27,7 +28,7 @@ pub fn number_len(v: u32) -> usize
     number_len(v / 10000) + 4
 }
 
-// Writes the four digits of a number below 10,000, zeros in front of it included.
+// Writes the four digits of a number below 10,000, with zeros in front where it has fewer.
 fn write_four(out: &mut [u8], v: u32) -> usize
     requires { ⌜ (v < 10000) × (4 ≤ length (now out)) ⌝ }
     ensures { λ r. ⌜ Wrote (four v) (now (out .entry)) (now (out .exit)) r ⌝ }
@@ -35,10 +36,10 @@ fn write_four(out: &mut [u8], v: u32) -> usize
     let a = v / 1000;
     let b = v / 100;
     let c = v / 10;
-    out[0] = 48 + a as u8;
-    out[1] = 48 + (b - a * 10) as u8;
-    out[2] = 48 + (c - b * 10) as u8;
-    out[3] = 48 + (v - c * 10) as u8;
+    out[0] = text::DIGIT_0 + a as u8;
+    out[1] = text::DIGIT_0 + (b - a * 10) as u8;
+    out[2] = text::DIGIT_0 + (c - b * 10) as u8;
+    out[3] = text::DIGIT_0 + (v - c * 10) as u8;
     4
 }
 
@@ -48,26 +49,26 @@ fn write_short(out: &mut [u8], v: u32) -> usize
     ensures { λ r. ⌜ Wrote (digits v) (now (out .entry)) (now (out .exit)) r ⌝ }
 {
     if v < 10 {
-        out[0] = 48 + v as u8;
+        out[0] = text::DIGIT_0 + v as u8;
         return 1;
     }
     let c = v / 10;
     if v < 100 {
-        out[0] = 48 + c as u8;
-        out[1] = 48 + (v - c * 10) as u8;
+        out[0] = text::DIGIT_0 + c as u8;
+        out[1] = text::DIGIT_0 + (v - c * 10) as u8;
         return 2;
     }
     if v < 1000 {
         let b = v / 100;
-        out[0] = 48 + b as u8;
-        out[1] = 48 + (c - b * 10) as u8;
-        out[2] = 48 + (v - c * 10) as u8;
+        out[0] = text::DIGIT_0 + b as u8;
+        out[1] = text::DIGIT_0 + (c - b * 10) as u8;
+        out[2] = text::DIGIT_0 + (v - c * 10) as u8;
         return 3;
     }
     write_four(out, v)
 }
 
-// Writes the digits of a number below 100,000,000: those of its ten thousands, and four behind them.
+// Writes the digits of a number below 100,000,000: those of its ten thousands, then four more.
 fn write_middle(out: &mut [u8], v: u32) -> usize
     requires { ⌜ (v < 100000000) × (length (digits v) ≤ length (now out)) ⌝ }
     ensures { λ r. ⌜ Wrote (digits v) (now (out .entry)) (now (out .exit)) r ⌝ }
@@ -80,13 +81,13 @@ fn write_middle(out: &mut [u8], v: u32) -> usize
     n + m
 }
 
-// Writes the digits of a number, a single one at once, and of a long one those of its ten thousands and four behind them.
+// Writes the digits of a number: a single digit at once, and of a long number those of its ten thousands, then four more.
 pub fn write_number(out: &mut [u8], v: u32) -> usize
     requires { ⌜ length (digits v) ≤ length (now out) ⌝ }
     ensures { λ r. ⌜ Wrote (digits v) (now (out .entry)) (now (out .exit)) r ⌝ }
 {
     if v < 10 {
-        out[0] = 48 + v as u8;
+        out[0] = text::DIGIT_0 + v as u8;
         return 1;
     }
     if v < 10000 {
@@ -110,7 +111,7 @@ pub fn write_bytes(out: &mut [u8], src: &[u8]) -> usize
     i
 }
 
-// Writes a line: a key with its equals sign, the number directly behind it in the same bytes, and LF.
+// Writes a line: a key with its equals sign, the number directly after it in the same bytes, and LF.
 pub fn write_line(out: &mut [u8], key: &[u8], v: u32) -> usize
     requires { ⌜ length (line (now key) (digits v)) ≤ length (now out) ⌝ }
     ensures { λ r. ⌜ Wrote (line (now (key .entry)) (digits v)) (now (out .entry)) (now (out .exit)) r ⌝ }
@@ -118,11 +119,11 @@ pub fn write_line(out: &mut [u8], key: &[u8], v: u32) -> usize
     let k = write_bytes(out, key);
     let n = write_number(&mut out[k..], v);
     let end = k + n;
-    out[end] = 10;
+    out[end] = text::LINE_END;
     end + 1
 }
 
-// Writes a line at an index of the output, and answers the index behind it.
+// Writes a line at an index of the output, and answers the index after it.
 pub fn put_line(out: &mut [u8], at: usize, key: &[u8], v: u32) -> usize
     requires { ⌜ at + length (line (now key) (digits v)) ≤ length (now out) ⌝ }
     ensures { λ r. ⌜ Puts (line (now (key .entry)) (digits v)) (now (out .entry)) at (now (out .exit)) r ⌝ }

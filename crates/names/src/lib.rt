@@ -8,6 +8,7 @@ pub mod row;
 pub mod shown;
 pub mod size;
 pub mod sort;
+pub mod text;
 mod tie;
 pub mod types;
 pub mod weight;

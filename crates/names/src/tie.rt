@@ -2,17 +2,24 @@
 ghost use mathlib.Core.Path.{_≡_};
 ghost use mathlib.Core.List.{[], _∷_};
 ghost use Prim.Native.Nat.{_+_, _-_, _/_, _^_, suc};
+ghost use lib.ListN.{length};
 ghost use Rattle.model.specs.Effect.Places.{draftSort, objectSort};
 ghost use Rattle.model.specs.Level.{compartmentCount, downgrader, levelCount, officer, releasing, roleCount, roleSets};
 ghost use Rattle.model.specs.List.Listing.{entryWords};
 ghost use Rattle.model.specs.Request.Operations.{numberOf, operations};
 ghost use Rattle.model.specs.Request.Words.{nameCount, requestWords};
-ghost use Rattle.model.specs.Script.State.{fileBytes, wordBytes};
+ghost use Rattle.model.specs.Script.State.{fileBytes, wordBytes, wordIn};
+ghost use Rattle.model.specs.Script.Windows.{reportBytes};
 ghost use Rattle.model.specs.Tables.Layout.{entitiesFrom, entityWidth, offset, userOffset, userWidth, wordCount};
 ghost use Rattle.model.specs.Tables.Words.{absentKind, authorised, clearance, containerKind, current, device, deviceKind, draftType, entityCount};
 ghost use Rattle.model.specs.Tables.Words.{firstNoticed, held, heldOp, kind, labelBit, lastNoticed, level, mark, maximum, missed, missedMost};
 ghost use Rattle.model.specs.Tables.Words.{objectKind, operationCount, operationWeight, place, placeCount, plainType, positionCount, present, releasedType};
 ghost use Rattle.model.specs.Tables.Words.{releaser, shown, spare, spareCount, sumMost, triple, type, used, userCount, value, valueBit, whoMost, whoRole, whoWeight};
+ghost use Rattle.model.specs.Text.Lines.{lineEnd};
+ghost use Rattle.model.specs.Text.Numbers.{most, nineByte, zeroByte};
+ghost use Rattle.model.specs.Text.References.{dotByte};
+ghost use Rattle.model.specs.Text.Unfinished.{lineTotal, longest};
+ghost use Rattle.model.specs.Text.Wording.{aKey, bKey, cKey, opKey, ref2Key, refKey, userKey};
 ghost use Rattle.names.specs.Listed.{answers, numbers};
 use crate::kind;
 use crate::op;
@@ -23,6 +30,7 @@ use crate::row;
 use crate::shown;
 use crate::size;
 use crate::sort;
+use crate::text;
 use crate::types;
 use crate::weight;
 use crate::word;
@@ -231,4 +239,52 @@ fn rows_are() -> [usize; 3]
     ensures { λ r. ⌜ r ≡ (offset (place 0) - placeCount) / placeCount ∷ (offset (shown 0) - placeCount) / placeCount ∷ (offset (triple 0) - placeCount) / placeCount ∷ [] ⌝ }
 {
     [row::PLACES, row::SUMS, row::TRIPLES]
+}
+
+fn bytes_are() -> [u8; 4]
+    ensures { λ r. ⌜ r ≡ zeroByte ∷ nineByte ∷ dotByte ∷ lineEnd ∷ [] ⌝ }
+{
+    [text::DIGIT_0, text::DIGIT_9, text::DOT, text::LINE_END]
+}
+
+fn numbers_are() -> [u64; 2]
+    ensures { λ r. ⌜ r ≡ most ∷ suc most ∷ [] ⌝ }
+{
+    [text::NUMBER_MOST, text::NUMBERS]
+}
+
+// What a byte weighs is the word in which it is 1 and the others are 0.
+fn byte_weights_are() -> [u32; 3]
+    ensures { λ r. ⌜ r ≡ wordIn (0 ∷ 1 ∷ 0 ∷ 0 ∷ []) 0 ∷ wordIn (0 ∷ 0 ∷ 1 ∷ 0 ∷ []) 0 ∷ wordIn (0 ∷ 0 ∷ 0 ∷ 1 ∷ []) 0 ∷ [] ⌝ }
+{
+    [text::SECOND_BYTE, text::THIRD_BYTE, text::FOURTH_BYTE]
+}
+
+// The keys have their equals signs with them, and a line end follows each value.
+fn text_lengths_are() -> [usize; 4]
+    ensures { λ r. ⌜ r ≡ longest ∷ reportBytes ∷ (length userKey + length opKey + length refKey + length ref2Key + length aKey + length bKey
+        + length cKey + lineTotal) ∷ lineTotal ∷ [] ⌝ }
+{
+    [
+        text::TEXT_MOST,
+        text::REPORT_MOST,
+        text::KEY_BYTES,
+        text::LINES,
+    ]
+}
+
+// The lines count from 1 on, in the order of the keys.
+fn line_numbers_are() -> [u32; 8]
+    ensures { λ r. ⌜ r ≡ 1 ∷ 2 ∷ 3 ∷ 4 ∷ 5 ∷ 6 ∷ lineTotal ∷ suc lineTotal ∷ [] ⌝ }
+{
+    [
+        text::USER_LINE,
+        text::OPERATION_LINE,
+        text::FIRST_LINE,
+        text::SECOND_LINE,
+        text::A_LINE,
+        text::B_LINE,
+        text::C_LINE,
+        text::LINE_AFTER,
+    ]
 }

@@ -83,17 +83,17 @@ entry-four a b c d (suc (suc (suc (suc (suc n))))) h k = absurd (omega arith)
 
 -- the part of a room w that the first reference's names are read into, and the room with the names x there
 abbrev pub firstPart : List ℕ → List ℕ
-firstPart w = take 4 (drop 3 w)
+firstPart w = take nameCount (drop 3 w)
 
 abbrev pub withFirst : List ℕ → List ℕ → List ℕ
-withFirst w x = take 3 w ++ (x ++ drop 4 (drop 3 w))
+withFirst w x = take 3 w ++ (x ++ drop nameCount (drop 3 w))
 
 -- the same of the second reference, with the names y
 abbrev pub secondPart : List ℕ → List ℕ → List ℕ
-secondPart w x = take 4 (drop 8 (withFirst w x))
+secondPart w x = take nameCount (drop 8 (withFirst w x))
 
 abbrev pub withBoth : List ℕ → List ℕ → List ℕ → List ℕ
-withBoth w x y = take 8 (withFirst w x) ++ (y ++ drop 4 (drop 8 (withFirst w x)))
+withBoth w x y = take 8 (withFirst w x) ++ (y ++ drop nameCount (drop 8 (withFirst w x)))
 
 -- where the room is fresh, both parts are zero when they are lent
 pub first-part : (w : List ℕ) → w ≡ fresh → firstPart w ≡ zeros

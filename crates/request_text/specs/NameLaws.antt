@@ -4,11 +4,11 @@ use mathlib.Core.Path.{_∙_, _≡_, ap, refl, sym}
 use Prim.Native.Nat.{_*_, _+_, _-_, _<_, _≤_, suc, zero, ℕ}
 use native.Mathlib.Numerals.{add-one}
 use native.Mathlib.Omega.{arith}
-use lib.ListN.{drop, getD, length, length-append, length-take, take}
-use lib.Seq.{drop-cons, take-all, take-suc}
-use Rattle.model.specs.Request.Words.{nameCount, names, referenceAt}
+use lib.ListN.{getD, length, length-append, length-take, take}
+use lib.Seq.{take-all, take-suc}
+use Rattle.model.specs.Request.Words.{nameCount}
 use Rattle.model.specs.Text.NumberLaws.{length-most}
-use Rattle.model.specs.Text.Numbers.{digits}
+use Rattle.model.specs.Text.Numbers.{digitCount, digits}
 use Rattle.model.specs.Text.References.{dotByte, dotted, joined}
 
 -- the first name
@@ -20,7 +20,7 @@ dotted-append : (ns ms : List ℕ) → dotted (ns ++ ms) ≡ dotted ns ++ dotted
 dotted-append [] ms = refl
 dotted-append (n ∷ ns) ms = rw (dotted-append ns ms) (ap (λ l. dotByte ∷ l) (sym (append-assoc (digits n) (dotted ns) (dotted ms))))
 
--- one name more behind others, or behind names that are one at least
+-- one name more after others, or after names that are one at least
 dotted-next : (ns : List ℕ) (i : ℕ) → i < length ns → dotted (take (suc i) ns) ≡ dotted (take i ns) ++ (dotByte ∷ digits (getD ns i 0))
 dotted-next ns i h = rw (take-suc ns i 0 h, dotted-append (take i ns) (getD ns i 0 ∷ []), append-nil)
 
@@ -64,45 +64,22 @@ pub dotted-turn : (ns : List ℕ) (i : ℕ) → i < length ns
     → length (dotted (take (i + 1) ns)) ≡ length (dotted (take i ns)) + (length (digits (getD ns i 0)) + 1)
 dotted-turn ns i h = rw (add-one i, dotted-next ns i h, length-append (dotted (take i ns)) (dotByte ∷ digits (getD ns i 0))) (omega arith)
 
--- eleven bytes for a name are enough
-pub dotted-most : (ns : List ℕ) → length (dotted ns) ≤ 11 * length ns
+-- a name takes at most ten digits and a dot
+dotted-most : (ns : List ℕ) → length (dotted ns) ≤ suc digitCount * length ns
 dotted-most [] = omega arith
 dotted-most (n ∷ ns) = rw (length-append (digits n) (dotted ns)) (omega (arith, length-most n, dotted-most ns))
 
--- four names at most take 43 bytes at most, and as many of them as were gone through take 44 with their dots
-pub joined-most : (ns : List ℕ) → length ns ≤ nameCount → length (joined ns) ≤ 43
+-- as many bytes as four names take at most, with a dot before each
+abbrev pub dottedMost : ℕ
+dottedMost = suc digitCount * nameCount
+
+-- Four names at most take less when they are joined, and the first of them with their dots no more.
+pub joined-most : (ns : List ℕ) → length ns ≤ nameCount → length (joined ns) < dottedMost
 joined-most ns h = omega (arith, joined-dotted ns, dotted-most ns)
 
-pub taken-most : (ns : List ℕ) (i : ℕ) → length ns ≤ nameCount → length (dotted (take i ns)) ≤ 44
+pub taken-most : (ns : List ℕ) (i : ℕ) → length ns ≤ nameCount → length (dotted (take i ns)) ≤ dottedMost
 taken-most ns i h = omega (arith, dotted-most (take i ns), length-take i ns)
 
 -- all names were gone through
 pub taken-all : (ns : List ℕ) (i n : ℕ) → length ns ≤ i → n ≡ length (dotted (take i ns)) → n - 1 ≡ length (joined ns)
 taken-all ns i n h e = rw (e, take-all i ns h) (joined-dotted ns)
-
--- ---- the names of a reference, as a part of the words
-
-first-four : (n a b c d : ℕ) (rest : List ℕ) → n ≤ nameCount → take n (a ∷ b ∷ c ∷ d ∷ []) ≡ take n (a ∷ b ∷ c ∷ d ∷ rest)
-first-four zero a b c d rest h = refl
-first-four (suc zero) a b c d rest h = refl
-first-four (suc (suc zero)) a b c d rest h = refl
-first-four (suc (suc (suc zero))) a b c d rest h = refl
-first-four (suc (suc (suc (suc zero)))) a b c d rest h = refl
-first-four (suc (suc (suc (suc (suc n))))) a b c d rest h = absurd (omega arith)
-
-drop-four : (w : List ℕ) (k : ℕ) → k + 4 < length w
-    → drop (k + 1) w ≡ getD w (k + 1) 0 ∷ getD w (k + 2) 0 ∷ getD w (k + 3) 0 ∷ getD w (k + 4) 0 ∷ drop (k + 5) w
-drop-four w k h =
-    step 1 (omega arith) ∙ ap (λ l. getD w (k + 1) 0 ∷ l)
-    (step 2 (omega arith) ∙ ap (λ l. getD w (k + 2) 0 ∷ l)
-    (step 3 (omega arith) ∙ ap (λ l. getD w (k + 3) 0 ∷ l) (step 4 (omega arith))))
-  where
-    step : (i : ℕ) → k + i < length w → drop (k + i) w ≡ getD w (k + i) 0 ∷ drop (k + suc i) w
-    step i l =
-        let e : suc (k + i) ≡ k + suc i = omega arith in
-        drop-cons w (k + i) 0 l ∙ ap (λ n. getD w (k + i) 0 ∷ drop n w) e
-
--- the words behind word k, as many as it says
-pub names-part : (w : List ℕ) (k : ℕ) → k + nameCount < length w → getD w k 0 ≤ nameCount → names (referenceAt w k) ≡ take (getD w k 0) (drop (k + 1) w)
-unfolding names referenceAt
-names-part w k h l = rw (drop-four w k h) (first-four (getD w k 0) (getD w (k + 1) 0) (getD w (k + 2) 0) (getD w (k + 3) 0) (getD w (k + 4) 0) (drop (k + 5) w) l)

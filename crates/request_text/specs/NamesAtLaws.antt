@@ -15,7 +15,7 @@ use Rattle.model.specs.Request.Words.{nameCount}
 use Rattle.model.specs.Text.Lines.{next}
 use Rattle.model.specs.Text.Numbers.{Read, bad, got, isDigit, nineByte, zeroByte}
 use Rattle.model.specs.Text.References.{dotByte, further, nameAnd, reference}
-use Rattle.request_text.specs.NamesAt.{NamesIs}
+use Rattle.request_text.specs.NamesAt.{NamesIs, furtherMost}
 use Rattle.request_text.specs.declared.reading.Names.{Names}
 use Rattle.request_text.specs.declared.reading.Names.the-variants.{Are, Wrong}
 
@@ -34,14 +34,14 @@ after-one ns v bad = refl
 -- The first k names from the index `at` of the bytes s on stand in front of the room o, which is now p, and the next one is looked for at the
 -- index i.
 pub record NamesTo (s : List ℕ) (at : ℕ) (o p : List ℕ) (i k : ℕ) : Type 0 where
-  pub is : nameAnd 3 (drop at s) ≡ after (take k p) (nameAnd (3 - k) (drop i s))
+  pub is : nameAnd furtherMost (drop at s) ≡ after (take k p) (nameAnd (furtherMost - k) (drop i s))
   pub kept : drop k p ≡ drop k o
 
 -- none was read yet
 pub names-start : (s : List ℕ) (at : ℕ) (o : List ℕ) → NamesTo s at o o at 0
-names-start s at o = record { is = after-none (nameAnd 3 (drop at s)); kept = refl }
+names-start s at o = record { is = after-none (nameAnd furtherMost (drop at s)); kept = refl }
 
--- one word more is stored: the words before it stay, and those behind it
+-- one word more is stored: the words before it stay, and those after it
 stored-before : (p : List ℕ) (k v : ℕ) → k < length p → take (k + 1) (set p k v) ≡ take k p ++ (v ∷ [])
 stored-before p k v l = rw (add-one k) (take-suc-set p k v l)
 
@@ -67,7 +67,7 @@ module _ (s : List ℕ) (at : ℕ) where
       go zero = refl
       go (suc k) = rw (ne-eqb (getD s at 0) dotByte n)
 
-  -- and else a name behind the dot, and at most one further name less
+  -- and else a name after the dot, and at most one further name less
   dot : (k : ℕ) → at < length s → getD s at 0 ≡ dotByte → (k ≡ 0 → ⊥) → further k (drop at s) ≡ nameAnd (k - 1) (drop (at + 1) s)
   dot zero w e n = absurd (n refl)
   dot (suc k) w e n = let p : suc k - 1 ≡ k = omega arith in rw (add-one at, drop-cons s at 0 w, e, p)
@@ -83,32 +83,33 @@ module _ (s : List ℕ) (at : ℕ) where
 -- What comes next, where k names were read:
 module _ {s : List ℕ} {at : ℕ} {o p : List ℕ} {i k : ℕ} where
   -- no number
-  pub names-bad : NamesTo s at o p i k → NumberAt s i Bad → (q : List ℕ) → NamesIs s (nameAnd 3 (drop at s)) nameCount o q Wrong
-  names-bad t n q = record { is = sym (t .is ∙ ap (after (take k p)) (name-bad s i (3 - k) n)); within = zero-le; few = zero-le; kept = tt }
+  pub names-bad : NamesTo s at o p i k → NumberAt s i Bad → (q : List ℕ) → NamesIs s (nameAnd furtherMost (drop at s)) nameCount o q Wrong
+  names-bad t n q = record { is = sym (t .is ∙ ap (after (take k p)) (name-bad s i (furtherMost - k) n)); within = zero-le; few = zero-le; kept = tt }
 
   -- a number and a dot
-  pub names-turn : {v j : ℕ} → NamesTo s at o p i k → k < 3 → k < length p → NumberAt s i (Value v j) → j < length s → getD s j 0 ≡ dotByte
+  pub names-turn : {v j : ℕ} → NamesTo s at o p i k → k < furtherMost → k < length p → NumberAt s i (Value v j) → j < length s → getD s j 0 ≡ dotByte
       → NamesTo s at o (set p k v) (j + 1) (k + 1)
   names-turn {v} {j} t h l n w d =
-      let some : 3 - k ≡ 0 → ⊥ = λ e. absurd (omega arith) in
-      let less : 3 - k - 1 ≡ 3 - (k + 1) = omega arith in
-      let one : nameAnd (3 - k) (drop i s) ≡ after (v ∷ []) (nameAnd (3 - k - 1) (drop (j + 1) s)) =
-      name-got s i (3 - k) n ∙ ap (after (v ∷ [])) (dot s j (3 - k) w d some) in
-      let all : nameAnd 3 (drop at s) ≡ after (take k p ++ (v ∷ [])) (nameAnd (3 - k - 1) (drop (j + 1) s)) =
-      t .is ∙ ap (after (take k p)) one ∙ after-one (take k p) v (nameAnd (3 - k - 1) (drop (j + 1) s)) in
+      let some : furtherMost - k ≡ 0 → ⊥ = λ e. absurd (omega arith) in
+      let less : furtherMost - k - 1 ≡ furtherMost - (k + 1) = omega arith in
+      let one : nameAnd (furtherMost - k) (drop i s) ≡ after (v ∷ []) (nameAnd (furtherMost - k - 1) (drop (j + 1) s)) =
+      name-got s i (furtherMost - k) n ∙ ap (after (v ∷ [])) (dot s j (furtherMost - k) w d some) in
+      let all : nameAnd furtherMost (drop at s) ≡ after (take k p ++ (v ∷ [])) (nameAnd (furtherMost - k - 1) (drop (j + 1) s)) =
+      t .is ∙ ap (after (take k p)) one ∙ after-one (take k p) v (nameAnd (furtherMost - k - 1) (drop (j + 1) s)) in
       record { is = rw (stored-before p k v l, ← less) all; kept = stored-behind o p k v (t .kept) }
 
   -- a number, and no further name
-  pub names-end : {v j : ℕ} → NamesTo s at o p i k → k ≤ 3 → k < length p → NumberAt s i (Value v j) → further (3 - k) (drop j s) ≡ got [] (drop j s)
-      → NamesIs s (nameAnd 3 (drop at s)) nameCount o (set p k v) (Are (k + 1) j)
+  pub names-end : {v j : ℕ} → NamesTo s at o p i k → k ≤ furtherMost → k < length p → NumberAt s i (Value v j)
+      → further (furtherMost - k) (drop j s) ≡ got [] (drop j s)
+      → NamesIs s (nameAnd furtherMost (drop at s)) nameCount o (set p k v) (Are (k + 1) j)
   names-end {v} {j} t h l n e =
-      let all : nameAnd 3 (drop at s) ≡ got (take k p ++ (v ∷ [])) (drop j s) =
-      t .is ∙ ap (after (take k p)) (name-got s i (3 - k) n ∙ ap (after (v ∷ [])) e) in
+      let all : nameAnd furtherMost (drop at s) ≡ got (take k p ++ (v ∷ [])) (drop j s) =
+      t .is ∙ ap (after (take k p)) (name-got s i (furtherMost - k) n ∙ ap (after (v ∷ [])) e) in
       record { is = rw (stored-before p k v l) (sym all); within = n .within; few = omega arith; kept = stored-behind o p k v (t .kept) }
 
 -- the fourth number is the last
-pub names-last : {s : List ℕ} {at : ℕ} {o p : List ℕ} {i k v j : ℕ} → NamesTo s at o p i k → k ≡ 3 → 3 < length p → NumberAt s i (Value v j)
-    → NamesIs s (nameAnd 3 (drop at s)) nameCount o (set p 3 v) (Are 4 j)
+pub names-last : {s : List ℕ} {at : ℕ} {o p : List ℕ} {i k v j : ℕ} → NamesTo s at o p i k → k ≡ furtherMost → furtherMost < length p → NumberAt s i (Value v j)
+    → NamesIs s (nameAnd furtherMost (drop at s)) nameCount o (set p furtherMost v) (Are nameCount j)
 names-last t e l n = names-end (rw e at t) (omega arith) l n refl
 
 module _ (s : List ℕ) (at : ℕ) where
@@ -127,12 +128,12 @@ module _ (s : List ℕ) (at : ℕ) where
   ref-other o w h = no-names o (omega arith) (rw (drop-cons s at 0 w, h))
 
   -- the first byte is a digit
-  ref-digit : at < length s → zeroByte ≤ getD s at 0 → getD s at 0 ≤ nineByte → nameAnd 3 (drop at s) ≡ reference (drop at s)
+  ref-digit : at < length s → zeroByte ≤ getD s at 0 → getD s at 0 ≤ nineByte → nameAnd furtherMost (drop at s) ≡ reference (drop at s)
   ref-digit w l h = rw (drop-cons s at 0 w) (go (getD s at 0) (drop (suc at) s) (digit (getD s at 0) l h))
     where
-      go : (b : ℕ) (t : List ℕ) → isDigit b ≡ true → nameAnd 3 (b ∷ t) ≡ reference (b ∷ t)
+      go : (b : ℕ) (t : List ℕ) → isDigit b ≡ true → nameAnd furtherMost (b ∷ t) ≡ reference (b ∷ t)
       go b t e = rw e
 
   pub ref-first : {o p : List ℕ} {r : Names} → at < length s → zeroByte ≤ getD s at 0 → getD s at 0 ≤ nineByte
-      → NamesIs s (nameAnd 3 (drop at s)) nameCount o p r → NamesIs s (reference (drop at s)) nameCount o p r
+      → NamesIs s (nameAnd furtherMost (drop at s)) nameCount o p r → NamesIs s (reference (drop at s)) nameCount o p r
   ref-first w l h m = record { is = m .is ∙ ref-digit w l h; within = m .within; few = m .few; kept = m .kept }

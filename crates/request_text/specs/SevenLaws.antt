@@ -1,4 +1,4 @@
--- Seven lines that were read: what is left behind them, and what the answer tells of the words.
+-- Seven lines that were read: what is left after them, and what the answer tells of the words.
 use mathlib.Core.List.{List, _++_}
 use mathlib.Core.Path.{_∙_, _≡_, ap, refl, sym}
 use Prim.Native.Nat.{_+_, _-_, _<_, _≤_, ℕ}

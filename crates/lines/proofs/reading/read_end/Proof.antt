@@ -3,8 +3,6 @@ use Rattle.lines.specs.LineAtLaws.{end-at, end-other, key-short}
 use borrow.Author.Needs.{needs}
 use Rattle.lines.proofs.reading.read_end.Statement.{statement}
 use Rattle.lines.proofs.reading.read_end.Tie as tie
-use Rattle.lines.proofs.reading.read_end.Reads as reads
-use Rattle.lines.proofs.reading.read_end.Lts as lts
 
 returns : tie.Need-returns
 returns c = key-short (omega (arith, c .if1 .taken))

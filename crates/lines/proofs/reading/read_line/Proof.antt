@@ -4,12 +4,6 @@ use Rattle.lines.specs.NumberAtLaws.{byte, number-bad, number-other, oth
 use borrow.Author.Needs.{needs}
 use Rattle.lines.proofs.reading.read_line.Statement.{statement}
 use Rattle.lines.proofs.reading.read_line.Tie as tie
-use Rattle.lines.proofs.reading.read_line.Reads as reads
-use Rattle.lines.proofs.reading.read_line.Lts as lts
-use Rattle.lines.proofs.reading.read_key.Reads as read-key-reads
-use Rattle.lines.proofs.reading.read_rest.Reads as read-rest-reads
-use Rattle.lines.proofs.reading.value.Reads as value-reads
-use Rattle.lines.proofs.reading.wide.Reads as wide-reads
 
 sub-if1 : tie.Need-sub-if1
 sub-if1 c = search needs
@@ -34,22 +28,28 @@ returns-2 c = line-no-key (rw (c .enum-told .given .1) at (c .before .before .re
 
 shared-slice-read-b : tie.Need-shared-slice-read-b
 shared-slice-read-b c =
+    let s4 = c .before .before .before .before in
+    let s5 = s4 .before in
+    let s8 = s5 .before .before .before in
     let i = c .before .before .i in
-    let read-key = c .before .before .before .before .read-key in
-    let if1 = c .before .before .before .before .before .if1 in
-    let pre = c .before .before .before .before .before .before .before .before .pre in
+    let read-key = s4 .read-key in
+    let if1 = s5 .if1 in
+    let pre = s8 .pre in
     let k = rw (i .given .1) at (read-key .ensures) in
     let room = key-room pre (if1 .left) k in
     omega (arith, room)
 
 returns-3 : tie.Need-returns-3
 returns-3 c =
+    let s5 = c .before .before .before .before .before in
+    let s6 = s5 .before in
+    let s9 = s6 .before .before .before in
     let if2 = c .if2 in
     let i = c .before .before .before .i in
-    let read-key = c .before .before .before .before .before .read-key in
-    let if1 = c .before .before .before .before .before .before .if1 in
-    let pre = c .before .before .before .before .before .before .before .before .before .pre in
-    let a = c .before .before .before .before .before .before .before .before .before .args in
+    let read-key = s5 .read-key in
+    let if1 = s6 .if1 in
+    let pre = s9 .pre in
+    let a = s9 .args in
     let k = rw (i .given .1) at (read-key .ensures) in
     let room = key-room pre (if1 .left) k in
     let none = other (byte (a .s .now) (i .given .0 .0)) (if2 .taken) in
@@ -57,84 +57,103 @@ returns-3 c =
 
 add-if3 : tie.Need-add-if3
 add-if3 c =
+    let s5 = c .before .before .before .before .before in
+    let s6 = s5 .before in
+    let s9 = s6 .before .before .before in
     let i = c .before .before .before .i in
-    let read-key = c .before .before .before .before .before .read-key in
-    let if1 = c .before .before .before .before .before .before .if1 in
-    let pre = c .before .before .before .before .before .before .before .before .before .pre in
-    let good = c .before .before .before .before .before .before .before .before .before .good in
+    let read-key = s5 .read-key in
+    let if1 = s6 .if1 in
+    let pre = s9 .pre in
+    let good = s9 .good in
     let k = rw (i .given .1) at (read-key .ensures) in
     let room = key-room pre (if1 .left) k in
     omega (arith, room, good)
 
 shared-slice-read-if3 : tie.Need-shared-slice-read-if3
 shared-slice-read-if3 c =
-    let i = c .before .before .before .before .i in
-    let read-key = c .before .before .before .before .before .before .read-key in
-    let if1 = c .before .before .before .before .before .before .before .if1 in
-    let pre = c .before .before .before .before .before .before .before .before .before .before .pre in
+    let s4 = c .before .before .before .before in
+    let s6 = s4 .before .before in
+    let s7 = s6 .before in
+    let s10 = s7 .before .before .before in
+    let i = s4 .i in
+    let read-key = s6 .read-key in
+    let if1 = s7 .if1 in
+    let pre = s10 .pre in
     let k = rw (i .given .1) at (read-key .ensures) in
     key-room pre (if1 .left) k
 
 read-rest-requires : tie.Need-read-rest-requires
 read-rest-requires c κs =
-    let i = c .before .before .before .before .before .i in
-    let read-key = c .before .before .before .before .before .before .before .read-key in
+    let s5 = c .before .before .before .before .before in
+    let s7 = s5 .before .before in
+    let i = s5 .i in
+    let read-key = s7 .read-key in
     (rw (i .given .1) at (read-key .ensures)) .within
 
 returns-4 : tie.Need-returns-4
 returns-4 c =
+    let s6 = c .before .before .before .before .before .before in
+    let s8 = s6 .before .before in
     let read-rest = c .read-rest in
-    let i = c .before .before .before .before .before .before .i in
-    let read-key = c .before .before .before .before .before .before .before .before .read-key in
+    let i = s6 .i in
+    let read-key = s8 .read-key in
     line-behind (rw (i .given .1) at (read-key .ensures)) (read-rest .ensures)
 
-wide-requires : tie.Need-wide-requires
-wide-requires c κs = search needs
-
-sub-value : tie.Need-sub-value
-sub-value c =
-    let wide = c .wide in
-    let if2 = c .before .before .before .if2 in
-    let i = c .before .before .before .before .before .before .i in
-    let a = c .before .before .before .before .before .before .before .before .before .before .before .before .args in
-    let r = range (byte (a .s .now) (i .given .0 .0)) (if2 .left) in
-    omega (arith, wide .ensures, r .0)
+digit-requires : tie.Need-digit-requires
+digit-requires c κs =
+    let s5 = c .before .before .before .before .before in
+    let s11 = s5 .before .before .before .before .before .before in
+    let if2 = c .before .before .if2 in
+    let i = s5 .i in
+    let a = s11 .args in
+    range (byte (a .s .now) (i .given .0 .0)) (if2 .left) .0
 
 add-value : tie.Need-add-value
 add-value c =
-    let i = c .before .before .before .before .before .before .i in
-    let read-key = c .before .before .before .before .before .before .before .before .read-key in
-    let if1 = c .before .before .before .before .before .before .before .before .before .if1 in
-    let pre = c .before .before .before .before .before .before .before .before .before .before .before .before .pre in
-    let good = c .before .before .before .before .before .before .before .before .before .before .before .before .good in
+    let s6 = c .before .before .before .before .before .before in
+    let s8 = s6 .before .before in
+    let s9 = s8 .before in
+    let s12 = s9 .before .before .before in
+    let i = s6 .i in
+    let read-key = s8 .read-key in
+    let if1 = s9 .if1 in
+    let pre = s12 .pre in
+    let good = s12 .good in
     let k = rw (i .given .1) at (read-key .ensures) in
     let room = key-room pre (if1 .left) k in
     omega (arith, room, good)
 
 value-requires : tie.Need-value-requires
 value-requires c κs =
-    let wide = c .wide in
+    let s6 = c .before .before .before .before .before .before in
+    let s12 = s6 .before .before .before .before .before .before in
+    let digit = c .digit in
     let if2 = c .before .before .before .if2 in
-    let i = c .before .before .before .before .before .before .i in
-    let a = c .before .before .before .before .before .before .before .before .before .before .before .before .args in
+    let i = s6 .i in
+    let a = s12 .args in
     let r = range (byte (a .s .now) (i .given .0 .0)) (if2 .left) in
-    omega (arith, wide .ensures, r .1)
+    omega (arith, digit .ensures, r .1)
 
 returns-5 : tie.Need-returns-5
 returns-5 c =
+    let s4 = c .before .before .before .before in
+    let s7 = s4 .before .before .before in
+    let s9 = s7 .before .before in
+    let s10 = s9 .before in
+    let s13 = s10 .before .before .before in
     let value = c .value in
-    let wide = c .before .wide in
+    let digit = c .before .digit in
     let if3 = c .before .before .if3 in
-    let if2 = c .before .before .before .before .if2 in
-    let i = c .before .before .before .before .before .before .before .i in
-    let read-key = c .before .before .before .before .before .before .before .before .before .read-key in
-    let if1 = c .before .before .before .before .before .before .before .before .before .before .if1 in
-    let pre = c .before .before .before .before .before .before .before .before .before .before .before .before .before .pre in
-    let a = c .before .before .before .before .before .before .before .before .before .before .before .before .before .args in
+    let if2 = s4 .if2 in
+    let i = s7 .i in
+    let read-key = s9 .read-key in
+    let if1 = s10 .if1 in
+    let pre = s13 .pre in
+    let a = s13 .args in
     let k = rw (i .given .1) at (read-key .ensures) in
     let room = key-room pre (if1 .left) k in
     let r = range (byte (a .s .now) (i .given .0 .0)) (if2 .left) in
-    rw (value .ensures, wide .ensures) (line-one k room (r .0) (r .1) (if3 .left))
+    rw (value .ensures, digit .ensures) (line-one k room (r .0) (r .1) (if3 .left))
 
 pub read-line-spec : {M : Type 1} → statement M
 read-line-spec =
@@ -153,8 +172,7 @@ read-line-spec =
     shared-slice-read-if3
     read-rest-requires
     returns-4
-    wide-requires
-    sub-value
+    digit-requires
     add-value
     value-requires
     returns-5)

@@ -3,14 +3,11 @@ use Prim.Native.Nat.{_-_, _≤_}
 use native.Mathlib.Omega.{arith}
 use lib.ListN.{drop, length}
 use borrow.Author.Needs.{needs}
-use Rattle.lines.specs.NumberAtLaws.{byte, high, low, more-end, more-other, more-over, more-turn, number-bad, number-end, number-first, number-got, number-other, number-zero, other, range}
+use Rattle.lines.specs.NumberAtLaws.{byte, high, low, more-end, more-other, more-over, more-turn, number-bad, number-end, number-first}
+use Rattle.lines.specs.NumberAtLaws.{number-got, number-other, number-zero, other, range}
 use Rattle.model.specs.Text.Numbers.{more, most, number}
 use Rattle.lines.proofs.reading.read_number.Statement.{statement}
 use Rattle.lines.proofs.reading.read_number.Tie as tie
-use Rattle.lines.proofs.reading.read_number.Reads as reads
-use Rattle.lines.proofs.reading.read_number.Lts as lts
-use Rattle.lines.proofs.reading.value.Reads as value-reads
-use Rattle.lines.proofs.reading.wide.Reads as wide-reads
 
 abbrev Inv-loop : tie.InvT-loop
 Inv-loop s at first i₀ v₀ i v = (i ≤ length s) × (v ≤ most) × (number (drop at s) ≡ more v (drop i s))
@@ -38,25 +35,24 @@ value-requires c κs = search needs
 
 returns-4 : tie.Need-returns-4 Inv-loop μ-loop
 returns-4 c =
+    let s5 = c .before .before .before .before .before in
     let value = c .value in
     let if4 = c .before .if4 in
-    let if1 = c .before .before .before .before .before .if1 in
+    let if1 = s5 .if1 in
     number-got (value .ensures) (omega arith) (number-zero _ _ (if1 .left) (if4 .taken))
 
-wide-requires : tie.Need-wide-requires Inv-loop μ-loop
-wide-requires c κs = search needs
-
-sub-v : tie.Need-sub-v Inv-loop μ-loop
-sub-v c = search needs
+digit-requires : tie.Need-digit-requires Inv-loop μ-loop
+digit-requires c κs = search needs
 
 loop-holds : tie.Need-loop-holds Inv-loop μ-loop
 loop-holds c =
-    let wide = c .wide in
+    let s5 = c .before .before .before .before .before in
+    let digit = c .digit in
     let if4 = c .before .if4 in
     let if3 = c .before .before .if3 in
     let if2 = c .before .before .before .if2 in
-    let if1 = c .before .before .before .before .before .if1 in
-    (omega arith, omega (arith, wide .ensures, if3 .left), rw (wide .ensures) (number-first _ _ (if1 .left) (if2 .left) (if3 .left) (if4 .left)))
+    let if1 = s5 .if1 in
+    (omega arith, omega (arith, digit .ensures, if3 .left), rw (digit .ensures) (number-first _ _ (if1 .left) (if2 .left) (if3 .left) (if4 .left)))
 
 shared-slice-read-b : tie.Need-shared-slice-read-b Inv-loop μ-loop
 shared-slice-read-b c = search needs
@@ -66,45 +62,48 @@ value-requires-2 c κs = search needs
 
 returns-5 : tie.Need-returns-5 Inv-loop μ-loop
 returns-5 c =
+    let s4 = c .before .before .before .before in
+    let s12 = s4 .before .before .before .before .before .before .before .before in
     let value2 = c .value2 in
     let if5 = c .before .if5 in
     let test = c .before .before .before .loop-test in
-    let l = c .before .before .before .before .loop in
-    let a = c .before .before .before .before .before .before .before .before .before .before .before .before .args in
+    let l = s4 .loop in
+    let a = s12 .args in
     number-got (value2 .ensures) (l .inv .0) (l .inv .2 ∙ more-other _ _ _ (test .taken) (other (byte (a .s .now) (l .i)) (if5 .taken)))
 
 mul-v : tie.Need-mul-v Inv-loop μ-loop
 mul-v c = search needs
 
-wide-requires-2 : tie.Need-wide-requires-2 Inv-loop μ-loop
-wide-requires-2 c κs = search needs
-
-sub-v-2 : tie.Need-sub-v-2 Inv-loop μ-loop
-sub-v-2 c =
-    let wide2 = c .wide2 in
-    let if5 = c .before .if5 in
-    let l = c .before .before .before .before .loop in
-    let a = c .before .before .before .before .before .before .before .before .before .before .before .before .args in
-    omega (arith, wide2 .ensures, range (byte (a .s .now) (l .i)) (if5 .left) .0)
+digit-requires-2 : tie.Need-digit-requires-2 Inv-loop μ-loop
+digit-requires-2 c κs =
+    let s11 = c .before .before .before .before .before .before .before .before .before .before .before in
+    let l = c .before .before .before .loop in
+    let a = s11 .args in
+    range (byte (a .s .now) (l .i)) (c .if5 .left) .0
 
 add-v : tie.Need-add-v Inv-loop μ-loop
 add-v c =
-    let wide2 = c .wide2 in
+    let s4 = c .before .before .before .before in
+    let s12 = s4 .before .before .before .before .before .before .before .before in
+    let digit2 = c .digit2 in
     let if5 = c .before .if5 in
-    let l = c .before .before .before .before .loop in
-    let a = c .before .before .before .before .before .before .before .before .before .before .before .before .args in
-    omega (arith, wide2 .ensures, range (byte (a .s .now) (l .i)) (if5 .left) .1, l .inv .1)
+    let l = s4 .loop in
+    let a = s12 .args in
+    omega (arith, digit2 .ensures, range (byte (a .s .now) (l .i)) (if5 .left) .1, l .inv .1)
 
 returns-6 : tie.Need-returns-6 Inv-loop μ-loop
 returns-6 c =
+    let s4 = c .before .before .before .before in
+    let s5 = s4 .before in
+    let s13 = s5 .before .before .before .before .before .before .before .before in
     let if6 = c .if6 in
-    let wide2 = c .before .wide2 in
+    let digit2 = c .before .digit2 in
     let if5 = c .before .before .if5 in
-    let test = c .before .before .before .before .loop-test in
-    let l = c .before .before .before .before .before .loop in
-    let a = c .before .before .before .before .before .before .before .before .before .before .before .before .before .args in
+    let test = s4 .loop-test in
+    let l = s5 .loop in
+    let a = s13 .args in
     let r = range (byte (a .s .now) (l .i)) (if5 .left) in
-    number-bad (l .inv .2 ∙ more-over _ _ _ (test .taken) (r .0) (r .1) (rw (wide2 .ensures) at (if6 .taken)))
+    number-bad (l .inv .2 ∙ more-over _ _ _ (test .taken) (r .0) (r .1) (rw (digit2 .ensures) at (if6 .taken)))
 
 add-i-2 : tie.Need-add-i-2 Inv-loop μ-loop
 add-i-2 c = search needs
@@ -114,14 +113,17 @@ loop-less c = search needs
 
 loop-again : tie.Need-loop-again Inv-loop μ-loop
 loop-again c =
+    let s4 = c .before .before .before .before in
+    let s5 = s4 .before in
+    let s13 = s5 .before .before .before .before .before .before .before .before in
     let if6 = c .if6 in
-    let wide2 = c .before .wide2 in
+    let digit2 = c .before .digit2 in
     let if5 = c .before .before .if5 in
-    let test = c .before .before .before .before .loop-test in
-    let l = c .before .before .before .before .before .loop in
-    let a = c .before .before .before .before .before .before .before .before .before .before .before .before .before .args in
+    let test = s4 .loop-test in
+    let l = s5 .loop in
+    let a = s13 .args in
     let r = range (byte (a .s .now) (l .i)) (if5 .left) in
-    (omega arith, if6 .left, rw (wide2 .ensures) (l .inv .2 ∙ more-turn _ _ _ (test .taken) (r .0) (r .1) (rw (wide2 .ensures) at (if6 .left))))
+    (omega arith, if6 .left, rw (digit2 .ensures) (l .inv .2 ∙ more-turn _ _ _ (test .taken) (r .0) (r .1) (rw (digit2 .ensures) at (if6 .left))))
 
 value-requires-3 : tie.Need-value-requires-3 Inv-loop μ-loop
 value-requires-3 c κs = search needs
@@ -146,15 +148,13 @@ read-number-spec =
     add-i
     value-requires
     returns-4
-    wide-requires
-    sub-v
+    digit-requires
     loop-holds
     shared-slice-read-b
     value-requires-2
     returns-5
     mul-v
-    wide-requires-2
-    sub-v-2
+    digit-requires-2
     add-v
     returns-6
     add-i-2

@@ -2,9 +2,6 @@ use Rattle.lines.specs.OntoLaws.{puts}
 use borrow.Author.Needs.{needs}
 use Rattle.lines.proofs.writing.put_line.Statement.{statement}
 use Rattle.lines.proofs.writing.put_line.Tie as tie
-use Rattle.lines.proofs.writing.put_line.Reads as reads
-use Rattle.lines.proofs.writing.put_line.Lts as lts
-use Rattle.lines.proofs.writing.write_line.Reads as write-line-reads
 
 sub-write-line : tie.Need-sub-write-line
 sub-write-line c = search needs

@@ -8,8 +8,6 @@ use Rattle.lines.specs.Onto.{onto}
 use Rattle.lines.specs.OntoLaws.{onto-turn}
 use Rattle.lines.proofs.writing.write_bytes.Statement.{statement}
 use Rattle.lines.proofs.writing.write_bytes.Tie as tie
-use Rattle.lines.proofs.writing.write_bytes.Reads as reads
-use Rattle.lines.proofs.writing.write_bytes.Lts as lts
 
 abbrev Inv-loop : tie.InvT-loop
 Inv-loop out₀ src i₀ out i = (i ≤ length src) × (length out ≡ length out₀) × (out ≡ onto (take i src) out₀)
@@ -38,7 +36,8 @@ loop-again c =
     let l = c .before .before .loop in (
       omega arith,
       simp length-set (l .inv .1),
-      ap (λ d. set d (l .i) (getD (a .src .now) (l .i) 0)) (l .inv .2) ∙ onto-turn (a .src .now) (a .out .now) (l .i) (c .before .loop-test .taken) (c .before .before .before .pre),
+      ap (λ d. set d (l .i) (getD (a .src .now) (l .i) 0)) (l .inv .2) ∙ onto-turn (a .src .now)
+          (a .out .now) (l .i) (c .before .loop-test .taken) (c .before .before .before .pre),
     )
 
 same-length : tie.Need-same-length Inv-loop μ-loop

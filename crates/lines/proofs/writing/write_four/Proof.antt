@@ -4,8 +4,6 @@ use Rattle.lines.specs.WritingLaws.{wrote-four}
 use borrow.Author.Needs.{needs}
 use Rattle.lines.proofs.writing.write_four.Statement.{statement}
 use Rattle.lines.proofs.writing.write_four.Tie as tie
-use Rattle.lines.proofs.writing.write_four.Reads as reads
-use Rattle.lines.proofs.writing.write_four.Lts as lts
 
 cast-out : tie.Need-cast-out
 cast-out c = search needs

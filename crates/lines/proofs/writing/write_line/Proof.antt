@@ -7,16 +7,22 @@ use Rattle.model.specs.Text.Numbers.{digits}
 use borrow.Author.Needs.{needs}
 use Rattle.lines.proofs.writing.write_line.Statement.{statement}
 use Rattle.lines.proofs.writing.write_line.Tie as tie
-use Rattle.lines.proofs.writing.write_line.Reads as reads
-use Rattle.lines.proofs.writing.write_line.Lts as lts
-use Rattle.lines.proofs.writing.write_bytes.Reads as write-bytes-reads
-use Rattle.lines.proofs.writing.write_number.Reads as write-number-reads
 
 write-bytes-requires : tie.Need-write-bytes-requires
-write-bytes-requires c κs = omega (arith, c .before .before .before .pre, length-line (c .before .before .before .args .key .now) (digits (c .before .before .before .args .v)))
+write-bytes-requires c κs =
+    omega (arith, c .before .before .before .pre, length-line (c .before .before .before .args .key .now) (digits (c .before .before .before .args .v)))
 
 sub-write-number : tie.Need-sub-write-number
-sub-write-number c = omega (arith, c .before .before .before .before .before .before .pre, c .before .before .write-bytes .ensures .many, c .before .before .write-bytes .kept .0, length-line (c .before .before .before .before .before .before .args .key .now) (digits (c .before .before .before .before .before .before .args .v)))
+sub-write-number c =
+    let s6 = c .before .before .before .before .before .before in
+    omega (
+      arith,
+      s6 .pre,
+      c .before .before .write-bytes .ensures .many,
+      c .before .before .write-bytes .kept .0,
+      length-line (s6 .args .key .now)
+          (digits (s6 .args .v)),
+    )
 
 part-write-number-start : tie.Need-part-write-number-start
 part-write-number-start c = sub-write-number c
@@ -30,16 +36,20 @@ write-number-requires c κs =
     let w = c .before .before .before .write-bytes in
     omega (arith, s .pre, w .ensures .many, w .kept .0, length-line (s .args .key .now) (digits (s .args .v)), length-part (w .last .0) (w .result))
 
--- where the value has been written: the key, and the value behind it
+-- where the value has been written: the key, and the value after it
 abbrev start : tie.After-slice-known3 → tie.Start
-start c = c .before .before .before .before .before .before .before .before .before .before
+start c =
+    let s10 = c .before .before .before .before .before .before .before .before .before .before in
+    s10
 
 written : (c : tie.After-slice-known3)
     → let s = start c in
     let k = c .before .before .before .before .before .before .write-bytes in
     let n = c .before .before .write-number in
     LineWrote (s .args .key .now) (digits (s .args .v)) (s .args .out .now) (k .last .0) (n .last .0) (k .result) (n .result)
-written c = line-wrote (start c .pre) (c .before .before .before .before .before .before .write-bytes .ensures) (c .before .before .write-number .ensures)
+written c =
+    let s6 = c .before .before .before .before .before .before in
+    line-wrote (start c .pre) (s6 .write-bytes .ensures) (c .before .before .write-number .ensures)
 
 add-end : tie.Need-add-end
 add-end c = omega (arith, written c .room)

@@ -7,10 +7,6 @@ use Rattle.model.specs.Text.NumberLaws.{length-most}
 use borrow.Author.Needs.{needs}
 use Rattle.lines.proofs.writing.write_middle.Statement.{statement}
 use Rattle.lines.proofs.writing.write_middle.Tie as tie
-use Rattle.lines.proofs.writing.write_middle.Reads as reads
-use Rattle.lines.proofs.writing.write_middle.Lts as lts
-use Rattle.lines.proofs.writing.write_four.Reads as write-four-reads
-use Rattle.lines.proofs.writing.write_short.Reads as write-short-reads
 
 write-short-requires : tie.Need-write-short-requires
 write-short-requires c κs = search needs
@@ -22,11 +18,22 @@ returns : tie.Need-returns
 returns c = search needs
 
 write-short-requires-2 : tie.Need-write-short-requires-2
-write-short-requires-2 c κs = (omega (arith, c .before .before .before .pre .0), omega (arith, c .before .before .before .pre .1, length-more (c .before .before .before .args .v) (c .before .if1 .left) (omega (arith, c .before .before .before .pre .0))))
+write-short-requires-2 c κs = (
+  omega (arith, c .before .before .before .pre .0),
+  omega (
+    arith,
+    c .before .before .before .pre .1,
+    length-more (c .before .before .before .args .v) (c .before .if1 .left)
+        (omega (arith, c .before .before .before .pre .0)),
+  ),
+)
 
--- there is room for four digits behind the ten thousands
+-- there is room for four digits after the ten thousands
 behind : (c : tie.After-slice-known3) → c .before .before .write-short2 .result + 4 ≤ length (c .before .before .write-short2 .last .0)
-behind c = more-room (c .before .before .before .before .before .before .args .v) (c .before .before .before .before .if1 .left) (omega (arith, c .before .before .before .before .before .before .pre .0)) (c .before .before .before .before .before .before .pre .1) (c .before .before .write-short2 .ensures)
+behind c =
+    let s4 = c .before .before .before .before in
+    let s6 = s4 .before .before in
+    more-room (s6 .args .v) (s4 .if1 .left) (omega (arith, s6 .pre .0)) (s6 .pre .1) (c .before .before .write-short2 .ensures)
 
 sub-write-four : tie.Need-sub-write-four
 sub-write-four c = omega (arith, behind c)
@@ -38,16 +45,38 @@ part-write-four-end : tie.Need-part-write-four-end
 part-write-four-end c = search needs
 
 write-four-requires : tie.Need-write-four-requires
-write-four-requires c κs = (omega arith, omega (arith, behind (c .before), length-part (c .before .before .before .write-short2 .last .0) (c .before .before .before .write-short2 .result)))
+write-four-requires c κs = (
+  omega arith,
+  omega (
+    arith,
+    behind (c .before),
+    length-part (c .before .before .before .write-short2 .last .0)
+        (c .before .before .before .write-short2 .result),
+  ),
+)
 
 add-result : tie.Need-add-result
-add-result c = omega (arith, c .before .before .before .before .before .before .write-short2 .ensures .many, length-most (c .before .before .before .before .before .before .before .before .before .before .args .v / 10000), c .before .before .write-four .ensures .many, four-long (c .before .before .before .before .before .before .before .before .before .before .args .v % 10000))
+add-result c =
+    let s6 = c .before .before .before .before .before .before in
+    let s10 = s6 .before .before .before .before in
+    omega (
+      arith,
+      s6 .write-short2 .ensures .many,
+      length-most (s10 .args .v / 10000),
+      c .before .before .write-four .ensures .many,
+      four-long
+          (s10 .args .v % 10000),
+    )
 
 same-length-2 : tie.Need-same-length-2
 same-length-2 c = search needs
 
 returns-2 : tie.Need-returns-2
-returns-2 c = wrote-more (c .before .before .before .before .before .before .before .before .before .before .args .v) (c .before .before .before .before .before .before .before .before .if1 .left) (omega (arith, c .before .before .before .before .before .before .before .before .before .before .pre .0)) (c .before .before .before .before .before .before .write-short2 .ensures) (c .before .before .write-four .ensures)
+returns-2 c =
+    let s6 = c .before .before .before .before .before .before in
+    let s8 = s6 .before .before in
+    let s10 = s8 .before .before in
+    wrote-more (s10 .args .v) (s8 .if1 .left) (omega (arith, s10 .pre .0)) (s6 .write-short2 .ensures) (c .before .before .write-four .ensures)
 
 pub write-middle-spec : {M : Type 1} → statement M
 write-middle-spec =

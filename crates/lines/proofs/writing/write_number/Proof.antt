@@ -7,11 +7,6 @@ use Rattle.model.specs.Text.NumberLaws.{length-most, length-small}
 use borrow.Author.Needs.{needs}
 use Rattle.lines.proofs.writing.write_number.Statement.{statement}
 use Rattle.lines.proofs.writing.write_number.Tie as tie
-use Rattle.lines.proofs.writing.write_number.Reads as reads
-use Rattle.lines.proofs.writing.write_number.Lts as lts
-use Rattle.lines.proofs.writing.write_four.Reads as write-four-reads
-use Rattle.lines.proofs.writing.write_middle.Reads as write-middle-reads
-use Rattle.lines.proofs.writing.write_short.Reads as write-short-reads
 
 cast-out : tie.Need-cast-out
 cast-out c = search needs
@@ -38,11 +33,16 @@ returns-2 : tie.Need-returns-2
 returns-2 c = search needs
 
 write-middle-requires : tie.Need-write-middle-requires
-write-middle-requires c κs = (omega (arith, c .before .before .before .before .fits .v), omega (arith, c .before .before .before .before .pre, length-more (c .before .before .before .before .args .v) (c .before .if2 .left) (omega (arith, c .before .before .before .before .fits .v))))
+write-middle-requires c κs =
+    let s4 = c .before .before .before .before in
+    (omega (arith, s4 .fits .v), omega (arith, s4 .pre, length-more (s4 .args .v) (c .before .if2 .left) (omega (arith, s4 .fits .v))))
 
--- there is room for four digits behind the ten thousands
+-- there is room for four digits after the ten thousands
 behind : (c : tie.After-slice-known3) → c .before .before .write-middle .result + 4 ≤ length (c .before .before .write-middle .last .0)
-behind c = more-room (c .before .before .before .before .before .before .before .args .v) (c .before .before .before .before .if2 .left) (omega (arith, c .before .before .before .before .before .before .before .fits .v)) (c .before .before .before .before .before .before .before .pre) (c .before .before .write-middle .ensures)
+behind c =
+    let s4 = c .before .before .before .before in
+    let s7 = s4 .before .before .before in
+    more-room (s7 .args .v) (s4 .if2 .left) (omega (arith, s7 .fits .v)) (s7 .pre) (c .before .before .write-middle .ensures)
 
 sub-write-four : tie.Need-sub-write-four
 sub-write-four c = omega (arith, behind c)
@@ -54,16 +54,38 @@ part-write-four-end : tie.Need-part-write-four-end
 part-write-four-end c = search needs
 
 write-four-requires : tie.Need-write-four-requires
-write-four-requires c κs = (omega arith, omega (arith, behind (c .before), length-part (c .before .before .before .write-middle .last .0) (c .before .before .before .write-middle .result)))
+write-four-requires c κs = (
+  omega arith,
+  omega (
+    arith,
+    behind (c .before),
+    length-part (c .before .before .before .write-middle .last .0)
+        (c .before .before .before .write-middle .result),
+  ),
+)
 
 add-result : tie.Need-add-result
-add-result c = omega (arith, c .before .before .before .before .before .before .write-middle .ensures .many, length-most (c .before .before .before .before .before .before .before .before .before .before .before .args .v / 10000), c .before .before .write-four .ensures .many, four-long (c .before .before .before .before .before .before .before .before .before .before .before .args .v % 10000))
+add-result c =
+    let s6 = c .before .before .before .before .before .before in
+    let s11 = s6 .before .before .before .before .before in
+    omega (
+      arith,
+      s6 .write-middle .ensures .many,
+      length-most (s11 .args .v / 10000),
+      c .before .before .write-four .ensures .many,
+      four-long
+          (s11 .args .v % 10000),
+    )
 
 same-length-3 : tie.Need-same-length-3
 same-length-3 c = search needs
 
 returns-3 : tie.Need-returns-3
-returns-3 c = wrote-more (c .before .before .before .before .before .before .before .before .before .before .before .args .v) (c .before .before .before .before .before .before .before .before .if2 .left) (omega (arith, c .before .before .before .before .before .before .before .before .before .before .before .fits .v)) (c .before .before .before .before .before .before .write-middle .ensures) (c .before .before .write-four .ensures)
+returns-3 c =
+    let s6 = c .before .before .before .before .before .before in
+    let s8 = s6 .before .before in
+    let s11 = s8 .before .before .before in
+    wrote-more (s11 .args .v) (s8 .if2 .left) (omega (arith, s11 .fits .v)) (s6 .write-middle .ensures) (c .before .before .write-four .ensures)
 
 pub write-number-spec : {M : Type 1} → statement M
 write-number-spec =

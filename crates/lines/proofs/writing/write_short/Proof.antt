@@ -5,9 +5,6 @@ use Rattle.model.specs.Text.NumberLaws.{length-small}
 use borrow.Author.Needs.{needs}
 use Rattle.lines.proofs.writing.write_short.Statement.{statement}
 use Rattle.lines.proofs.writing.write_short.Tie as tie
-use Rattle.lines.proofs.writing.write_short.Reads as reads
-use Rattle.lines.proofs.writing.write_short.Lts as lts
-use Rattle.lines.proofs.writing.write_four.Reads as write-four-reads
 
 cast-out : tie.Need-cast-out
 cast-out c = search needs
@@ -31,7 +28,8 @@ add-out-2 : tie.Need-add-out-2
 add-out-2 c = search needs
 
 slice-write-out-2 : tie.Need-slice-write-out-2
-slice-write-out-2 c = omega (arith, c .before .before .before .pre .1, length-two (c .before .before .before .args .v) (c .before .if1 .left) (c .if2 .taken))
+slice-write-out-2 c =
+    omega (arith, c .before .before .before .pre .1, length-two (c .before .before .before .args .v) (c .before .if1 .left) (c .if2 .taken))
 
 mul-out : tie.Need-mul-out
 mul-out c = search needs
@@ -46,7 +44,8 @@ add-out-3 : tie.Need-add-out-3
 add-out-3 c = search needs
 
 slice-write-out-3 : tie.Need-slice-write-out-3
-slice-write-out-3 c = simp length-set (omega (arith, c .before .before .before .pre .1, length-two (c .before .before .before .args .v) (c .before .if1 .left) (c .if2 .taken)))
+slice-write-out-3 c =
+    simp length-set (omega (arith, c .before .before .before .pre .1, length-two (c .before .before .before .args .v) (c .before .if1 .left) (c .if2 .taken)))
 
 same-length-2 : tie.Need-same-length-2
 same-length-2 c = search needs
@@ -61,7 +60,9 @@ add-out-4 : tie.Need-add-out-4
 add-out-4 c = search needs
 
 slice-write-out-4 : tie.Need-slice-write-out-4
-slice-write-out-4 c = omega (arith, c .before .before .before .before .pre .1, length-three (c .before .before .before .before .args .v) (c .before .if2 .left) (c .if3 .taken))
+slice-write-out-4 c =
+    let s4 = c .before .before .before .before in
+    omega (arith, s4 .pre .1, length-three (s4 .args .v) (c .before .if2 .left) (c .if3 .taken))
 
 mul-out-2 : tie.Need-mul-out-2
 mul-out-2 c = search needs
@@ -76,7 +77,9 @@ add-out-5 : tie.Need-add-out-5
 add-out-5 c = search needs
 
 slice-write-out-5 : tie.Need-slice-write-out-5
-slice-write-out-5 c = simp length-set (omega (arith, c .before .before .before .before .pre .1, length-three (c .before .before .before .before .args .v) (c .before .if2 .left) (c .if3 .taken)))
+slice-write-out-5 c =
+    let s4 = c .before .before .before .before in
+    simp length-set (omega (arith, s4 .pre .1, length-three (s4 .args .v) (c .before .if2 .left) (c .if3 .taken)))
 
 mul-out-3 : tie.Need-mul-out-3
 mul-out-3 c = search needs
@@ -91,22 +94,31 @@ add-out-6 : tie.Need-add-out-6
 add-out-6 c = search needs
 
 slice-write-out-6 : tie.Need-slice-write-out-6
-slice-write-out-6 c = simp length-set (omega (arith, c .before .before .before .before .pre .1, length-three (c .before .before .before .before .args .v) (c .before .if2 .left) (c .if3 .taken)))
+slice-write-out-6 c =
+    let s4 = c .before .before .before .before in
+    simp length-set (omega (arith, s4 .pre .1, length-three (s4 .args .v) (c .before .if2 .left) (c .if3 .taken)))
 
 same-length-3 : tie.Need-same-length-3
 same-length-3 c = search needs
 
 returns-3 : tie.Need-returns-3
-returns-3 c = wrote-three (c .before .before .before .before .args .v) (c .before .if2 .left) (c .if3 .taken) (c .before .before .before .before .pre .1)
+returns-3 c =
+    let s4 = c .before .before .before .before in
+    wrote-three (s4 .args .v) (c .before .if2 .left) (c .if3 .taken) (s4 .pre .1)
 
 write-four-requires : tie.Need-write-four-requires
-write-four-requires c κs = (c .before .before .before .before .before .pre .0, omega (arith, c .before .before .before .before .before .pre .1, length-four (c .before .before .before .before .before .args .v) (c .before .if3 .left) (c .before .before .before .before .before .pre .0)))
+write-four-requires c κs =
+    let s5 = c .before .before .before .before .before in
+    (s5 .pre .0, omega (arith, s5 .pre .1, length-four (s5 .args .v) (c .before .if3 .left) (s5 .pre .0)))
 
 same-length-4 : tie.Need-same-length-4
 same-length-4 c = search needs
 
 returns-4 : tie.Need-returns-4
-returns-4 c = rw (digits-four (c .before .before .before .before .before .before .before .before .args .v) (c .before .before .before .before .if3 .left) (c .before .before .before .before .before .before .before .before .pre .0)) (c .before .before .write-four .ensures)
+returns-4 c =
+    let s4 = c .before .before .before .before in
+    let s8 = s4 .before .before .before .before in
+    rw (digits-four (s8 .args .v) (s4 .if3 .left) (s8 .pre .0)) (c .before .before .write-four .ensures)
 
 pub write-short-spec : {M : Type 1} → statement M
 write-short-spec =

@@ -6,8 +6,6 @@ use borrow.Author.Needs.{needs}
 use Rattle.request_text.specs.CopyLaws.{copied, copied-all, copied-turn}
 use Rattle.request_text.proofs.reading.copy_words.Statement.{statement}
 use Rattle.request_text.proofs.reading.copy_words.Tie as tie
-use Rattle.request_text.proofs.reading.copy_words.Reads as reads
-use Rattle.request_text.proofs.reading.copy_words.Lts as lts
 
 abbrev Inv-loop : tie.InvT-loop
 Inv-loop out₀ src i₀ out i = (i ≤ length src) × (length out ≡ length out₀) × (out ≡ copied src out₀ i)

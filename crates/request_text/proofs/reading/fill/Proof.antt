@@ -1,18 +1,27 @@
 use mathlib.Core.Path.{_∙_, _≡_, ap, sym}
 use lib.ListN.{length, length-set}
 use Rattle.model.specs.Request.Words.{requestWords}
-use Rattle.request_text.specs.FillLaws.{bad1, bad2, bad3, bad4, bad5, bad6, bad7, both-length, first-length, first-part, read7, second-part, stored-is, withBoth}
+use Rattle.request_text.specs.FillLaws.{
+  bad1,
+  bad2,
+  bad3,
+  bad4,
+  bad5,
+  bad6,
+  bad7,
+  both-length,
+  first-length,
+  first-part,
+  read7,
+  second-part,
+  stored-is,
+  withBoth,
+}
 use Rattle.request_text.specs.SevenLaws.{seven-bad, seven-next}
 use native.Mathlib.Omega.{arith}
 use borrow.Author.Needs.{needs}
 use Rattle.request_text.proofs.reading.fill.Statement.{statement}
 use Rattle.request_text.proofs.reading.fill.Tie as tie
-use Rattle.request_text.proofs.reading.fill.Reads as reads
-use Rattle.request_text.proofs.reading.fill.Lts as lts
-use Rattle.lines.proofs.reading.read_line.Reads as read-line-reads
-use Rattle.request_text.proofs.reading.first_ref.Reads as first-ref-reads
-use Rattle.request_text.proofs.reading.last_line.Reads as last-line-reads
-use Rattle.request_text.proofs.reading.second_ref.Reads as second-ref-reads
 
 -- where all seven lines were good, the room has still sixteen words
 room : (c : tie.After-known-told7)
@@ -24,14 +33,19 @@ room : (c : tie.After-known-told7)
     let a = l3 .before .before .before .before .before .before .before .before .before .before .before .before .before .before in
     length (withBoth (a .args .w .now) (l3 .first-ref .last .1 .1 .0) (l4 .second-ref .last .1 .1 .0)) ≡ requestWords
 room c =
-    let v7 = c .before in let l7 = v7 .before .before in
-    let v6 = l7 .before .before in let l6 = v6 .before .before in
-    let v5 = l6 .before .before .before in let l5 = v5 .before .before in
-    let v4 = l5 .before .before .before in let l4 = v4 .before .before .before .before in
-    let v3 = l4 .before .before .before in let l3 = v3 .before .before .before .before in
+    let v7 = c .before in
+    let l7 = v7 .before .before in
+    let v6 = l7 .before .before in
+    let l6 = v6 .before .before in
+    let v5 = l6 .before .before .before in
+    let l5 = v5 .before .before in
+    let v4 = l5 .before .before .before in
+    let l4 = v4 .before .before .before .before in
+    let v3 = l4 .before .before .before in
+    let l3 = v3 .before .before .before .before in
     let a = l3 .before .before .before .before .before .before .before .before .before .before .before .before .before .before in
-    both-length (a .args .w .now) (l3 .first-ref .last .1 .1 .0) (l4 .second-ref .last .1 .1 .0) (a .pre .1)
-    (l3 .first-ref .kept .1 .1 .0) (l4 .second-ref .kept .1 .1 .0)
+    both-length (a .args .w .now) (l3 .first-ref .last .1 .1 .0) (l4 .second-ref .last .1 .1 .0) (a .pre .1) (l3 .first-ref .kept .1 .1 .0)
+    (l4 .second-ref .kept .1 .1 .0)
 
 slice-aggregate-read-line : tie.Need-slice-aggregate-read-line
 slice-aggregate-read-line c = search needs
@@ -65,10 +79,9 @@ enum-told-2 c = search needs
 returns-2 : tie.Need-returns-2
 returns-2 c =
     let l2 = c .before .before in
-    let v1 = l2 .before .before .before in let l1 = v1 .before .before in
-    seven-bad (bad2
-    (rw (v1 .user .given .1) at (l1 .read-line .ensures))
-    (rw (c .enum-told2 .given .1) at (l2 .read-line2 .ensures)))
+    let v1 = l2 .before .before .before in
+    let l1 = v1 .before .before in
+    seven-bad (bad2 (rw (v1 .user .given .1) at (l1 .read-line .ensures)) (rw (c .enum-told2 .given .1) at (l2 .read-line2 .ensures)))
 
 sub-first-ref : tie.Need-sub-first-ref
 sub-first-ref c = search needs
@@ -83,7 +96,8 @@ part-first-ref-end c =
 
 first-ref-requires : tie.Need-first-ref-requires
 first-ref-requires c κs =
-    let v2 = c .before .before in let l2 = v2 .before .before in
+    let v2 = c .before .before in
+    let l2 = v2 .before .before in
     let a = l2 .before .before .before .before .before .before .before .before .before in
     ((rw (v2 .op .given .1) at (l2 .read-line2 .ensures)) .within, omega (arith, ap length (first-part _ (a .pre .1))))
 
@@ -99,11 +113,11 @@ same-length c = search needs
 returns-3 : tie.Need-returns-3
 returns-3 c =
     let l3 = c .before .before .before .before in
-    let v2 = l3 .before .before .before in let l2 = v2 .before .before in
-    let v1 = l2 .before .before .before in let l1 = v1 .before .before in
-    seven-bad (bad3
-    (rw (v1 .user .given .1) at (l1 .read-line .ensures))
-    (rw (v2 .op .given .1) at (l2 .read-line2 .ensures))
+    let v2 = l3 .before .before .before in
+    let l2 = v2 .before .before in
+    let v1 = l2 .before .before .before in
+    let l1 = v1 .before .before in
+    seven-bad (bad3 (rw (v1 .user .given .1) at (l1 .read-line .ensures)) (rw (v2 .op .given .1) at (l2 .read-line2 .ensures))
     (rw (c .enum-told3 .given .1) at (l3 .first-ref .ensures)))
 
 sub-second-ref : tie.Need-sub-second-ref
@@ -120,7 +134,8 @@ part-second-ref-end c =
 
 second-ref-requires : tie.Need-second-ref-requires
 second-ref-requires c κs =
-    let v3 = c .before .before in let l3 = v3 .before .before .before .before in
+    let v3 = c .before .before in
+    let l3 = v3 .before .before .before .before in
     let a = l3 .before .before .before .before .before .before .before .before .before .before .before .before .before .before in
     let e = second-part (a .args .w .now) (l3 .first-ref .last .1 .1 .0) (a .pre .1) (l3 .first-ref .kept .1 .1 .0) in
     ((rw (v3 .n .given .1) at (l3 .first-ref .ensures)) .within, omega (arith, ap length e))
@@ -137,14 +152,14 @@ same-length-2 c = search needs
 returns-4 : tie.Need-returns-4
 returns-4 c =
     let l4 = c .before .before .before .before in
-    let v3 = l4 .before .before .before in let l3 = v3 .before .before .before .before in
-    let v2 = l3 .before .before .before in let l2 = v2 .before .before in
-    let v1 = l2 .before .before .before in let l1 = v1 .before .before in
-    seven-bad (bad4
-    (rw (v1 .user .given .1) at (l1 .read-line .ensures))
-    (rw (v2 .op .given .1) at (l2 .read-line2 .ensures))
-    (rw (v3 .n .given .1) at (l3 .first-ref .ensures))
-    (rw (c .enum-told4 .given .1) at (l4 .second-ref .ensures)))
+    let v3 = l4 .before .before .before in
+    let l3 = v3 .before .before .before .before in
+    let v2 = l3 .before .before .before in
+    let l2 = v2 .before .before in
+    let v1 = l2 .before .before .before in
+    let l1 = v1 .before .before in
+    seven-bad (bad4 (rw (v1 .user .given .1) at (l1 .read-line .ensures)) (rw (v2 .op .given .1) at (l2 .read-line2 .ensures))
+    (rw (v3 .n .given .1) at (l3 .first-ref .ensures)) (rw (c .enum-told4 .given .1) at (l4 .second-ref .ensures)))
 
 slice-aggregate-read-line-3 : tie.Need-slice-aggregate-read-line-3
 slice-aggregate-read-line-3 c = search needs
@@ -164,15 +179,16 @@ same-length-3 c = search needs
 returns-5 : tie.Need-returns-5
 returns-5 c =
     let l5 = c .before .before in
-    let v4 = l5 .before .before .before in let l4 = v4 .before .before .before .before in
-    let v3 = l4 .before .before .before in let l3 = v3 .before .before .before .before in
-    let v2 = l3 .before .before .before in let l2 = v2 .before .before in
-    let v1 = l2 .before .before .before in let l1 = v1 .before .before in
-    seven-bad (bad5
-    (rw (v1 .user .given .1) at (l1 .read-line .ensures))
-    (rw (v2 .op .given .1) at (l2 .read-line2 .ensures))
-    (rw (v3 .n .given .1) at (l3 .first-ref .ensures))
-    (rw (v4 .m .given .1) at (l4 .second-ref .ensures))
+    let v4 = l5 .before .before .before in
+    let l4 = v4 .before .before .before .before in
+    let v3 = l4 .before .before .before in
+    let l3 = v3 .before .before .before .before in
+    let v2 = l3 .before .before .before in
+    let l2 = v2 .before .before in
+    let v1 = l2 .before .before .before in
+    let l1 = v1 .before .before in
+    seven-bad (bad5 (rw (v1 .user .given .1) at (l1 .read-line .ensures)) (rw (v2 .op .given .1) at (l2 .read-line2 .ensures))
+    (rw (v3 .n .given .1) at (l3 .first-ref .ensures)) (rw (v4 .m .given .1) at (l4 .second-ref .ensures))
     (rw (c .enum-told5 .given .1) at (l5 .read-line3 .ensures)))
 
 slice-aggregate-read-line-4 : tie.Need-slice-aggregate-read-line-4
@@ -193,18 +209,19 @@ same-length-4 c = search needs
 returns-6 : tie.Need-returns-6
 returns-6 c =
     let l6 = c .before .before in
-    let v5 = l6 .before .before .before in let l5 = v5 .before .before in
-    let v4 = l5 .before .before .before in let l4 = v4 .before .before .before .before in
-    let v3 = l4 .before .before .before in let l3 = v3 .before .before .before .before in
-    let v2 = l3 .before .before .before in let l2 = v2 .before .before in
-    let v1 = l2 .before .before .before in let l1 = v1 .before .before in
-    seven-bad (bad6
-    (rw (v1 .user .given .1) at (l1 .read-line .ensures))
-    (rw (v2 .op .given .1) at (l2 .read-line2 .ensures))
-    (rw (v3 .n .given .1) at (l3 .first-ref .ensures))
-    (rw (v4 .m .given .1) at (l4 .second-ref .ensures))
-    (rw (v5 .a .given .1) at (l5 .read-line3 .ensures))
-    (rw (c .enum-told6 .given .1) at (l6 .read-line4 .ensures)))
+    let v5 = l6 .before .before .before in
+    let l5 = v5 .before .before in
+    let v4 = l5 .before .before .before in
+    let l4 = v4 .before .before .before .before in
+    let v3 = l4 .before .before .before in
+    let l3 = v3 .before .before .before .before in
+    let v2 = l3 .before .before .before in
+    let l2 = v2 .before .before in
+    let v1 = l2 .before .before .before in
+    let l1 = v1 .before .before in
+    seven-bad (bad6 (rw (v1 .user .given .1) at (l1 .read-line .ensures)) (rw (v2 .op .given .1) at (l2 .read-line2 .ensures))
+    (rw (v3 .n .given .1) at (l3 .first-ref .ensures)) (rw (v4 .m .given .1) at (l4 .second-ref .ensures))
+    (rw (v5 .a .given .1) at (l5 .read-line3 .ensures)) (rw (c .enum-told6 .given .1) at (l6 .read-line4 .ensures)))
 
 last-line-requires : tie.Need-last-line-requires
 last-line-requires c κs = (rw (c .before .b .given .1) at (c .before .before .before .read-line4 .ensures)) .within
@@ -218,31 +235,36 @@ enum-told-7 c = search needs
 same-length-5 : tie.Need-same-length-5
 same-length-5 c =
     let l7 = c .before .before in
-    let v6 = l7 .before .before in let l6 = v6 .before .before in
-    let v5 = l6 .before .before .before in let l5 = v5 .before .before in
-    let v4 = l5 .before .before .before in let l4 = v4 .before .before .before .before in
-    let v3 = l4 .before .before .before in let l3 = v3 .before .before .before .before in
+    let v6 = l7 .before .before in
+    let l6 = v6 .before .before in
+    let v5 = l6 .before .before .before in
+    let l5 = v5 .before .before in
+    let v4 = l5 .before .before .before in
+    let l4 = v4 .before .before .before .before in
+    let v3 = l4 .before .before .before in
+    let l3 = v3 .before .before .before .before in
     let a = l3 .before .before .before .before .before .before .before .before .before .before .before .before .before .before in
-    both-length (a .args .w .now) (l3 .first-ref .last .1 .1 .0) (l4 .second-ref .last .1 .1 .0) (a .pre .1)
-    (l3 .first-ref .kept .1 .1 .0) (l4 .second-ref .kept .1 .1 .0)
-    ∙ ap length (sym (a .pre .1))
+    both-length (a .args .w .now) (l3 .first-ref .last .1 .1 .0) (l4 .second-ref .last .1 .1 .0) (a .pre .1) (l3 .first-ref .kept .1 .1 .0)
+    (l4 .second-ref .kept .1 .1 .0) ∙ ap length (sym (a .pre .1))
 
 returns-7 : tie.Need-returns-7
 returns-7 c =
     let l7 = c .before .before in
-    let v6 = l7 .before .before in let l6 = v6 .before .before in
-    let v5 = l6 .before .before .before in let l5 = v5 .before .before in
-    let v4 = l5 .before .before .before in let l4 = v4 .before .before .before .before in
-    let v3 = l4 .before .before .before in let l3 = v3 .before .before .before .before in
-    let v2 = l3 .before .before .before in let l2 = v2 .before .before in
-    let v1 = l2 .before .before .before in let l1 = v1 .before .before in
-    seven-bad (bad7
-    (rw (v1 .user .given .1) at (l1 .read-line .ensures))
-    (rw (v2 .op .given .1) at (l2 .read-line2 .ensures))
-    (rw (v3 .n .given .1) at (l3 .first-ref .ensures))
-    (rw (v4 .m .given .1) at (l4 .second-ref .ensures))
-    (rw (v5 .a .given .1) at (l5 .read-line3 .ensures))
-    (rw (v6 .b .given .1) at (l6 .read-line4 .ensures))
+    let v6 = l7 .before .before in
+    let l6 = v6 .before .before in
+    let v5 = l6 .before .before .before in
+    let l5 = v5 .before .before in
+    let v4 = l5 .before .before .before in
+    let l4 = v4 .before .before .before .before in
+    let v3 = l4 .before .before .before in
+    let l3 = v3 .before .before .before .before in
+    let v2 = l3 .before .before .before in
+    let l2 = v2 .before .before in
+    let v1 = l2 .before .before .before in
+    let l1 = v1 .before .before in
+    seven-bad (bad7 (rw (v1 .user .given .1) at (l1 .read-line .ensures)) (rw (v2 .op .given .1) at (l2 .read-line2 .ensures))
+    (rw (v3 .n .given .1) at (l3 .first-ref .ensures)) (rw (v4 .m .given .1) at (l4 .second-ref .ensures))
+    (rw (v5 .a .given .1) at (l5 .read-line3 .ensures)) (rw (v6 .b .given .1) at (l6 .read-line4 .ensures))
     (rw (c .enum-told7 .given .1) at (l7 .last-line .ensures)))
 
 slice-write-w : tie.Need-slice-write-w
@@ -253,11 +275,16 @@ slice-write-w-2 c = simp length-set (omega (arith, room c))
 
 cast-w : tie.Need-cast-w
 cast-w c =
-    let v7 = c .before in let l7 = v7 .before .before in
-    let v6 = l7 .before .before in let l6 = v6 .before .before in
-    let v5 = l6 .before .before .before in let l5 = v5 .before .before in
-    let v4 = l5 .before .before .before in let l4 = v4 .before .before .before .before in
-    let v3 = l4 .before .before .before in let l3 = v3 .before .before .before .before in
+    let v7 = c .before in
+    let l7 = v7 .before .before in
+    let v6 = l7 .before .before in
+    let l6 = v6 .before .before in
+    let v5 = l6 .before .before .before in
+    let l5 = v5 .before .before in
+    let v4 = l5 .before .before .before in
+    let l4 = v4 .before .before .before .before in
+    let v3 = l4 .before .before .before in
+    let l3 = v3 .before .before .before .before in
     omega (arith, (rw (v3 .n .given .1) at (l3 .first-ref .ensures)) .few)
 
 slice-write-w-3 : tie.Need-slice-write-w-3
@@ -265,10 +292,14 @@ slice-write-w-3 c = simp length-set (omega (arith, room c))
 
 cast-w-2 : tie.Need-cast-w-2
 cast-w-2 c =
-    let v7 = c .before in let l7 = v7 .before .before in
-    let v6 = l7 .before .before in let l6 = v6 .before .before in
-    let v5 = l6 .before .before .before in let l5 = v5 .before .before in
-    let v4 = l5 .before .before .before in let l4 = v4 .before .before .before .before in
+    let v7 = c .before in
+    let l7 = v7 .before .before in
+    let v6 = l7 .before .before in
+    let l6 = v6 .before .before in
+    let v5 = l6 .before .before .before in
+    let l5 = v5 .before .before in
+    let v4 = l5 .before .before .before in
+    let l4 = v4 .before .before .before .before in
     omega (arith, (rw (v4 .m .given .1) at (l4 .second-ref .ensures)) .few)
 
 slice-write-w-4 : tie.Need-slice-write-w-4
@@ -285,39 +316,44 @@ slice-write-w-7 c = simp length-set (omega (arith, room c))
 
 same-length-6 : tie.Need-same-length-6
 same-length-6 c =
-    let v7 = c .before in let l7 = v7 .before .before in
-    let v6 = l7 .before .before in let l6 = v6 .before .before in
-    let v5 = l6 .before .before .before in let l5 = v5 .before .before in
-    let v4 = l5 .before .before .before in let l4 = v4 .before .before .before .before in
-    let v3 = l4 .before .before .before in let l3 = v3 .before .before .before .before in
+    let v7 = c .before in
+    let l7 = v7 .before .before in
+    let v6 = l7 .before .before in
+    let l6 = v6 .before .before in
+    let v5 = l6 .before .before .before in
+    let l5 = v5 .before .before in
+    let v4 = l5 .before .before .before in
+    let l4 = v4 .before .before .before .before in
+    let v3 = l4 .before .before .before in
+    let l3 = v3 .before .before .before .before in
     let a = l3 .before .before .before .before .before .before .before .before .before .before .before .before .before .before in
     simp length-set (room c ∙ ap length (sym (a .pre .1)))
 
 returns-8 : tie.Need-returns-8
 returns-8 c =
-    let v7 = c .before in let l7 = v7 .before .before in
-    let v6 = l7 .before .before in let l6 = v6 .before .before in
-    let v5 = l6 .before .before .before in let l5 = v5 .before .before in
-    let v4 = l5 .before .before .before in let l4 = v4 .before .before .before .before in
-    let v3 = l4 .before .before .before in let l3 = v3 .before .before .before .before in
-    let v2 = l3 .before .before .before in let l2 = v2 .before .before in
-    let v1 = l2 .before .before .before in let l1 = v1 .before .before in
+    let v7 = c .before in
+    let l7 = v7 .before .before in
+    let v6 = l7 .before .before in
+    let l6 = v6 .before .before in
+    let v5 = l6 .before .before .before in
+    let l5 = v5 .before .before in
+    let v4 = l5 .before .before .before in
+    let l4 = v4 .before .before .before .before in
+    let v3 = l4 .before .before .before in
+    let l3 = v3 .before .before .before .before in
+    let v2 = l3 .before .before .before in
+    let l2 = v2 .before .before in
+    let v1 = l2 .before .before .before in
+    let l1 = v1 .before .before in
     let a = l1 .before .before .before .before in
     let e3 = rw (v3 .n .given .1) at (l3 .first-ref .ensures) in
     let e4 = rw (v4 .m .given .1) at (l4 .second-ref .ensures) in
-    seven-next
-    ((rw (v7 .c .given .1) at (l7 .last-line .ensures)) .within)
-    (read7
-    (rw (v1 .user .given .1) at (l1 .read-line .ensures))
-    (rw (v2 .op .given .1) at (l2 .read-line2 .ensures))
-    e3
-    e4
-    (rw (v5 .a .given .1) at (l5 .read-line3 .ensures))
-    (rw (v6 .b .given .1) at (l6 .read-line4 .ensures))
+    seven-next ((rw (v7 .c .given .1) at (l7 .last-line .ensures)) .within)
+    (read7 (rw (v1 .user .given .1) at (l1 .read-line .ensures)) (rw (v2 .op .given .1) at (l2 .read-line2 .ensures)) e3 e4
+    (rw (v5 .a .given .1) at (l5 .read-line3 .ensures)) (rw (v6 .b .given .1) at (l6 .read-line4 .ensures))
     (rw (v7 .c .given .1) at (l7 .last-line .ensures)))
-    (stored-is (a .args .w .now) _ _ _ _ _ _ _ _ _ (a .pre .1)
-    (l3 .first-ref .kept .1 .1 .0) (e3 .few) (e3 .kept)
-    (l4 .second-ref .kept .1 .1 .0) (e4 .few) (e4 .kept))
+    (stored-is (a .args .w .now) _ _ _ _ _ _ _ _ _ (a .pre .1) (l3 .first-ref .kept .1 .1 .0) (e3 .few) (e3 .kept) (l4 .second-ref .kept .1 .1 .0)
+    (e4 .few) (e4 .kept))
 
 pub fill-spec : {M : Type 1} → statement M
 fill-spec =

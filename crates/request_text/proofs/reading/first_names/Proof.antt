@@ -2,19 +2,17 @@ use mathlib.Core.Path.{_≡_, refl}
 use Prim.Native.Nat.{_-_, _≤_}
 use native.Mathlib.Omega.{arith}
 use lib.ListN.{length, length-set}
+use Rattle.request_text.specs.NamesAt.{furtherMost}
 use Rattle.request_text.specs.NamesAtLaws.{NamesTo, further-end, names-bad, names-end, names-last, names-start, names-turn, no-dot}
 use borrow.Author.Needs.{needs}
 use Rattle.request_text.proofs.reading.first_names.Statement.{statement}
 use Rattle.request_text.proofs.reading.first_names.Tie as tie
-use Rattle.request_text.proofs.reading.first_names.Reads as reads
-use Rattle.request_text.proofs.reading.first_names.Lts as lts
-use Rattle.lines.proofs.reading.read_number.Reads as read-number-reads
 
 abbrev Inv-loop : tie.InvT-loop
-Inv-loop s at out₀ i₀ k₀ out i k = (k ≤ 3) × (i ≤ length s) × (length out ≡ length out₀) × NamesTo s at out₀ out i k
+Inv-loop s at out₀ i₀ k₀ out i k = (k ≤ furtherMost) × (i ≤ length s) × (length out ≡ length out₀) × NamesTo s at out₀ out i k
 
 abbrev μ-loop : tie.MeasureT-loop
-μ-loop s at out₀ i₀ k₀ out i k = 3 - k
+μ-loop s at out₀ i₀ k₀ out i k = furtherMost - k
 
 loop-holds : tie.Need-loop-holds Inv-loop μ-loop
 loop-holds c = (omega arith, c .before .before .pre .0, refl, names-start _ _ _)
@@ -39,8 +37,10 @@ mul-out c = search needs
 
 slice-write-out : tie.Need-slice-write-out Inv-loop μ-loop
 slice-write-out c =
-    let l = c .before .before .before .before .before .loop in
-    let pre = c .before .before .before .before .before .before .before .before .pre in
+    let s5 = c .before .before .before .before .before in
+    let s8 = s5 .before .before .before in
+    let l = s5 .loop in
+    let pre = s8 .pre in
     omega (arith, l .inv .2, pre .1)
 
 add-k : tie.Need-add-k Inv-loop μ-loop
@@ -51,30 +51,39 @@ same-length-2 c = simp length-set (c .before .before .before .before .before .be
 
 returns-2 : tie.Need-returns-2 Inv-loop μ-loop
 returns-2 c =
+    let s4 = c .before .before .before .before in
+    let s6 = s4 .before .before in
+    let s9 = s6 .before .before .before in
     let if1 = c .if1 in
     let v = c .before .before .v in
-    let read-number = c .before .before .before .before .read-number in
-    let l = c .before .before .before .before .before .before .loop in
-    let pre = c .before .before .before .before .before .before .before .before .before .pre in
+    let read-number = s4 .read-number in
+    let l = s6 .loop in
+    let pre = s9 .pre in
     let number = rw (v .given .1) at (read-number .ensures) in
-    names-end (l .inv .3) (l .inv .0) (omega (arith, l .inv .2, pre .1)) number (further-end _ _ (3 - l .k) (if1 .taken))
+    names-end (l .inv .3) (l .inv .0) (omega (arith, l .inv .2, pre .1)) number (further-end _ _ (furtherMost - l .k) (if1 .taken))
 
 shared-slice-read-if2 : tie.Need-shared-slice-read-if2 Inv-loop μ-loop
 shared-slice-read-if2 c = search needs
 
 same-length-3 : tie.Need-same-length-3 Inv-loop μ-loop
-same-length-3 c = simp length-set (c .before .before .before .before .before .before .before .before .loop .inv .2)
+same-length-3 c =
+    let s8 = c .before .before .before .before .before .before .before .before in
+    simp length-set (s8 .loop .inv .2)
 
 returns-3 : tie.Need-returns-3 Inv-loop μ-loop
 returns-3 c =
+    let s4 = c .before .before .before .before in
+    let s6 = s4 .before .before in
+    let s8 = s6 .before .before in
+    let s11 = s8 .before .before .before in
     let if2 = c .if2 in
     let if1 = c .before .before .if1 in
-    let v = c .before .before .before .before .v in
-    let read-number = c .before .before .before .before .before .before .read-number in
-    let l = c .before .before .before .before .before .before .before .before .loop in
-    let pre = c .before .before .before .before .before .before .before .before .before .before .before .pre in
+    let v = s4 .v in
+    let read-number = s6 .read-number in
+    let l = s8 .loop in
+    let pre = s11 .pre in
     let number = rw (v .given .1) at (read-number .ensures) in
-    names-end (l .inv .3) (l .inv .0) (omega (arith, l .inv .2, pre .1)) number (no-dot _ _ (3 - l .k) (if1 .left) (if2 .taken))
+    names-end (l .inv .3) (l .inv .0) (omega (arith, l .inv .2, pre .1)) number (no-dot _ _ (furtherMost - l .k) (if1 .left) (if2 .taken))
 
 add-i : tie.Need-add-i Inv-loop μ-loop
 add-i c = search needs
@@ -84,13 +93,18 @@ loop-less c = search needs
 
 loop-again : tie.Need-loop-again Inv-loop μ-loop
 loop-again c =
+    let s4 = c .before .before .before .before in
+    let s6 = s4 .before .before in
+    let s7 = s6 .before in
+    let s8 = s7 .before in
+    let s11 = s8 .before .before .before in
     let if2 = c .if2 in
     let if1 = c .before .before .if1 in
-    let v = c .before .before .before .before .v in
-    let read-number = c .before .before .before .before .before .before .read-number in
-    let test = c .before .before .before .before .before .before .before .loop-test in
-    let l = c .before .before .before .before .before .before .before .before .loop in
-    let pre = c .before .before .before .before .before .before .before .before .before .before .before .pre in
+    let v = s4 .v in
+    let read-number = s6 .read-number in
+    let test = s7 .loop-test in
+    let l = s8 .loop in
+    let pre = s11 .pre in
     let number = rw (v .given .1) at (read-number .ensures) in
     let turn = names-turn (l .inv .3) (test .taken) (omega (arith, l .inv .2, pre .1)) number (if1 .left) (if2 .left) in
     (omega arith, omega arith, simp length-set (l .inv .2), turn)
@@ -109,15 +123,18 @@ same-length-4 c = search needs
 
 returns-4 : tie.Need-returns-4 Inv-loop μ-loop
 returns-4 c =
+    let s4 = c .before .before .before .before in
     let enum-told2 = c .enum-told2 in
     let read-number2 = c .before .before .read-number2 in
-    let l = c .before .before .before .before .loop in
+    let l = s4 .loop in
     names-bad (l .inv .3) (rw (enum-told2 .given .1) at (read-number2 .ensures)) _
 
 slice-write-out-2 : tie.Need-slice-write-out-2 Inv-loop μ-loop
 slice-write-out-2 c =
-    let l = c .before .before .before .before .before .loop in
-    let pre = c .before .before .before .before .before .before .before .before .pre in
+    let s5 = c .before .before .before .before .before in
+    let s8 = s5 .before .before .before in
+    let l = s5 .loop in
+    let pre = s8 .pre in
     omega (arith, l .inv .2, pre .1)
 
 same-length-5 : tie.Need-same-length-5 Inv-loop μ-loop
@@ -125,10 +142,12 @@ same-length-5 c = simp length-set (c .before .before .before .before .before .lo
 
 returns-5 : tie.Need-returns-5 Inv-loop μ-loop
 returns-5 c =
+    let s5 = c .before .before .before .before .before in
+    let s8 = s5 .before .before .before in
     let last = c .before .last in
     let read-number2 = c .before .before .before .read-number2 in
-    let l = c .before .before .before .before .before .loop in
-    let pre = c .before .before .before .before .before .before .before .before .pre in
+    let l = s5 .loop in
+    let pre = s8 .pre in
     names-last (l .inv .3) (omega arith) (omega (arith, l .inv .2, pre .1)) (rw (last .given .1) at (read-number2 .ensures))
 
 pub first-names-spec : {M : Type 1} → statement M

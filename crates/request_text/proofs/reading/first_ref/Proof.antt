@@ -2,10 +2,6 @@ use Rattle.request_text.specs.RefAtLaws.{ref-behind, ref-no-key}
 use borrow.Author.Needs.{needs}
 use Rattle.request_text.proofs.reading.first_ref.Statement.{statement}
 use Rattle.request_text.proofs.reading.first_ref.Tie as tie
-use Rattle.request_text.proofs.reading.first_ref.Reads as reads
-use Rattle.request_text.proofs.reading.first_ref.Lts as lts
-use Rattle.lines.proofs.reading.read_key.Reads as read-key-reads
-use Rattle.request_text.proofs.reading.read_ref.Reads as read-ref-reads
 
 slice-aggregate-read-key : tie.Need-slice-aggregate-read-key
 slice-aggregate-read-key c = search needs
@@ -24,9 +20,11 @@ returns c = ref-no-key (rw (c .enum-told .given .1) at (c .before .before .read-
 
 read-ref-requires : tie.Need-read-ref-requires
 read-ref-requires c κs =
+    let s4 = c .before .before .before .before in
+    let s8 = s4 .before .before .before .before in
     let i = c .before .before .i in
-    let read-key = c .before .before .before .before .read-key in
-    let pre = c .before .before .before .before .before .before .before .before .pre in
+    let read-key = s4 .read-key in
+    let pre = s8 .pre in
     ((rw (i .given .1) at (read-key .ensures)) .within, pre .1)
 
 same-length : tie.Need-same-length
@@ -34,9 +32,11 @@ same-length c = search needs
 
 returns-2 : tie.Need-returns-2
 returns-2 c =
+    let s5 = c .before .before .before .before .before in
+    let s7 = s5 .before .before in
     let read-ref = c .before .before .read-ref in
-    let i = c .before .before .before .before .before .i in
-    let read-key = c .before .before .before .before .before .before .before .read-key in
+    let i = s5 .i in
+    let read-key = s7 .read-key in
     ref-behind (rw (i .given .1) at (read-key .ensures)) (read-ref .ensures)
 
 pub first-ref-spec : {M : Type 1} → statement M

@@ -2,10 +2,6 @@ use Rattle.request_text.specs.ReadLaws.{read-bad, read-behind, read-othe
 use borrow.Author.Needs.{needs}
 use Rattle.request_text.proofs.reading.read.Statement.{statement}
 use Rattle.request_text.proofs.reading.read.Tie as tie
-use Rattle.request_text.proofs.reading.read.Reads as reads
-use Rattle.request_text.proofs.reading.read.Lts as lts
-use Rattle.request_text.proofs.reading.copy_words.Reads as copy-words-reads
-use Rattle.request_text.proofs.reading.fill.Reads as fill-reads
 
 returns : tie.Need-returns
 returns c = read-other-size _ _ (c .if1 .taken)
@@ -24,10 +20,12 @@ enum-known-i c = search needs
 
 returns-2 : tie.Need-returns-2
 returns-2 c =
+    let s5 = c .before .before .before .before .before in
+    let s7 = s5 .before .before in
     let if2 = c .if2 in
     let i = c .before .before .i in
-    let fill = c .before .before .before .before .before .fill in
-    let if1 = c .before .before .before .before .before .before .before .if1 in
+    let fill = s5 .fill in
+    let if1 = s7 .if1 in
     read-behind _ _ _ _ (if1 .left) (rw (i .given .1) at (fill .ensures)) (if2 .taken)
 
 slice-aggregate-copy-words : tie.Need-slice-aggregate-copy-words
@@ -38,9 +36,11 @@ copy-words-requires c κs = search needs
 
 returns-3 : tie.Need-returns-3
 returns-3 c =
+    let s4 = c .before .before .before .before in
+    let s6 = s4 .before .before in
     let k = c .before .k in
-    let fill = c .before .before .before .before .fill in
-    let if1 = c .before .before .before .before .before .before .if1 in
+    let fill = s4 .fill in
+    let if1 = s6 .if1 in
     read-bad _ _ _ _ (if1 .left) (rw (k .given .1) at (fill .ensures))
 
 same-length : tie.Need-same-length
@@ -48,11 +48,15 @@ same-length c = search needs
 
 returns-4 : tie.Need-returns-4
 returns-4 c =
+    let s5 = c .before .before .before .before .before in
+    let s7 = s5 .before .before in
+    let s10 = s7 .before .before .before in
+    let s12 = s10 .before .before in
     let copy-words = c .before .before .copy-words in
-    let if2 = c .before .before .before .before .before .if2 in
-    let i = c .before .before .before .before .before .before .before .i in
-    let fill = c .before .before .before .before .before .before .before .before .before .before .fill in
-    let if1 = c .before .before .before .before .before .before .before .before .before .before .before .before .if1 in
+    let if2 = s5 .if2 in
+    let i = s7 .i in
+    let fill = s10 .fill in
+    let if1 = s12 .if1 in
     rw (copy-words .ensures) (read-whole _ _ _ _ (if1 .left) (rw (i .given .1) at (fill .ensures)) (if2 .left))
 
 pub read-spec : {M : Type 1} → statement M

@@ -3,9 +3,6 @@ use Rattle.request_text.specs.NamesAtLaws.{ref-end, ref-first, ref-other
 use borrow.Author.Needs.{needs}
 use Rattle.request_text.proofs.reading.read_names.Statement.{statement}
 use Rattle.request_text.proofs.reading.read_names.Tie as tie
-use Rattle.request_text.proofs.reading.read_names.Reads as reads
-use Rattle.request_text.proofs.reading.read_names.Lts as lts
-use Rattle.request_text.proofs.reading.first_names.Reads as first-names-reads
 
 returns : tie.Need-returns
 returns c = ref-end _ _ _ (c .before .before .before .pre .0) (c .if1 .taken)
@@ -27,10 +24,13 @@ same-length c = search needs
 
 returns-4 : tie.Need-returns-4
 returns-4 c =
+    let s4 = c .before .before .before .before in
+    let s5 = s4 .before in
+    let s7 = s5 .before .before in
     let first-names = c .before .before .first-names in
-    let if3 = c .before .before .before .before .if3 in
-    let if2 = c .before .before .before .before .before .if2 in
-    let if1 = c .before .before .before .before .before .before .before .if1 in
+    let if3 = s4 .if3 in
+    let if2 = s5 .if2 in
+    let if1 = s7 .if1 in
     ref-first _ _ (if1 .left) (if2 .left) (if3 .left) (first-names .ensures)
 
 pub read-names-spec : {M : Type 1} → statement M

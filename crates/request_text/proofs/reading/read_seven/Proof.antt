@@ -2,10 +2,6 @@ use Rattle.request_text.specs.SevenLaws.{seven-copied, seven-stays}
 use borrow.Author.Needs.{needs}
 use Rattle.request_text.proofs.reading.read_seven.Statement.{statement}
 use Rattle.request_text.proofs.reading.read_seven.Tie as tie
-use Rattle.request_text.proofs.reading.read_seven.Reads as reads
-use Rattle.request_text.proofs.reading.read_seven.Lts as lts
-use Rattle.request_text.proofs.reading.copy_words.Reads as copy-words-reads
-use Rattle.request_text.proofs.reading.fill.Reads as fill-reads
 
 slice-aggregate-fill : tie.Need-slice-aggregate-fill
 slice-aggregate-fill c = search needs
@@ -33,9 +29,11 @@ same-length c = search needs
 
 returns-2 : tie.Need-returns-2
 returns-2 c =
+    let s6 = c .before .before .before .before .before .before in
+    let s9 = s6 .before .before .before in
     let copy-words = c .before .before .copy-words in
-    let i = c .before .before .before .before .before .before .i in
-    let fill = c .before .before .before .before .before .before .before .before .before .fill in
+    let i = s6 .i in
+    let fill = s9 .fill in
     seven-copied (rw (i .given .1) at (fill .ensures)) (copy-words .ensures)
 
 pub read-seven-spec : {M : Type 1} → statement M

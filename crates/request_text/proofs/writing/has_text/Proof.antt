@@ -1,17 +1,14 @@
-use Rattle.model.specs.Request.Words.{referenceAt, requestOf}
-use Rattle.model.specs.Text.Writing.{hasText}
 use borrow.Author.Needs.{needs}
+use Rattle.model.specs.Request.Words.{requestOf}
+use Rattle.model.specs.Text.Writing.{hasText}
 use Rattle.request_text.proofs.writing.has_text.Statement.{statement}
 use Rattle.request_text.proofs.writing.has_text.Tie as tie
-use Rattle.request_text.proofs.writing.has_text.Reads as reads
-use Rattle.request_text.proofs.writing.has_text.Lts as lts
-use Rattle.request_text.proofs.writing.names_fit.Reads as names-fit-reads
 
-shared-slice-read-result : tie.Need-shared-slice-read-result
-shared-slice-read-result c = search needs
+first-length-requires : tie.Need-first-length-requires
+first-length-requires c κs = search needs
 
-shared-slice-read-result-2 : tie.Need-shared-slice-read-result-2
-shared-slice-read-result-2 c = search needs
+second-length-requires : tie.Need-second-length-requires
+second-length-requires c κs = search needs
 
 names-fit-requires : tie.Need-names-fit-requires
 names-fit-requires c κs = search needs
@@ -19,20 +16,28 @@ names-fit-requires c κs = search needs
 names-fit-requires-2 : tie.Need-names-fit-requires-2
 names-fit-requires-2 c κs = search needs
 
-shared-slice-read-result-3 : tie.Need-shared-slice-read-result-3
-shared-slice-read-result-3 c = search needs
+spare-requires : tie.Need-spare-requires
+spare-requires c κs = search needs
 
 returns : tie.Need-returns
-unfolding hasText requestOf referenceAt
-returns c = rw (c .before .before .names-fit .ensures, c .before .names-fit2 .ensures)
+unfolding hasText requestOf
+returns c =
+    let s4 = c .before .before .before .before in
+    rw (
+      s4 .first-length .ensures,
+      c .before .before .before .second-length .ensures,
+      c .before .before .names-fit .ensures,
+      c .before .names-fit2 .ensures,
+      c .spare .ensures,
+    )
 
 pub has-text-spec : {M : Type 1} → statement M
 has-text-spec =
     tie.close
     (tie.spec
-    shared-slice-read-result
-    shared-slice-read-result-2
+    first-length-requires
+    second-length-requires
     names-fit-requires
     names-fit-requires-2
-    shared-slice-read-result-3
+    spare-requires
     returns)

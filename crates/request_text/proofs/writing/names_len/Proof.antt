@@ -8,9 +8,6 @@ use Rattle.request_text.specs.NameLaws.{dotted-turn, taken-all, taken-mo
 use Rattle.request_text.specs.NeedLaws.{digits-bound}
 use Rattle.request_text.proofs.writing.names_len.Statement.{statement}
 use Rattle.request_text.proofs.writing.names_len.Tie as tie
-use Rattle.request_text.proofs.writing.names_len.Reads as reads
-use Rattle.request_text.proofs.writing.names_len.Lts as lts
-use Rattle.lines.proofs.writing.number_len.Reads as number-len-reads
 
 abbrev Inv-loop : tie.InvT-loop
 Inv-loop names n₀ i₀ n i = (i ≤ length names) × (n ≡ length (dotted (take i names)))
@@ -47,8 +44,9 @@ loop-less c = search needs
 
 loop-again : tie.Need-loop-again Inv-loop μ-loop
 loop-again c =
+    let s5 = c .before .before .before .before .before in
     let l = c .before .before .before .loop in
-    (omega arith, rw (c .number-len .ensures, l .inv .1) (sym (dotted-turn (c .before .before .before .before .before .args .names .now) (l .i) (c .before .before .loop-test .taken))))
+    (omega arith, rw (c .number-len .ensures, l .inv .1) (sym (dotted-turn (s5 .args .names .now) (l .i) (c .before .before .loop-test .taken))))
 
 -- all names were gone through
 counted : (c : tie.After-loop Inv-loop μ-loop) → c .before .loop .n - 1 ≡ length (joined (c .before .before .before .args .names .now))

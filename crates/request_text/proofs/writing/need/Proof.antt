@@ -1,79 +1,67 @@
-use mathlib.Core.Path.{_≡_, ap}
-use Prim.Native.Nat.{_+_, _-_, _≤_}
+use Prim.Native.Nat.{_*_, _+_, _<_, _≤_}
 use native.Mathlib.Omega.{arith}
-use lib.ListN.{drop, getD, length}
+use Rattle.model.specs.Request.Words.{requestOf}
+use Rattle.model.specs.Text.GivenLaws.{names-few}
+use Rattle.model.specs.Text.Numbers.{digitCount}
+use Rattle.model.specs.Text.Wording.{wordingOf}
+use Rattle.request_text.specs.NameLaws.{dottedMost}
 use Rattle.request_text.specs.NeedLaws.{digits-bound, names-bound, need-values}
-use Rattle.request_text.specs.TextLaws.{text-worded, worded}
 use borrow.Author.Needs.{needs}
 use Rattle.request_text.proofs.writing.need.Statement.{statement}
 use Rattle.request_text.proofs.writing.need.Tie as tie
-use Rattle.request_text.proofs.writing.need.Reads as reads
-use Rattle.request_text.proofs.writing.need.Lts as lts
-use Rattle.lines.proofs.writing.number_len.Reads as number-len-reads
-use Rattle.request_text.proofs.writing.names_len.Reads as names-len-reads
-
-shared-slice-read-e : tie.Need-shared-slice-read-e
-shared-slice-read-e c = search needs
-
-cast-e : tie.Need-cast-e
-cast-e c = search needs
-
-add-e : tie.Need-add-e
-add-e c = search needs
-
-shared-slice-read-f : tie.Need-shared-slice-read-f
-shared-slice-read-f c = search needs
-
-cast-f : tie.Need-cast-f
-cast-f c = search needs
-
-add-f : tie.Need-add-f
-add-f c = search needs
-
-sub-names-len : tie.Need-sub-names-len
-sub-names-len c = search needs
-
-part-names-len-start : tie.Need-part-names-len-start
-part-names-len-start c = search needs
-
-part-names-len-end : tie.Need-part-names-len-end
-part-names-len-end c = search needs
-
-names-len-requires : tie.Need-names-len-requires
-names-len-requires c κs = search needs
-
-sub-names-len-2 : tie.Need-sub-names-len-2
-sub-names-len-2 c = search needs
-
-part-names-len-start-2 : tie.Need-part-names-len-start-2
-part-names-len-start-2 c = search needs
-
-part-names-len-end-2 : tie.Need-part-names-len-end-2
-part-names-len-end-2 c = search needs
-
-names-len-requires-2 : tie.Need-names-len-requires-2
-names-len-requires-2 c κs = search needs
 
 -- how long the names can be at most
-names-most : (c : tie.After-names-len2) → c .before .before .names-len .result + c .names-len2 .result ≤ 86
+names-most : (c : tie.After-names-len2) → c .before .before .names-len .result + c .names-len2 .result < 2 * dottedMost
 names-most c =
-    let s = c .before .before .before .before .before .before .before in
-    let w = s .args .words .now in
-    let f : c .before .before .names-len .result ≤ 43 = names-bound (3 + getD w 2 0 - 3) (drop 3 w) (c .before .before .names-len .ensures) (omega (arith, s .pre .first)) in
-    let g : c .names-len2 .result ≤ 43 = names-bound (8 + getD w 7 0 - 8) (drop 8 w) (c .names-len2 .ensures) (omega (arith, s .pre .second)) in
-    omega arith
+    let s = c .before .before .before .before .before in
+    omega (
+      arith,
+      names-bound _ (c .before .before .names-len .ensures) (c .before .before .before .first-names .ensures) (s .pre .first),
+      names-bound _ (c .names-len2 .ensures) (c .before .second-names .ensures) (s .pre .second),
+    )
+
+-- how long the numbers can be at most
+first-most : (c : tie.After-number-len5) → c .before .before .before .before .before .before .before .before .number-len .result
+    + c .before .before .before .before .before .before .number-len2 .result ≤ 2 * digitCount
+first-most c =
+    let s6 = c .before .before .before .before .before .before in
+    let s8 = s6 .before .before in
+    omega (arith, digits-bound _ (s8 .number-len .ensures), digits-bound _ (s6 .number-len2 .ensures))
+
+last-most : (c : tie.After-number-len5) → c .before .before .before .before .number-len3 .result
+    + (c .before .before .number-len4 .result + c .number-len5 .result) ≤ 3 * digitCount
+last-most c =
+    let s4 = c .before .before .before .before in
+    omega (
+      arith,
+      digits-bound _ (s4 .number-len3 .ensures),
+      digits-bound _ (c .before .before .number-len4 .ensures),
+      digits-bound _ (c .number-len5 .ensures),
+    )
+
+first-names-requires : tie.Need-first-names-requires
+first-names-requires c κs = search needs
+
+names-len-requires : tie.Need-names-len-requires
+names-len-requires c κs = rw (c .first-names .ensures) (names-few _ (c .before .before .pre .first))
+
+second-names-requires : tie.Need-second-names-requires
+second-names-requires c κs = search needs
+
+names-len-requires-2 : tie.Need-names-len-requires-2
+names-len-requires-2 c κs = rw (c .second-names .ensures) (names-few _ (c .before .before .before .before .pre .second))
 
 add-names : tie.Need-add-names
 add-names c = omega (arith, names-most c)
 
-shared-slice-read-number-len : tie.Need-shared-slice-read-number-len
-shared-slice-read-number-len c = search needs
+requester-requires : tie.Need-requester-requires
+requester-requires c κs = search needs
 
 number-len-requires : tie.Need-number-len-requires
 number-len-requires c κs = search needs
 
-shared-slice-read-number-len-2 : tie.Need-shared-slice-read-number-len-2
-shared-slice-read-number-len-2 c = search needs
+operation-requires : tie.Need-operation-requires
+operation-requires c κs = search needs
 
 number-len-requires-2 : tie.Need-number-len-requires-2
 number-len-requires-2 c κs = search needs
@@ -81,33 +69,26 @@ number-len-requires-2 c κs = search needs
 add-first : tie.Need-add-first
 add-first c = omega (arith, digits-bound _ (c .before .before .number-len .ensures), digits-bound _ (c .number-len2 .ensures))
 
-shared-slice-read-number-len-3 : tie.Need-shared-slice-read-number-len-3
-shared-slice-read-number-len-3 c = search needs
+a-requires : tie.Need-a-requires
+a-requires c κs = search needs
 
 number-len-requires-3 : tie.Need-number-len-requires-3
 number-len-requires-3 c κs = search needs
 
-shared-slice-read-number-len-4 : tie.Need-shared-slice-read-number-len-4
-shared-slice-read-number-len-4 c = search needs
+b-requires : tie.Need-b-requires
+b-requires c κs = search needs
 
 number-len-requires-4 : tie.Need-number-len-requires-4
 number-len-requires-4 c κs = search needs
 
-shared-slice-read-number-len-5 : tie.Need-shared-slice-read-number-len-5
-shared-slice-read-number-len-5 c = search needs
+c-requires : tie.Need-c-requires
+c-requires c κs = search needs
 
 number-len-requires-5 : tie.Need-number-len-requires-5
 number-len-requires-5 c κs = search needs
 
 add-last : tie.Need-add-last
 add-last c = omega (arith, digits-bound _ (c .before .before .number-len4 .ensures), digits-bound _ (c .number-len5 .ensures))
-
--- and the numbers
-first-most : (c : tie.After-number-len5) → c .before .before .before .before .before .before .before .before .number-len .result + c .before .before .before .before .before .before .number-len2 .result ≤ 20
-first-most c = omega (arith, digits-bound _ (c .before .before .before .before .before .before .before .before .number-len .ensures), digits-bound _ (c .before .before .before .before .before .before .number-len2 .ensures))
-
-last-most : (c : tie.After-number-len5) → c .before .before .before .before .number-len3 .result + (c .before .before .number-len4 .result + c .number-len5 .result) ≤ 30
-last-most c = omega (arith, digits-bound _ (c .before .before .before .before .number-len3 .ensures), digits-bound _ (c .before .before .number-len4 .ensures), digits-bound _ (c .number-len5 .ensures))
 
 add-last-2 : tie.Need-add-last-2
 add-last-2 c = omega (arith, last-most c)
@@ -116,59 +97,54 @@ add-result : tie.Need-add-result
 add-result c = omega (arith, last-most c, first-most c)
 
 add-result-2 : tie.Need-add-result-2
-add-result-2 c = omega (arith, last-most c, first-most c, names-most (c .before .before .before .before .before .before .before .before .before .before))
+add-result-2 c =
+    let s10 = c .before .before .before .before .before .before .before .before .before .before in
+    omega (arith, last-most c, first-most c, names-most s10)
 
 add-result-3 : tie.Need-add-result-3
-add-result-3 c = omega (arith, last-most c, first-most c, names-most (c .before .before .before .before .before .before .before .before .before .before))
+add-result-3 c =
+    let s10 = c .before .before .before .before .before .before .before .before .before .before in
+    omega (arith, last-most c, first-most c, names-most s10)
 
 returns : tie.Need-returns
 returns c =
-    let s = c .before .before .before .before .before .before .before .before .before .before .before .before .before .before .before .before .before in
-    let w = s .args .words .now in
-    let e : 3 + getD w 2 0 - 3 ≡ getD w 2 0 = omega arith in
-    let f : 8 + getD w 7 0 - 8 ≡ getD w 7 0 = omega arith in
+    let s4 = c .before .before .before .before in
+    let s6 = s4 .before .before in
+    let s8 = s6 .before .before in
+    let s10 = s8 .before .before in
+    let s12 = s10 .before .before in
+    let s15 = s12 .before .before .before in
     omega (
       arith,
-      rw e at (c .before .before .before .before .before .before .before .before .before .before .before .before .names-len .ensures),
-      rw f at (c .before .before .before .before .before .before .before .before .before .before .names-len2 .ensures),
-      c .before .before .before .before .before .before .before .before .number-len .ensures,
-      c .before .before .before .before .before .before .number-len2 .ensures,
-      c .before .before .before .before .number-len3 .ensures,
-      c .before .before .number-len4 .ensures,
-      c .number-len5 .ensures,
-      need-values (worded w),
-      ap length (text-worded w (s .pre)),
+      rw (s12 .before .first-names .ensures) at (s12 .names-len .ensures),
+      rw (s10 .before .second-names .ensures) at (s10 .names-len2 .ensures),
+      rw (s8 .before .requester .ensures) at (s8 .number-len .ensures),
+      rw (s6 .before .operation .ensures) at (s6 .number-len2 .ensures),
+      rw (s4 .before .a .ensures) at (s4 .number-len3 .ensures),
+      rw (c .before .before .before .b .ensures) at (c .before .before .number-len4 .ensures),
+      rw (c .before .c .ensures) at (c .number-len5 .ensures),
+      need-values (wordingOf (requestOf (s15 .args .words .now))),
     )
 
 pub need-spec : {M : Type 1} → statement M
 need-spec =
     tie.close
     (tie.spec
-    shared-slice-read-e
-    cast-e
-    add-e
-    shared-slice-read-f
-    cast-f
-    add-f
-    sub-names-len
-    part-names-len-start
-    part-names-len-end
+    first-names-requires
     names-len-requires
-    sub-names-len-2
-    part-names-len-start-2
-    part-names-len-end-2
+    second-names-requires
     names-len-requires-2
     add-names
-    shared-slice-read-number-len
+    requester-requires
     number-len-requires
-    shared-slice-read-number-len-2
+    operation-requires
     number-len-requires-2
     add-first
-    shared-slice-read-number-len-3
+    a-requires
     number-len-requires-3
-    shared-slice-read-number-len-4
+    b-requires
     number-len-requires-4
-    shared-slice-read-number-len-5
+    c-requires
     number-len-requires-5
     add-last
     add-last-2

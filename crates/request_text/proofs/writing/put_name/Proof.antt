@@ -2,9 +2,6 @@ use Rattle.lines.specs.OntoLaws.{puts}
 use borrow.Author.Needs.{needs}
 use Rattle.request_text.proofs.writing.put_name.Statement.{statement}
 use Rattle.request_text.proofs.writing.put_name.Tie as tie
-use Rattle.request_text.proofs.writing.put_name.Reads as reads
-use Rattle.request_text.proofs.writing.put_name.Lts as lts
-use Rattle.request_text.proofs.writing.write_name.Reads as write-name-reads
 
 sub-write-name : tie.Need-sub-write-name
 sub-write-name c = search needs

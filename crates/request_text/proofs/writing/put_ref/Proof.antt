@@ -2,9 +2,6 @@ use Rattle.lines.specs.OntoLaws.{puts}
 use borrow.Author.Needs.{needs}
 use Rattle.request_text.proofs.writing.put_ref.Statement.{statement}
 use Rattle.request_text.proofs.writing.put_ref.Tie as tie
-use Rattle.request_text.proofs.writing.put_ref.Reads as reads
-use Rattle.request_text.proofs.writing.put_ref.Lts as lts
-use Rattle.request_text.proofs.writing.write_ref.Reads as write-ref-reads
 
 sub-write-ref : tie.Need-sub-write-ref
 sub-write-ref c = search needs

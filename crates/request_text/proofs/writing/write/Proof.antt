@@ -14,11 +14,6 @@ use Rattle.request_text.specs.NeedLaws.{need-most}
 use Rattle.request_text.specs.Sixteen.{Sixteen}
 use Rattle.request_text.proofs.writing.write.Statement.{statement}
 use Rattle.request_text.proofs.writing.write.Tie as tie
-use Rattle.request_text.proofs.writing.write.Reads as reads
-use Rattle.request_text.proofs.writing.write.Lts as lts
-use Rattle.request_text.proofs.writing.has_text.Reads as has-text-reads
-use Rattle.request_text.proofs.writing.need.Reads as need-reads
-use Rattle.request_text.proofs.writing.write_text.Reads as write-text-reads
 
 returns : tie.Need-returns
 returns c = end-size _ _ (c .if1 .taken)
@@ -27,7 +22,8 @@ has-text-requires : tie.Need-has-text-requires
 has-text-requires c κs = search needs
 
 returns-2 : tie.Need-returns-2
-returns-2 c = end-textless _ _ (c .before .before .if1 .left) (sym (c .before .has-text .ensures) ∙ not-true (c .before .has-text .result) (c .if2 .taken))
+returns-2 c =
+    end-textless _ _ (c .before .before .if1 .left) (sym (c .before .has-text .ensures) ∙ not-true (c .before .has-text .result) (c .if2 .taken))
 
 -- where the words were looked at: some text has them
 texted : (c : tie.Else2) → hasText (requestOf (c .before .before .before .before .before .args .request .now)) ≡ true
@@ -43,10 +39,13 @@ cast-t10 : tie.Need-cast-t10
 cast-t10 c = omega (arith, c .before .need .ensures, need-most _ (sixteen (c .before .before .before)))
 
 returns-3 : tie.Need-returns-3
-returns-3 c = end-short _ _ (c .before .before .before .before .before .if1 .left) (texted (c .before .before .before)) (c .before .need .ensures) (c .if4 .taken)
+returns-3 c =
+    let s5 = c .before .before .before .before .before in
+    end-short _ _ (s5 .if1 .left) (texted (c .before .before .before)) (c .before .need .ensures) (c .if4 .taken)
 
 -- where the room was looked at: it is enough
-enough : (c : tie.Joined3) → length (textOfWords (c .before .before .before .before .before .before .args .request .now)) ≤ length (c .before .before .before .before .before .before .args .room .now)
+enough : (c : tie.Joined3) → length (textOfWords (c .before .before .before .before .before .before .args .request .now)) ≤ length
+    (c .before .before .before .before .before .before .args .room .now)
 enough c = cases (c .if3 .came) (λ w. omega (arith, w .1 .ensures, w .2 .left)) (λ w. omega (arith, w .left, need-most _ (sixteen (c .before))))
 
 write-text-requires : tie.Need-write-text-requires
@@ -59,7 +58,11 @@ same-length : tie.Need-same-length
 same-length c = search needs
 
 returns-4 : tie.Need-returns-4
-returns-4 c = end-written _ _ (c .before .before .before .before .before .before .before .if1 .left) (texted (c .before .before .before .before .before)) (enough (c .before .before .before .before)) (c .before .before .write-text .ensures)
+returns-4 c =
+    let s4 = c .before .before .before .before in
+    let s5 = s4 .before in
+    let s7 = s5 .before .before in
+    end-written _ _ (s7 .if1 .left) (texted s5) (enough s4) (c .before .before .write-text .ensures)
 
 pub write-spec : {M : Type 1} → statement M
 write-spec =

@@ -5,9 +5,6 @@ use Rattle.model.specs.Text.References.{dotByte}
 use borrow.Author.Needs.{needs}
 use Rattle.request_text.proofs.writing.write_name.Statement.{statement}
 use Rattle.request_text.proofs.writing.write_name.Tie as tie
-use Rattle.request_text.proofs.writing.write_name.Reads as reads
-use Rattle.request_text.proofs.writing.write_name.Lts as lts
-use Rattle.lines.proofs.writing.write_number.Reads as write-number-reads
 
 slice-write-out : tie.Need-slice-write-out
 slice-write-out c = search needs
@@ -22,7 +19,14 @@ part-write-number-end : tie.Need-part-write-number-end
 part-write-number-end c = search needs
 
 write-number-requires : tie.Need-write-number-requires
-write-number-requires c κs = omega (arith, c .before .before .pre, length-set (c .before .before .args .out .now) 0 dotByte, length-part (set (c .before .before .args .out .now) 0 dotByte) 1)
+write-number-requires c κs =
+    omega (
+      arith,
+      c .before .before .pre,
+      length-set (c .before .before .args .out .now) 0 dotByte,
+      length-part
+          (set (c .before .before .args .out .now) 0 dotByte) 1,
+    )
 
 add-result : tie.Need-add-result
 add-result c = search needs
@@ -31,7 +35,8 @@ same-length : tie.Need-same-length
 same-length c =
     let s = c .before .before .before .before .before in
     let w = c .before .before .write-number in
-    wrote-length (wrote-behind (wrote-byte dotByte (wrote-none (s .args .out .now)) (omega (arith, s .pre))) (w .ensures)) (omega (arith, s .pre, w .ensures .many))
+    wrote-length (wrote-behind (wrote-byte dotByte (wrote-none (s .args .out .now)) (omega (arith, s .pre))) (w .ensures))
+    (omega (arith, s .pre, w .ensures .many))
 
 returns : tie.Need-returns
 returns c =

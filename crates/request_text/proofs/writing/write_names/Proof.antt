@@ -12,14 +12,11 @@ use Rattle.request_text.specs.NameLaws.{first-long, joined-first, joined
 use borrow.Author.Needs.{needs}
 use Rattle.request_text.proofs.writing.write_names.Statement.{statement}
 use Rattle.request_text.proofs.writing.write_names.Tie as tie
-use Rattle.request_text.proofs.writing.write_names.Reads as reads
-use Rattle.request_text.proofs.writing.write_names.Lts as lts
-use Rattle.lines.proofs.writing.write_number.Reads as write-number-reads
-use Rattle.request_text.proofs.writing.put_name.Reads as put-name-reads
 
 -- in whatever room the first name was written, the first i names now stand
 abbrev Inv-loop : tie.InvT-loop
-Inv-loop out₀ names at₀ i₀ out at i = (length out ≡ length out₀) × (0 < i) × ((d : List ℕ) → Wrote (digits (getD names 0 0)) d out₀ at₀ → Wrote (joined (take i names)) d out at)
+Inv-loop out₀ names at₀ i₀ out at i = (length out ≡ length out₀) × (0 < i) × ((d : List ℕ) → Wrote (digits (getD names 0 0)) d out₀ at₀ → Wrote
+    (joined (take i names)) d out at)
 
 abbrev μ-loop : tie.MeasureT-loop
 μ-loop out₀ names at₀ i₀ out at i = length names - i
@@ -31,10 +28,15 @@ shared-slice-read-write-number : tie.Need-shared-slice-read-write-number Inv-loo
 shared-slice-read-write-number c = search needs
 
 write-number-requires : tie.Need-write-number-requires Inv-loop μ-loop
-write-number-requires c κs = omega (arith, c .before .before .before .before .before .pre, first-long (c .before .before .before .before .before .args .names .now) (omega (arith, c .before .before .if1 .left)))
+write-number-requires c κs =
+    let s5 = c .before .before .before .before .before in
+    omega (arith, s5 .pre, first-long (s5 .args .names .now) (omega (arith, c .before .before .if1 .left)))
 
 loop-holds : tie.Need-loop-holds Inv-loop μ-loop
-loop-holds c = (refl, omega arith, λ d w. rw (joined-first (c .before .before .before .before .before .before .before .before .args .names .now) (omega (arith, c .before .before .before .before .before .if1 .left))) w)
+loop-holds c =
+    let s5 = c .before .before .before .before .before in
+    let s8 = s5 .before .before .before in
+    (refl, omega arith, λ d w. rw (joined-first (s8 .args .names .now) (omega (arith, s5 .if1 .left))) w)
 
 mul-put-name : tie.Need-mul-put-name Inv-loop μ-loop
 mul-put-name c = search needs
@@ -43,7 +45,17 @@ shared-slice-read-put-name : tie.Need-shared-slice-read-put-name Inv-loop μ-loo
 shared-slice-read-put-name c = search needs
 
 put-name-requires : tie.Need-put-name-requires Inv-loop μ-loop
-put-name-requires c κs = puts-room (dotByte ∷ digits (getD (c .before .before .before .before .before .before .before .before .before .before .before .before .args .names .now) (c .before .before .before .loop .i) 0)) (c .before .before .before .loop .inv .2 (c .before .before .before .before .before .before .before .before .before .before .before .before .args .out .now) (c .before .before .before .before .before .before .write-number .ensures)) (omega (arith, c .before .before .before .before .before .before .before .before .before .before .before .before .pre, joined-room (c .before .before .before .before .before .before .before .before .before .before .before .before .args .names .now) (c .before .before .before .loop .i) (c .before .before .before .loop .inv .1) (c .before .before .loop-test .taken)))
+put-name-requires c κs =
+    let s6 = c .before .before .before .before .before .before in
+    let s12 = s6 .before .before .before .before .before .before in
+    puts-room (dotByte ∷ digits (getD (s12 .args .names .now) (c .before .before .before .loop .i) 0))
+    (c .before .before .before .loop .inv .2 (s12 .args .out .now) (s6 .write-number .ensures))
+    (omega (
+      arith,
+      s12 .pre,
+      joined-room (s12 .args .names .now) (c .before .before .before .loop .i) (c .before .before .before .loop .inv .1)
+          (c .before .before .loop-test .taken),
+    ))
 
 add-i : tie.Need-add-i Inv-loop μ-loop
 add-i c = search needs
@@ -52,13 +64,26 @@ loop-less : tie.Need-loop-less Inv-loop μ-loop
 loop-less c = search needs
 
 loop-again : tie.Need-loop-again Inv-loop μ-loop
-loop-again c = (c .before .before .put-name .kept .0 ∙ c .before .before .before .before .before .before .loop .inv .0, omega arith, λ d w. rw (joined-next (c .before .before .before .before .before .before .before .before .before .before .before .before .before .before .before .args .names .now) (c .before .before .before .before .before .before .loop .i) (c .before .before .before .before .before .before .loop .inv .1) (c .before .before .before .before .before .loop-test .taken)) (wrote-puts (c .before .before .before .before .before .before .loop .inv .2 d w) (c .before .before .put-name .ensures)))
+loop-again c =
+    let s5 = c .before .before .before .before .before in
+    let s6 = s5 .before in
+    let s15 = s6 .before .before .before .before .before .before .before .before .before in (
+      c .before .before .put-name .kept .0 ∙ s6 .loop .inv .0,
+      omega arith,
+      λ d w. rw
+          (joined-next (s15 .args .names .now) (s6 .loop .i) (s6 .loop .inv .1) (s5 .loop-test .taken))
+          (wrote-puts (s6 .loop .inv .2 d w) (c .before .before .put-name .ensures)),
+    )
 
 same-length : tie.Need-same-length Inv-loop μ-loop
 same-length c = c .before .loop .inv .0 ∙ c .before .before .before .before .write-number .kept .0
 
 returns-2 : tie.Need-returns-2 Inv-loop μ-loop
-returns-2 c = rw (take-all (c .before .loop .i) (c .before .before .before .before .before .before .before .before .before .before .args .names .now) (c .loop-test .left)) at (c .before .loop .inv .2 (c .before .before .before .before .before .before .before .before .before .before .args .out .now) (c .before .before .before .before .write-number .ensures))
+returns-2 c =
+    let s4 = c .before .before .before .before in
+    let s10 = s4 .before .before .before .before .before .before in
+    rw (take-all (c .before .loop .i) (s10 .args .names .now) (c .loop-test .left)) at
+    (c .before .loop .inv .2 (s10 .args .out .now) (s4 .write-number .ensures))
 
 pub write-names-spec : {M : Type 1} → statement M
 write-names-spec =

@@ -7,13 +7,11 @@ use Rattle.model.specs.Text.References.{joined}
 use borrow.Author.Needs.{needs}
 use Rattle.request_text.proofs.writing.write_ref.Statement.{statement}
 use Rattle.request_text.proofs.writing.write_ref.Tie as tie
-use Rattle.request_text.proofs.writing.write_ref.Reads as reads
-use Rattle.request_text.proofs.writing.write_ref.Lts as lts
-use Rattle.lines.proofs.writing.write_bytes.Reads as write-bytes-reads
-use Rattle.request_text.proofs.writing.write_names.Reads as write-names-reads
 
 write-bytes-requires : tie.Need-write-bytes-requires
-write-bytes-requires c κs = omega (arith, c .before .before .before .before .pre, length-line (c .before .before .before .before .args .key .now) (joined (c .before .before .before .before .args .names .now)))
+write-bytes-requires c κs =
+    let s4 = c .before .before .before .before in
+    omega (arith, s4 .pre, length-line (s4 .args .key .now) (joined (s4 .args .names .now)))
 
 sub-write-names : tie.Need-sub-write-names
 sub-write-names c =
@@ -33,16 +31,20 @@ write-names-requires c κs =
     let w = c .before .before .before .write-bytes in
     omega (arith, s .pre, w .ensures .many, w .kept .0, length-line (s .args .key .now) (joined (s .args .names .now)), length-part (w .last .0) (w .result))
 
--- where the names have been written: the key, and the names behind it
+-- where the names have been written: the key, and the names after it
 abbrev start : tie.After-slice-known3 → tie.Start
-start c = c .before .before .before .before .before .before .before .before .before .before .before
+start c =
+    let s11 = c .before .before .before .before .before .before .before .before .before .before .before in
+    s11
 
 written : (c : tie.After-slice-known3)
     → let s = start c in
     let k = c .before .before .before .before .before .before .write-bytes in
     let n = c .before .before .write-names in
     LineWrote (s .args .key .now) (joined (s .args .names .now)) (s .args .out .now) (k .last .0) (n .last .0) (k .result) (n .result)
-written c = line-wrote (start c .pre) (c .before .before .before .before .before .before .write-bytes .ensures) (c .before .before .write-names .ensures)
+written c =
+    let s6 = c .before .before .before .before .before .before in
+    line-wrote (start c .pre) (s6 .write-bytes .ensures) (c .before .before .write-names .ensures)
 
 add-end : tie.Need-add-end
 add-end c = omega (arith, written c .room)
