@@ -5,7 +5,8 @@ ghost use Rattle.ladder.specs.Trial.{Tried};
 ghost use Rattle.model.specs.Effect.Words.{setLevel};
 ghost use Rattle.model.specs.State.Secure.{Good};
 ghost use Rattle.model.specs.Tables.Layout.{tablesOf};
-ghost use Rattle.model.specs.Tables.Words.{Screen, kinds};
+ghost use Rattle.model.specs.Tables.Kinds.{Screen};
+ghost use Rattle.model.specs.Tables.Words.{kinds};
 ghost use Rattle.tables.specs.Singles.{EntityIn};
 
 // Whether the tables with level a at device e are secure; if so that level is set, else nothing has changed. The tables were good, and a

@@ -26,10 +26,10 @@ module _ (t q : List ℕ) (u e : ℕ) (k : Taking toEdit t q u) (g : First t q e
   pub edit-10 : b ≡ false → Judged t q refusal.wrongKind t
   edit-10 z = kind-wrong k e g isEntity refl b h z
 
-  pub edit-done : b ≡ true → (n : List ℕ) → tablesOf n ≡ edit e (requestOf q .a) (tablesOf t) → Judged t q refusal.accepted n
+  pub edit-done : b ≡ true → (a : ℕ) → a ≡ requestOf q .a → (n : List ℕ) → tablesOf n ≡ edit e a (tablesOf t) → Judged t q refusal.accepted n
   unfolding every free asked
-  edit-done z n w = accepted k n (skip k 6 refusal.wrongKind (lit≤ tt) (lit≤ tt) (kind-right k e g isEntity refl b h z) tt)
-      (w ∙ ap (λ (x : ℕ). edit x (requestOf q .a) (tablesOf t)) (sym (g .is)))
+  edit-done z a i n w = accepted k n (skip k 6 refusal.wrongKind (lit≤ tt) (lit≤ tt) (kind-right k e g isEntity refl b h z) tt)
+      (w ∙ rw i (ap (λ (x : ℕ). edit x (requestOf q .a) (tablesOf t)) (sym (g .is))))
 
 -- ---- operation 7, mark
 
@@ -37,10 +37,10 @@ module _ (t q : List ℕ) (u e : ℕ) (k : Taking toMark t q u) (g : First t q e
   pub mark-10 : b ≡ false → Judged t q refusal.wrongKind t
   mark-10 z = kind-wrong k e g isContainer refl b h z
 
-  pub mark-done : b ≡ true → (n : List ℕ) → tablesOf n ≡ setMark e (requestOf q .a) (tablesOf t) → Judged t q refusal.accepted n
+  pub mark-done : b ≡ true → (a : ℕ) → a ≡ requestOf q .a → (n : List ℕ) → tablesOf n ≡ setMark e a (tablesOf t) → Judged t q refusal.accepted n
   unfolding every free asked
-  mark-done z n w = accepted k n (skip k 6 refusal.wrongKind (lit≤ tt) (lit≤ tt) (kind-right k e g isContainer refl b h z) tt)
-      (w ∙ ap (λ (x : ℕ). setMark x (requestOf q .a) (tablesOf t)) (sym (g .is)))
+  mark-done z a i n w = accepted k n (skip k 6 refusal.wrongKind (lit≤ tt) (lit≤ tt) (kind-right k e g isContainer refl b h z) tt)
+      (w ∙ rw i (ap (λ (x : ℕ). setMark x (requestOf q .a) (tablesOf t)) (sym (g .is))))
 
 -- ---- operation 5, copy
 

@@ -2,7 +2,7 @@
 use mathlib.Core.Bool.{Bool, _&&_, _||_, false, not, true}
 use mathlib.Core.List.{List}
 use mathlib.Core.Path.{_∙_, _≡_, ap, refl, sym}
-use Prim.Native.Nat.{ℕ}
+use Prim.Native.Nat.{_≤_, ℕ}
 use lib.Dec.{eqb, lit<, lit≤}
 use Rattle.ladder.specs.Contract.{Judged, Passed, Taking}
 use Rattle.ladder.specs.JudgeLaws.{accepted, askedOf, free, kinds-none, pass, skip, stop, user-is}
@@ -18,9 +18,13 @@ use Rattle.model.specs.Request.Operations.{clearanceEffect, toAcknowledge, toAu
 use Rattle.model.specs.State.Check.{secureTest}
 use Rattle.model.specs.Tables.Edits.{_and_, onUser, userWord}
 use Rattle.model.specs.Tables.StoreLaws.{user-twice}
-use Rattle.model.specs.Tables.Words.{authorised, current, device, held, heldOp, missed, present}
+use Rattle.model.specs.Tables.Words.{authorised, current, device, held, heldOp, missed, present, userCount}
 use Rattle.ladder.specs.RungLaws.{authorised-officers, by-officer, clearance-officers, clearance-trial, trial-done, trial-failed}
 use Rattle.model.specs.Request.Refusals as refusal
+
+-- the user that a request speaks of has a record
+pub spoken : (q : List ℕ) (a : ℕ) → a ≡ requestOf q .a → (1 ≤ requestOf q .a) × (requestOf q .a ≤ userCount) → (1 ≤ a) × (a ≤ userCount)
+spoken q a i h = rw i h
 
 -- ---- operation 14, current roles
 

@@ -4,87 +4,89 @@ use mathlib.Core.Bool.{Bool, _&&_, _||_, false, not, true}
 use mathlib.Core.List.{List}
 use mathlib.Core.Logic.{_≢_}
 use mathlib.Core.Option.{Option, none, some}
-use mathlib.Core.Path.{_∙_, _≡_, ap, refl, subst, sym}
-use Prim.Native.Nat.{_<_, _≤_, ℕ}
+use mathlib.Core.Path.{_∙_, _≡_, ap, refl, sym}
+use Prim.Native.Nat.{_<_, _≤_, suc, ℕ}
 use native.Mathlib.Omega.{arith}
-use lib.Dec.{T, eqb, eqb→eq, lit<, lit≤}
-use lib.ListN.{getD, length}
+use lib.Dec.{T, eqb, eqb→eq, leb, lit<, lit≤}
+use borrow.Author.Tests.{leb-true}
+use lib.ListN.{length}
 use Rattle.ladder.specs.ClimbLaws.{good-passed, passed-hit, passed-more}
-use Rattle.ladder.specs.Contract.{Climbed, Passed, Ready, Refusing, Stepped}
-use Rattle.ladder.specs.OwnLaws.{noticed-as}
-use Rattle.laws.specs.Bools.{fails}
+use Rattle.ladder.specs.Contract.{Judged, Passed, PastLogon, PastRequester, Ready, Stepped}
+use Rattle.laws.specs.Bools.{and-l, and-r, fails}
 use Rattle.model.specs.Basics.Agree.{every-at}
 use Rattle.model.specs.Basics.Choice.{pick}
-use Rattle.model.specs.Basics.Fails.{fails-holds, fails-no}
 use Rattle.model.specs.Basics.TestLaws.{is-false}
 use Rattle.model.specs.Basics.Tests.{every}
 use Rattle.model.specs.Request.After.{noticedOp}
 use Rattle.model.specs.Request.AfterLaws.{after-unchanged}
-use Rattle.model.specs.Request.Allowed.{Known}
 use Rattle.model.specs.Request.Ladder.{answer, applies, fits, ladder, never, notLoggedOn, notUnderstood, ofOp, rungAt, unknownUser}
 use Rattle.model.specs.Request.LadderLaws.{judge-answer, ofOp-some}
 use Rattle.model.specs.Request.OperationLaws.{number-range, opOf-number}
-use Rattle.model.specs.Request.Operations.{Op, numberOf, opOf, openLoggedOff, operations, withNumber}
-use Rattle.model.specs.Request.RungLaws.{unknownUser-fails}
+use Rattle.model.specs.Request.Operations.{Op, numberOf, opOf, openLoggedOff, operations, toAcknowledge, toLogin, withNumber}
+use Rattle.model.specs.Request.Refusals as refusal
 use Rattle.model.specs.Request.Step.{afterOf, sized}
 use Rattle.model.specs.Request.Words.{Request, requestOf, requestWords}
 use Rattle.model.specs.State.AgreeSecure.{judge-good}
 use Rattle.model.specs.State.Check.{judge, secureTest, wellFormedTest}
 use Rattle.model.specs.Tables.Layout.{tablesOf, wordCount}
 use Rattle.model.specs.Tables.LayoutLaws.{bounded}
-use Rattle.model.specs.Tables.Words.{device}
+use Rattle.model.specs.Tables.Words.{device, operationCount, present, userCount}
 use Rattle.model.specs.Tables.WordsOfLaws.{tablesOf-injective}
 use Rattle.model.specs.Theorem.Steps.{afterOf-length, afterOf-tables, answerOf-sized, low-refusal-words, sized-agrees, unsized}
 use Rattle.step.specs.Contract.{Settled}
 use Rattle.step.specs.DispatchLaws.{understood}
+use Rattle.tables.specs.Singles.{known}
 
 -- ---- rung 4
 
-module _ (t q : List ℕ) (r : Ready t q) (n : ℕ) (e : n ≡ getD q 0 0) where
+module _ (t q : List ℕ) (r : Ready t q) (n : ℕ) (e : n ≡ requestOf q .user) where
   user-word : requestOf q .user ≡ n
-  unfolding requestOf
   user-word = sym e
 
   -- the requester is none of the users that are there
-  pub unknown : (Known (tablesOf t) n → ⊥) → Stepped t q 4 t
-  unfolding applies rungAt never ladder
+  pub unknown : known (tablesOf t) n ≡ false → Stepped t q refusal.unknownRequester t
+  unfolding applies rungAt never ladder unknownUser known
   unknown h =
-      let a = passed-hit (tablesOf t) (requestOf q) 3 (good-passed (tablesOf t) (requestOf q) (r .good))
-      (fails-holds (unknownUser (tablesOf t) (requestOf q)) (unknownUser-fails (tablesOf t) (requestOf q)) (λ k. h (subst (Known (tablesOf t)) user-word k))) in
-      record { answer = a; tables = sym (after-unchanged (tablesOf t) (requestOf q) 4 (sym a) (lit≤ tt) (lit< tt)) }
+      let a = passed-hit (tablesOf t) (requestOf q) refusal.notSecure (good-passed (tablesOf t) (requestOf q) (r .good)) (rw user-word (ap not h)) in
+      record { answer = a; tables = sym (after-unchanged (tablesOf t) (requestOf q) refusal.unknownRequester (sym a) (lit≤ tt) (lit< tt)) }
 
   -- the requester is one of them
-  pub known : Known (tablesOf t) n → Climbed 4 t q n
-  unfolding applies rungAt never ladder
-  known k = record {
-    ready = r;
-    user = user-word;
-    low = k .low;
-    high = k .high;
-    passed = passed-more (tablesOf t) (requestOf q) 3 (good-passed (tablesOf t) (requestOf q) (r .good))
-        (fails-no (unknownUser (tablesOf t) (requestOf q)) (unknownUser-fails (tablesOf t) (requestOf q)) (subst (Known (tablesOf t)) (sym user-word) k));
-  }
+  pub known-climbed : known (tablesOf t) n ≡ true → PastRequester t q n
+  unfolding applies rungAt never ladder unknownUser known
+  known-climbed h =
+      let l = leb 1 n && leb n userCount in
+      let y = not (eqb (tablesOf t .user n present) 0) in
+      let z = and-l l y h in
+      record {
+        ready = r;
+        user = user-word;
+        low = leb-true 1 n (and-l (leb 1 n) (leb n userCount) z);
+        high = leb-true n userCount (and-r (leb 1 n) (leb n userCount) z);
+        passed = passed-more (tablesOf t) (requestOf q) refusal.notSecure (good-passed (tablesOf t) (requestOf q) (r .good)) (rw user-word (ap not h));
+      }
 
 -- ---- rungs 5 and 6
 
-module _ (t q : List ℕ) (u : ℕ) (k : Climbed 4 t q u) where
+-- login and acknowledge alone want no device
+abbrev pub wantsDevice : ℕ → Bool
+wantsDevice op = not (eqb op (numberOf toLogin) || eqb op (numberOf toAcknowledge))
+
+module _ (t q : List ℕ) (u : ℕ) (k : PastRequester t q u) where
   module _ (b : Bool) (h : b ≡ ofOp (requestOf q) (λ o. fits o (requestOf q))) where
-    form-is : applies 5 (tablesOf t) (requestOf q) ≡ not b
+    form-is : applies refusal.badRequest (tablesOf t) (requestOf q) ≡ not b
     unfolding applies rungAt never ladder notUnderstood
     form-is = ap not (sym h)
 
     -- the request has not the form that its operation asks
-    pub misshapen : b ≡ false → (op : ℕ) → op ≡ noticedOp (requestOf q) → Refusing t q u op 5
-    misshapen z op e = record {
-      climbed = k;
-      operation = e;
-      noticed = lit≤ tt;
-      answer = passed-hit (tablesOf t) (requestOf q) 4 (k .passed) (form-is ∙ ap not z);
+    pub misshapen : b ≡ false → Judged t q refusal.badRequest t
+    misshapen z = record {
+      answer = passed-hit (tablesOf t) (requestOf q) refusal.unknownRequester (k .passed) (form-is ∙ ap not z);
+      tables = refl;
     }
 
     module _ (z : b ≡ true) (op v : ℕ) (e : requestOf q .operation ≡ op) (hv : v ≡ tablesOf t .user u device) where
-      fifth : Passed 5 (tablesOf t) (requestOf q)
-      fifth = passed-more (tablesOf t) (requestOf q) 4 (k .passed) (form-is ∙ ap not z)
+      fifth : Passed refusal.badRequest (tablesOf t) (requestOf q)
+      fifth = passed-more (tablesOf t) (requestOf q) refusal.unknownRequester (k .passed) (form-is ∙ ap not z)
 
       operation : (o : Op) × (opOf (requestOf q .operation) ≡ some o)
       operation = understood (tablesOf t) (requestOf q) fifth
@@ -92,37 +94,38 @@ module _ (t q : List ℕ) (u : ℕ) (k : Climbed 4 t q u) where
       number-is : numberOf (operation .0) ≡ op
       number-is = opOf-number (requestOf q .operation) (operation .0) (operation .1) ∙ e
 
-      on-is : applies 6 (tablesOf t) (requestOf q) ≡ (not (eqb op 12 || eqb op 20) && eqb v 0)
+      on-is : applies refusal.notLoggedOn (tablesOf t) (requestOf q) ≡ (wantsDevice op && eqb v 0)
       unfolding applies rungAt never ladder notLoggedOn
       on-is = ofOp-some (requestOf q) (operation .0) (operation .1) (λ o. not (openLoggedOff o) && eqb (tablesOf t .user (requestOf q .user) device) 0)
           ∙ rw (number-is, k .user, ← hv)
 
       -- the requester is off, and the operation wants a device
-      pub off : (not (eqb op 12 || eqb op 20) && eqb v 0) ≡ true → Refusing t q u op 6
-      off w = record {
-        climbed = k;
-        operation = sym number-is ∙ noticed-as (requestOf q) (operation .0) (operation .1);
-        noticed = lit≤ tt;
-        answer = passed-hit (tablesOf t) (requestOf q) 5 fifth (on-is ∙ w);
-      }
+      pub off : (wantsDevice op && eqb v 0) ≡ true → Judged t q refusal.notLoggedOn t
+      off w = record { answer = passed-hit (tablesOf t) (requestOf q) refusal.badRequest fifth (on-is ∙ w); tables = refl }
 
       -- else the ladder is passed up to rung 6
-      pub on : (not (eqb op 12 || eqb op 20) && eqb v 0) ≡ false → Climbed 6 t q u
-      on w = record { ready = k .ready; user = k .user; low = k .low; high = k .high; passed = passed-more (tablesOf t) (requestOf q) 5 fifth (on-is ∙ w) }
+      pub on : (wantsDevice op && eqb v 0) ≡ false → PastLogon t q u
+      on w = record {
+        ready = k .ready;
+        user = k .user;
+        low = k .low;
+        high = k .high;
+        passed = passed-more (tablesOf t) (requestOf q) refusal.badRequest fifth (on-is ∙ w);
+      }
 
 -- ---- the operation that a notice keeps
 
--- of a number up to 20 it is that number
-noticed-low : (n : ℕ) → n < 21 → n ≡ elim (opOf n) [ none ↦ 0 | some o ↦ numberOf o ]
+-- of the number of an operation it is that number
+noticed-low : (n : ℕ) → n < suc operationCount → n ≡ elim (opOf n) [ none ↦ 0 | some o ↦ numberOf o ]
 unfolding every opOf withNumber operations
-noticed-low n h = eqb→eq n (elim (opOf n) [ none ↦ 0 | some o ↦ numberOf o ]) (every-at 21 (λ i. eqb i (elim (opOf i) [ none ↦ 0 | some o ↦ numberOf o ])) tt n h)
+noticed-low n h = eqb→eq n (elim (opOf n) [ none ↦ 0 | some o ↦ numberOf o ]) (every-at (suc operationCount) (λ i. eqb i (elim (opOf i) [ none ↦ 0 | some o ↦ numberOf o ])) tt n h)
 
-pub noticed-up : (q : Request) (op : ℕ) → q .operation ≡ op → op ≤ 20 → op ≡ noticedOp q
+pub noticed-up : (q : Request) (op : ℕ) → q .operation ≡ op → op ≤ operationCount → op ≡ noticedOp q
 unfolding noticedOp
 noticed-up q op e h = noticed-low op (omega arith) ∙ ap (λ (n : ℕ). elim (opOf n) [ none ↦ 0 | some o ↦ numberOf o ]) (sym e)
 
 -- of any other it is 0
-pub noticed-none : (q : Request) (op : ℕ) → q .operation ≡ op → 20 < op → 0 ≡ noticedOp q
+pub noticed-none : (q : Request) (op : ℕ) → q .operation ≡ op → operationCount < op → 0 ≡ noticedOp q
 unfolding noticedOp
 noticed-none q op e h = go (opOf (q .operation)) refl
   where
@@ -133,7 +136,7 @@ noticed-none q op e h = go (opOf (q .operation)) refl
 -- ---- the step's ends
 
 -- Rule 7.1: a slice of another length
-pub other-length : (t q : List ℕ) → ((length t ≡ wordCount) × (length q ≡ requestWords) → ⊥) → Settled t q 1 t
+pub other-length : (t q : List ℕ) → ((length t ≡ wordCount) × (length q ≡ requestWords) → ⊥) → Settled t q refusal.badLength t
 other-length t q n =
     let z = unsized t q (is-false (sized t q) (fails (sized t q) (λ h. n (sized-agrees t q .to h)))) in
     record { answer = sym (z .0); words = sym (z .1) }
@@ -143,11 +146,11 @@ module _ (t q : List ℕ) (a : length t ≡ wordCount) (b : length q ≡ request
   whole = sized-agrees t q .from (a, b)
 
   -- Rules 7.2 and 7.3: the state check refuses, and nothing has changed
-  judge-low : judge (tablesOf t) ≤ 3
+  judge-low : judge (tablesOf t) ≤ refusal.notSecure
   unfolding judge
   judge-low = go (wellFormedTest (tablesOf t)) (secureTest (tablesOf t))
     where
-      go : (x y : Bool) → pick x (pick y 0 3) 2 ≤ 3
+      go : (x y : Bool) → pick x (pick y refusal.accepted refusal.notSecure) refusal.notWellFormed ≤ refusal.notSecure
       go true true = omega arith
       go true false = omega arith
       go false y = omega arith

@@ -2,149 +2,157 @@
 // run of many requests need check its tables once only.
 use ladder::operands::Operand;
 use ladder::operands::Pair;
+use names::op;
+use names::range;
+use names::refusal;
+use names::size;
 use tables::Entity;
 use tables::User;
+
+mod notice;
+
 ghost use mathlib.Core.Path.{_≡_};
-ghost use Rattle.ladder.specs.Contract.{Climbed, First, Ready, Second, Stepped};
+ghost use lib.ListN.{length};
+ghost use Rattle.ladder.specs.Contract.{First, Judged, PastLogon, PastMarks, PastRequester, Ready, Second, Stepped};
 ghost use Rattle.ladder.specs.Path.{arityOf};
 ghost use Rattle.model.specs.Request.After.{noticedOp};
-ghost use Rattle.model.specs.Request.Step.{afterOf, answerOf};
-ghost use Rattle.model.specs.Request.Words.{requestOf};
+ghost use Rattle.model.specs.Request.Words.{requestOf, requestWords};
 ghost use Rattle.step.specs.Contract.{Settled};
 
 // Rungs 10 to 16 and the effect of a request with one operand: the number of its operation chooses them.
-fn act_one(t: &mut [u32], q: &[u32], u: User, op: u32, e: Entity) -> u32
-    requires { ⌜ Climbed 9 (now t) (now q) (u .0) × (requestOf (now q) .operation ≡ op) × (arityOf (requestOf (now q)) ≡ 1) × First (now t) (now q) (e .0) ⌝ }
-    ensures { λ r. ⌜ Stepped (now (t .entry)) (now (q .entry)) r (now (t .exit)) ⌝ }
+fn act_one(t: &mut [u32], q: &[u32], u: User, o: u32, e: Entity) -> u32
+    requires { ⌜ PastMarks (now t) (now q) (u .0) × (requestOf (now q) .operation ≡ o) × (arityOf (requestOf (now q)) ≡ 1) × First (now t) (now q) (e .0) ⌝ }
+    ensures { λ r. ⌜ Judged (now (t .entry)) (now (q .entry)) r (now (t .exit)) ⌝ }
 {
-    match op {
-        1 => op_places::create(t, q, u, e),
-        2 => op_places::delete(t, q, u, e),
-        4 => op_words::edit(t, q, u, e),
-        6 => op_words::level(t, q, u, e),
-        7 => op_words::mark(t, q, u, e),
-        8 => op_triples::grant(t, q, u, e),
-        9 => op_triples::revoke(t, q, u, e),
-        10 => op_screens::show(t, q, u, e),
-        12 => op_screens::login(t, q, u, e),
-        17 => op_words::maximum(t, q, u, e),
-        18 => op_words::device_level(t, q, u, e),
-        19 => op_words::release(t, q, u, e),
-        _ => 0,
+    match o {
+        op::CREATE => op_places::create(t, q, u, e),
+        op::DELETE => op_places::delete(t, q, u, e),
+        op::EDIT => op_entities::edit(t, q, u, e),
+        op::SET_LEVEL => op_entities::level(t, q, u, e),
+        op::SET_MARK => op_entities::mark(t, q, u, e),
+        op::GRANT => op_triples::grant(t, q, u, e),
+        op::REVOKE => op_triples::revoke(t, q, u, e),
+        op::SHOW => op_devices::show(t, q, u, e),
+        op::LOGIN => op_devices::login(t, q, u, e),
+        op::MAXIMUM => op_devices::maximum(t, q, u, e),
+        op::DEVICE_LEVEL => op_devices::device_level(t, q, u, e),
+        op::RELEASE => op_entities::release(t, q, u, e),
+        // the arms have every such operation: nothing is left, and what were left would be refused
+        _ => refusal::BAD_REQUEST,
     }
 }
 
 // Rungs 10 to 16 and the effect of a request with two operands.
-fn act_two(t: &mut [u32], q: &[u32], u: User, op: u32, e: Entity, c: Entity) -> u32
-    requires { ⌜ Climbed 9 (now t) (now q) (u .0) × (requestOf (now q) .operation ≡ op) × (arityOf (requestOf (now q)) ≡ 2) × First (now t) (now q) (e .0) × Second (now t) (now q) (c .0) ⌝ }
-    ensures { λ r. ⌜ Stepped (now (t .entry)) (now (q .entry)) r (now (t .exit)) ⌝ }
+fn act_two(t: &mut [u32], q: &[u32], u: User, o: u32, e: Entity, c: Entity) -> u32
+    requires { ⌜ PastMarks (now t) (now q) (u .0) × (requestOf (now q) .operation ≡ o) × (arityOf (requestOf (now q)) ≡ 2)
+        × First (now t) (now q) (e .0) × Second (now t) (now q) (c .0) ⌝ }
+    ensures { λ r. ⌜ Judged (now (t .entry)) (now (q .entry)) r (now (t .exit)) ⌝ }
 {
-    match op {
-        3 => op_places::relocate(t, q, u, e, c),
-        5 => op_words::copy(t, q, u, e, c),
-        _ => 0,
+    match o {
+        op::MOVE => op_places::relocate(t, q, u, e, c),
+        op::COPY => op_entities::copy(t, q, u, e, c),
+        // the arms have every such operation: nothing is left, and what were left would be refused
+        _ => refusal::BAD_REQUEST,
     }
 }
 
 // Rungs 7 to 16 and the effect of a request with one operand.
-fn serve_one(t: &mut [u32], q: &[u32], u: User, op: u32) -> u32
-    requires { ⌜ Climbed 6 (now t) (now q) (u .0) × (requestOf (now q) .operation ≡ op) × (arityOf (requestOf (now q)) ≡ 1) ⌝ }
-    ensures { λ r. ⌜ Stepped (now (t .entry)) (now (q .entry)) r (now (t .exit)) ⌝ }
+fn serve_one(t: &mut [u32], q: &[u32], u: User, o: u32) -> u32
+    requires { ⌜ PastLogon (now t) (now q) (u .0) × (requestOf (now q) .operation ≡ o) × (arityOf (requestOf (now q)) ≡ 1) ⌝ }
+    ensures { λ r. ⌜ Judged (now (t .entry)) (now (q .entry)) r (now (t .exit)) ⌝ }
 {
-    let o = ladder::operands::one_operand(t, q, u, op);
-    match o {
-        Operand::No(n) => ladder::refusal::refuse(t, q, u, op, n),
-        Operand::Fine(e) => act_one(t, q, u, op, e),
+    let found = ladder::operands::one_operand(t, q, u, o);
+    match found {
+        Operand::No(n) => n,
+        Operand::Fine(e) => act_one(t, q, u, o, e),
     }
 }
 
 // Rungs 7 to 16 and the effect of a request with two operands.
-fn serve_two(t: &mut [u32], q: &[u32], u: User, op: u32) -> u32
-    requires { ⌜ Climbed 6 (now t) (now q) (u .0) × (requestOf (now q) .operation ≡ op) × (arityOf (requestOf (now q)) ≡ 2) ⌝ }
-    ensures { λ r. ⌜ Stepped (now (t .entry)) (now (q .entry)) r (now (t .exit)) ⌝ }
+fn serve_two(t: &mut [u32], q: &[u32], u: User, o: u32) -> u32
+    requires { ⌜ PastLogon (now t) (now q) (u .0) × (requestOf (now q) .operation ≡ o) × (arityOf (requestOf (now q)) ≡ 2) ⌝ }
+    ensures { λ r. ⌜ Judged (now (t .entry)) (now (q .entry)) r (now (t .exit)) ⌝ }
 {
-    let o = ladder::operands::two_operands(t, q, u, op);
-    match o {
-        Pair::Neither(n) => ladder::refusal::refuse(t, q, u, op, n),
-        Pair::Both(e, c) => act_two(t, q, u, op, e, c),
+    let found = ladder::operands::two_operands(t, q, u, o);
+    match found {
+        Pair::Neither(n) => n,
+        Pair::Both(e, c) => act_two(t, q, u, o, e, c),
     }
 }
 
 // Rungs 7 to 16 and the effect: the number of the operation chooses how many operands there are to read.
-fn serve(t: &mut [u32], q: &[u32], u: User, op: u32) -> u32
-    requires { ⌜ Climbed 6 (now t) (now q) (u .0) × (requestOf (now q) .operation ≡ op) ⌝ }
-    ensures { λ r. ⌜ Stepped (now (t .entry)) (now (q .entry)) r (now (t .exit)) ⌝ }
+fn serve(t: &mut [u32], q: &[u32], u: User, o: u32) -> u32
+    requires { ⌜ PastLogon (now t) (now q) (u .0) × (requestOf (now q) .operation ≡ o) ⌝ }
+    ensures { λ r. ⌜ Judged (now (t .entry)) (now (q .entry)) r (now (t .exit)) ⌝ }
 {
-    match op {
-        3 => serve_two(t, q, u, op),
-        5 => serve_two(t, q, u, op),
-        11 => op_screens::clear(t, q, u),
-        13 => op_screens::logout(t, q, u),
-        14 => op_words::current_roles(t, q, u),
-        15 => op_words::clearance(t, q, u),
-        16 => op_words::authorised_roles(t, q, u),
-        20 => op_words::acknowledge(t, q, u),
-        _ => serve_one(t, q, u, op),
+    match o {
+        op::MOVE => serve_two(t, q, u, o),
+        op::COPY => serve_two(t, q, u, o),
+        op::CLEAR => op_devices::clear(t, q, u),
+        op::LOGOUT => op_devices::logout(t, q, u),
+        op::CURRENT_ROLES => op_users::current_roles(t, q, u),
+        op::CLEARANCE => op_users::clearance(t, q, u),
+        op::AUTHORISED_ROLES => op_users::authorised_roles(t, q, u),
+        op::ACKNOWLEDGE => op_users::acknowledge(t, q, u),
+        _ => serve_one(t, q, u, o),
     }
 }
 
-// The operation that a notice keeps: 0 where the number is none of the twenty.
-fn noticed(q: &[u32], op: u32) -> u32
-    requires { ⌜ requestOf (now q) .operation ≡ op ⌝ }
+// The operation that a notice keeps: none where the number is no operation's.
+fn noticed(q: &[u32]) -> u32
+    requires { ⌜ length (now q) ≡ requestWords ⌝ }
     ensures { λ r. ⌜ r ≡ noticedOp (requestOf (now (q .entry))) ⌝ }
 {
-    if 20 < op {
-        return 0;
+    let o = request::operation(q);
+    if range::OPERATION_MOST < o {
+        return op::NONE;
     }
-    op
+    o
 }
 
 // Rungs 5 to 16 and the effect.
 fn attend(t: &mut [u32], q: &[u32], u: User) -> u32
-    requires { ⌜ Climbed 4 (now t) (now q) (u .0) ⌝ }
-    ensures { λ r. ⌜ Stepped (now (t .entry)) (now (q .entry)) r (now (t .exit)) ⌝ }
+    requires { ⌜ PastRequester (now t) (now q) (u .0) ⌝ }
+    ensures { λ r. ⌜ Judged (now (t .entry)) (now (q .entry)) r (now (t .exit)) ⌝ }
 {
-    let op = q[1];
-    if !ladder::form::well_made(q, op) {
-        return ladder::refusal::refuse(t, q, u, noticed(q, op), 5);
+    let o = request::operation(q);
+    if !ladder::form::well_made(q, o) {
+        return refusal::BAD_REQUEST;
     }
-    if !((op == 12) | (op == 20)) & (tables::device(t, u).0 == 0) {
-        return ladder::refusal::refuse(t, q, u, op, 6);
+    if !((o == op::LOGIN) | (o == op::ACKNOWLEDGE)) & (tables::device(t, u).0 == 0) {
+        return refusal::NOT_LOGGED_ON;
     }
-    serve(t, q, u, op)
+    serve(t, q, u, o)
 }
 
-// Rungs 4 to 16 and the effect, of tables that are well-formed and secure.
+// Rungs 4 to 16, the effect, and the notice of a refusal, of tables that are well-formed and secure.
 pub fn advance(t: &mut [u32], q: &[u32]) -> u32
     requires { ⌜ Ready (now t) (now q) ⌝ }
     ensures { λ r. ⌜ Stepped (now (t .entry)) (now (q .entry)) r (now (t .exit)) ⌝ }
 {
-    let n = q[0];
-    if n < 1 {
-        return 4;
+    let n = request::requester(q);
+    if !tables::is_known(t, n) {
+        return refusal::UNKNOWN_REQUESTER;
     }
-    if 16 < n {
-        return 4;
+    let r = attend(t, q, User(n));
+    if r != refusal::ACCEPTED {
+        notice::leave(t, User(n), r, noticed(q));
     }
-    let u = User(n);
-    if tables::present(t, u) == 0 {
-        return 4;
-    }
-    attend(t, q, u)
+    r
 }
 
 // The step on any words: the answer and the words afterwards are the model's.
 pub fn step(t: &mut [u32], q: &[u32]) -> u32
     ensures { λ r. ⌜ Settled (now (t .entry)) (now (q .entry)) r (now (t .exit)) ⌝ }
 {
-    if t.len() != 2304 {
-        return 1;
+    if t.len() != size::TABLE_WORDS {
+        return refusal::BAD_LENGTH;
     }
-    if q.len() != 16 {
-        return 1;
+    if q.len() != size::REQUEST_WORDS {
+        return refusal::BAD_LENGTH;
     }
     let n = state::judged(t);
-    if n != 0 {
+    if n != refusal::ACCEPTED {
         return n;
     }
     advance(t, q)

@@ -1,5 +1,8 @@
-use Rattle.step.specs.DispatchLaws.{none-over-one, taking}
-use Rattle.model.specs.Request.Operations.{toCreate, toDelete, toDeviceLevel, toEdit, toGrant, toLevel, toLogin, toMark, toMaximum, toRelease, toRevoke, toShow}
+use lib.Dec.{eqb}
+use Rattle.ladder.specs.DispatchLaws.{none-left, numbersOf, of-arity}
+use Rattle.model.specs.Request.Allowed.{arity}
+use Rattle.step.specs.DispatchLaws.{taking}
+use Rattle.model.specs.Request.Operations.{operations, toCreate, toDelete, toDeviceLevel, toEdit, toGrant, toLevel, toLogin, toMark, toMaximum, toRelease, toRevoke, toShow}
 use borrow.Author.Needs.{needs}
 use Rattle.step.proofs.act_one.Statement.{statement}
 use Rattle.step.proofs.act_one.Tie as tie
@@ -7,16 +10,16 @@ use Rattle.step.proofs.act_one.Reads as reads
 use Rattle.step.proofs.act_one.Lts as lts
 use Rattle.op_places.proofs.create.Reads as create-reads
 use Rattle.op_places.proofs.delete.Reads as delete-reads
-use Rattle.op_screens.proofs.login.Reads as login-reads
-use Rattle.op_screens.proofs.show.Reads as show-reads
+use Rattle.op_devices.proofs.login.Reads as login-reads
+use Rattle.op_devices.proofs.show.Reads as show-reads
 use Rattle.op_triples.proofs.grant.Reads as grant-reads
 use Rattle.op_triples.proofs.revoke.Reads as revoke-reads
-use Rattle.op_words.proofs.device_level.Reads as device-level-reads
-use Rattle.op_words.proofs.maximum.Reads as maximum-reads
-use Rattle.op_words.proofs.edit.Reads as edit-reads
-use Rattle.op_words.proofs.level.Reads as level-reads
-use Rattle.op_words.proofs.mark.Reads as mark-reads
-use Rattle.op_words.proofs.release.Reads as release-reads
+use Rattle.op_devices.proofs.device_level.Reads as device-level-reads
+use Rattle.op_devices.proofs.maximum.Reads as maximum-reads
+use Rattle.op_entities.proofs.edit.Reads as edit-reads
+use Rattle.op_entities.proofs.level.Reads as level-reads
+use Rattle.op_entities.proofs.mark.Reads as mark-reads
+use Rattle.op_entities.proofs.release.Reads as release-reads
 
 create-requires : tie.Need-create-requires
 create-requires c κs = (taking toCreate _ _ _ _ (c .before .before .before .before .pre .0) (c .before .before .before .before .pre .1) (c .before .match .keys1), c .before .before .before .before .pre .3)
@@ -127,7 +130,10 @@ returns-12 : tie.Need-returns-12
 returns-12 c = search needs
 
 returns-13 : tie.Need-returns-13
-returns-13 c = absurd (none-over-one _ (c .before .before .before .pre .2) (rw (← c .before .before .before .pre .1) at (c .match .rest)))
+unfolding numbersOf operations
+returns-13 c =
+    let s3 = c .before .before .before in
+    none-left (λ p. eqb (arity p) 1) _ (of-arity _ 0 (s3 .pre .2)) (rw (← s3 .pre .1) at (c .match .rest))
 
 pub act-one-spec : {M : Type 1} → statement M
 act-one-spec =

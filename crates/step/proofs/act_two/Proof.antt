@@ -1,12 +1,15 @@
-use Rattle.step.specs.DispatchLaws.{none-over-two, taking}
-use Rattle.model.specs.Request.Operations.{toCopy, toMove}
+use lib.Dec.{eqb}
+use Rattle.ladder.specs.DispatchLaws.{none-left, numbersOf, of-arity}
+use Rattle.model.specs.Request.Allowed.{arity}
+use Rattle.step.specs.DispatchLaws.{taking}
+use Rattle.model.specs.Request.Operations.{operations, toCopy, toMove}
 use borrow.Author.Needs.{needs}
 use Rattle.step.proofs.act_two.Statement.{statement}
 use Rattle.step.proofs.act_two.Tie as tie
 use Rattle.step.proofs.act_two.Reads as reads
 use Rattle.step.proofs.act_two.Lts as lts
 use Rattle.op_places.proofs.relocate.Reads as relocate-reads
-use Rattle.op_words.proofs.copy.Reads as copy-reads
+use Rattle.op_entities.proofs.copy.Reads as copy-reads
 
 relocate-requires : tie.Need-relocate-requires
 relocate-requires c κs = (taking toMove _ _ _ _ (c .before .before .before .before .pre .0) (c .before .before .before .before .pre .1) (c .before .match .keys1), c .before .before .before .before .pre .3, c .before .before .before .before .pre .4)
@@ -27,7 +30,10 @@ returns-2 : tie.Need-returns-2
 returns-2 c = search needs
 
 returns-3 : tie.Need-returns-3
-returns-3 c = absurd (none-over-two _ (c .before .before .before .pre .2) (rw (← c .before .before .before .pre .1) at (c .match .rest)))
+unfolding numbersOf operations
+returns-3 c =
+    let s3 = c .before .before .before in
+    none-left (λ p. eqb (arity p) 2) _ (of-arity _ 1 (s3 .pre .2)) (rw (← s3 .pre .1) at (c .match .rest))
 
 pub act-two-spec : {M : Type 1} → statement M
 act-two-spec =

@@ -1,51 +1,74 @@
-use mathlib.Core.Path.{_∙_, refl, sym}
-use native.Mathlib.Omega.{arith}
-use Rattle.step.specs.FirstLaws.{known, unknown}
+use mathlib.Core.Path.{_∙_, sym}
+use borrow.Author.Tests.{not-false, not-true}
+use Rattle.step.specs.FirstLaws.{known-climbed, unknown}
+use Rattle.step.specs.NoticeLaws.{judged-done, judged-refused}
 use borrow.Author.Needs.{needs}
 use Rattle.step.proofs.advance.Statement.{statement}
 use Rattle.step.proofs.advance.Tie as tie
 use Rattle.step.proofs.advance.Reads as reads
 use Rattle.step.proofs.advance.Lts as lts
+use Rattle.request.proofs.requester.Reads as requester-reads
 use Rattle.step.proofs.attend.Reads as attend-reads
-use Rattle.tables.proofs.present.Reads as present-reads
+use Rattle.step.proofs.notice.leave.Reads as leave-reads
+use Rattle.step.proofs.noticed.Reads as noticed-reads
+use Rattle.tables.proofs.is_known.Reads as is-known-reads
 
-shared-slice-read-n : tie.Need-shared-slice-read-n
-shared-slice-read-n c = search needs
+-- src/lib.rt:133:9
+requester-requires : tie.Need-requester-requires
+requester-requires c κs = search needs
 
-returns : tie.Need-returns
-returns c = unknown _ _ (c .before .before .before .before .pre) _ refl (λ k. omega (arith, k .low, c .if1 .taken))
+-- src/lib.rt:134:9
+is-known-requires : tie.Need-is-known-requires
+is-known-requires c κs = search needs
 
-returns-2 : tie.Need-returns-2
-returns-2 c = unknown _ _ (c .before .before .before .before .before .pre) _ refl (λ k. omega (arith, k .high, c .if2 .taken))
-
-present-requires : tie.Need-present-requires
-present-requires c κs = search needs
-
+-- src/lib.rt:135:9
 same-length : tie.Need-same-length
 same-length c = search needs
 
-returns-3 : tie.Need-returns-3
-returns-3 c = unknown _ _ (c .before .before .before .before .before .before .before .before .pre) _ refl (λ k. k .there (sym (c .before .present .ensures) ∙ c .if3 .taken))
+-- src/lib.rt:135:9
+returns : tie.Need-returns
+returns c = unknown _ _ (c .before .before .before .before .before .before .pre) _ (c .before .before .before .requester .ensures) (sym (c .before .is-known .ensures) ∙ not-true _ (c .if1 .taken))
 
+-- src/lib.rt:137:9
 attend-requires : tie.Need-attend-requires
-attend-requires c κs = known _ _ (c .before .before .before .before .before .before .before .before .before .pre) _ refl (record { low = c .before .before .before .before .before .if1 .left; high = c .before .before .before .before .if2 .left; there = λ z. c .before .if3 .left (c .before .before .present .ensures ∙ z) })
+attend-requires c κs = known-climbed _ _ (c .before .before .before .before .before .before .before .pre) _ (c .before .before .before .before .requester .ensures) (sym (c .before .before .is-known .ensures) ∙ not-false _ (c .before .if1 .left))
 
+-- src/lib.rt:139:38
+noticed-requires : tie.Need-noticed-requires
+noticed-requires c κs = search needs
+
+-- src/lib.rt:139:9
+leave-requires : tie.Need-leave-requires
+leave-requires c κs = let k = known-climbed _ _ (c .before .before .before .before .before .before .before .before .before .before .before .before .before .pre) _ (c .before .before .before .before .before .before .before .before .before .before .requester .ensures) (sym (c .before .before .before .before .before .before .before .before .is-known .ensures) ∙ not-false _ (c .before .before .before .before .before .before .before .if1 .left)) in (search needs, k .low, k .high)
+
+-- src/lib.rt:129:1
 same-length-2 : tie.Need-same-length-2
 same-length-2 c = search needs
 
-returns-4 : tie.Need-returns-4
-returns-4 c = search needs
+-- src/lib.rt:129:1
+returns-2 : tie.Need-returns-2
+returns-2 c = judged-refused (c .before .before .before .before .before .before .before .before .attend .ensures) (known-climbed _ _ (c .before .before .before .before .before .before .before .before .before .before .before .before .before .before .before .before .pre) _ (c .before .before .before .before .before .before .before .before .before .before .before .before .before .requester .ensures) (sym (c .before .before .before .before .before .before .before .before .before .before .before .is-known .ensures) ∙ not-false _ (c .before .before .before .before .before .before .before .before .before .before .if1 .left))) (c .before .before .before .noticed .ensures) (c .before .before .before .before .before .if2 .taken) (c .before .before .leave .ensures)
+
+-- src/lib.rt:129:1
+same-length-3 : tie.Need-same-length-3
+same-length-3 c = search needs
+
+-- src/lib.rt:129:1
+returns-3 : tie.Need-returns-3
+returns-3 c = judged-done (c .before .before .before .attend .ensures) (c .if2 .left)
 
 pub advance-spec : {M : Type 1} → statement M
 advance-spec =
     tie.close
     (tie.spec
-    shared-slice-read-n
-    returns
-    returns-2
-    present-requires
+    requester-requires
+    is-known-requires
     same-length
-    returns-3
+    returns
     attend-requires
+    noticed-requires
+    leave-requires
     same-length-2
-    returns-4)
+    returns-2
+    same-length-3
+    returns-3)

@@ -1,19 +1,21 @@
 use mathlib.Core.Path.{refl}
 use lib.Dec.{lit≤}
 use Rattle.ladder.specs.ClimbLaws.{passed-lower}
-use Rattle.step.specs.DispatchLaws.{arity-named, one-over, taking-none}
-use Rattle.model.specs.Request.Operations.{toAcknowledge, toAuthorised, toClear, toClearance, toCopy, toCurrent, toLogout, toMove}
+use Rattle.step.specs.DispatchLaws.{arity-named, served-one, taking-none}
+use Rattle.ladder.specs.DispatchLaws.{numbersOf}
+use Rattle.model.specs.Request.Refusals as refusal
+use Rattle.model.specs.Request.Operations.{operations, toAcknowledge, toAuthorised, toClear, toClearance, toCopy, toCurrent, toLogout, toMove}
 use borrow.Author.Needs.{needs}
 use Rattle.step.proofs.serve.Statement.{statement}
 use Rattle.step.proofs.serve.Tie as tie
 use Rattle.step.proofs.serve.Reads as reads
 use Rattle.step.proofs.serve.Lts as lts
-use Rattle.op_screens.proofs.clear.Reads as clear-reads
-use Rattle.op_screens.proofs.logout.Reads as logout-reads
-use Rattle.op_words.proofs.acknowledge.Reads as acknowledge-reads
-use Rattle.op_words.proofs.authorised_roles.Reads as authorised-roles-reads
-use Rattle.op_words.proofs.clearance.Reads as clearance-reads
-use Rattle.op_words.proofs.current_roles.Reads as current-roles-reads
+use Rattle.op_devices.proofs.clear.Reads as clear-reads
+use Rattle.op_devices.proofs.logout.Reads as logout-reads
+use Rattle.op_users.proofs.acknowledge.Reads as acknowledge-reads
+use Rattle.op_users.proofs.authorised_roles.Reads as authorised-roles-reads
+use Rattle.op_users.proofs.clearance.Reads as clearance-reads
+use Rattle.op_users.proofs.current_roles.Reads as current-roles-reads
 use Rattle.step.proofs.serve_one.Reads as serve-one-reads
 use Rattle.step.proofs.serve_two.Reads as serve-two-reads
 
@@ -42,7 +44,13 @@ acknowledge-requires : tie.Need-acknowledge-requires
 acknowledge-requires c κs = taking-none toAcknowledge _ _ _ _ refl (c .before .before .before .before .pre .0) (c .before .before .before .before .pre .1) (c .before .match .keys8)
 
 serve-one-requires : tie.Need-serve-one-requires
-serve-one-requires c κs = (c .before .before .before .before .pre .0, c .before .before .before .before .pre .1, one-over _ _ (passed-lower _ _ 5 6 (lit≤ tt) (c .before .before .before .before .pre .0 .passed)) (rw (← c .before .before .before .before .pre .1) at (c .before .match .rest)))
+unfolding numbersOf operations
+serve-one-requires c κs =
+    let s4 = c .before .before .before .before in (
+      s4 .pre .0,
+      s4 .pre .1,
+      served-one _ _ (passed-lower _ _ refusal.badRequest refusal.notLoggedOn (lit≤ tt) (s4 .pre .0 .passed)) (rw (← s4 .pre .1) at (c .before .match .rest)),
+    )
 
 same-length : tie.Need-same-length
 same-length c = search needs

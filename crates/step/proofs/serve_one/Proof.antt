@@ -6,33 +6,37 @@ use Rattle.step.proofs.serve_one.Tie as tie
 use Rattle.step.proofs.serve_one.Reads as reads
 use Rattle.step.proofs.serve_one.Lts as lts
 use Rattle.ladder.proofs.operands.one_operand.Reads as one-operand-reads
-use Rattle.ladder.proofs.refusal.refuse.Reads as refuse-reads
 use Rattle.step.proofs.act_one.Reads as act-one-reads
 
+-- src/lib.rt:64:9
 one-operand-requires : tie.Need-one-operand-requires
 one-operand-requires c κs = search needs
 
-enum-known-o : tie.Need-enum-known-o
-enum-known-o c = search needs
+-- src/lib.rt:66:21
+enum-known-found : tie.Need-enum-known-found
+enum-known-found c = search needs
 
-refuse-requires : tie.Need-refuse-requires
-refuse-requires c κs = one-refused _ _ _ _ (c .before .before .before .before .before .before .before .before .pre .0) (c .before .before .before .before .before .before .before .before .pre .1) (c .before .before .before .before .before .before .before .before .pre .2) _ (sym (c .before .before .before .before .one-operand .ensures) ∙ c .before .before .o .given .1)
+-- src/lib.rt:67:23
+enum-known-found-2 : tie.Need-enum-known-found-2
+enum-known-found-2 c = search needs
 
-enum-known-o-2 : tie.Need-enum-known-o-2
-enum-known-o-2 c = search needs
-
+-- src/lib.rt:67:29
 act-one-requires : tie.Need-act-one-requires
-act-one-requires c κs = (one-climbed _ _ _ _ (c .before .before .before .before .before .before .before .before .pre .0) (c .before .before .before .before .before .before .before .before .pre .1) (c .before .before .before .before .before .before .before .before .pre .2) (c .before .before .o2 .given .0 .0) (sym (c .before .before .before .before .one-operand .ensures) ∙ c .before .before .o2 .given .1), c .before .before .before .before .before .before .before .before .pre .1, c .before .before .before .before .before .before .before .before .pre .2, one-first _ _ _ _ (c .before .before .before .before .before .before .before .before .pre .0) (c .before .before .before .before .before .before .before .before .pre .1) (c .before .before .before .before .before .before .before .before .pre .2) (c .before .before .o2 .given .0 .0) (sym (c .before .before .before .before .one-operand .ensures) ∙ c .before .before .o2 .given .1))
+act-one-requires c κs = (one-climbed _ _ _ _ (c .before .before .before .before .before .before .before .before .pre .0) (c .before .before .before .before .before .before .before .before .pre .1) (c .before .before .before .before .before .before .before .before .pre .2) (c .before .before .found2 .given .0 .0) (sym (c .before .before .before .before .one-operand .ensures) ∙ c .before .before .found2 .given .1), c .before .before .before .before .before .before .before .before .pre .1, c .before .before .before .before .before .before .before .before .pre .2, one-first _ _ _ _ (c .before .before .before .before .before .before .before .before .pre .0) (c .before .before .before .before .before .before .before .before .pre .1) (c .before .before .before .before .before .before .before .before .pre .2) (c .before .before .found2 .given .0 .0) (sym (c .before .before .before .before .one-operand .ensures) ∙ c .before .before .found2 .given .1))
 
+-- src/lib.rt:60:1
 same-length : tie.Need-same-length
 same-length c = search needs
 
+-- src/lib.rt:60:1
 returns : tie.Need-returns
-returns c = search needs
+returns c = one-refused _ _ _ _ (c .before .before .before .before .before .before .before .pre .0) (c .before .before .before .before .before .before .before .pre .1) (c .before .before .before .before .before .before .before .pre .2) _ (sym (c .before .before .before .one-operand .ensures) ∙ c .before .found .given .1)
 
+-- src/lib.rt:60:1
 same-length-2 : tie.Need-same-length-2
 same-length-2 c = search needs
 
+-- src/lib.rt:60:1
 returns-2 : tie.Need-returns-2
 returns-2 c = search needs
 
@@ -41,9 +45,8 @@ serve-one-spec =
     tie.close
     (tie.spec
     one-operand-requires
-    enum-known-o
-    refuse-requires
-    enum-known-o-2
+    enum-known-found
+    enum-known-found-2
     act-one-requires
     same-length
     returns

@@ -6,33 +6,37 @@ use Rattle.step.proofs.serve_two.Tie as tie
 use Rattle.step.proofs.serve_two.Reads as reads
 use Rattle.step.proofs.serve_two.Lts as lts
 use Rattle.ladder.proofs.operands.two_operands.Reads as two-operands-reads
-use Rattle.ladder.proofs.refusal.refuse.Reads as refuse-reads
 use Rattle.step.proofs.act_two.Reads as act-two-reads
 
+-- src/lib.rt:76:9
 two-operands-requires : tie.Need-two-operands-requires
 two-operands-requires c κs = search needs
 
-enum-known-o : tie.Need-enum-known-o
-enum-known-o c = search needs
+-- src/lib.rt:78:23
+enum-known-found : tie.Need-enum-known-found
+enum-known-found c = search needs
 
-refuse-requires : tie.Need-refuse-requires
-refuse-requires c κs = two-refused _ _ _ _ (c .before .before .before .before .before .before .before .before .pre .0) (c .before .before .before .before .before .before .before .before .pre .1) (c .before .before .before .before .before .before .before .before .pre .2) _ (sym (c .before .before .before .before .two-operands .ensures) ∙ c .before .before .o .given .1)
+-- src/lib.rt:79:20
+enum-known-found-2 : tie.Need-enum-known-found-2
+enum-known-found-2 c = search needs
 
-enum-known-o-2 : tie.Need-enum-known-o-2
-enum-known-o-2 c = search needs
-
+-- src/lib.rt:79:29
 act-two-requires : tie.Need-act-two-requires
-act-two-requires c κs = (two-climbed _ _ _ _ (c .before .before .before .before .before .before .before .before .pre .0) (c .before .before .before .before .before .before .before .before .pre .1) (c .before .before .before .before .before .before .before .before .pre .2) (c .before .before .o2 .given .0 .0) (c .before .before .o2 .given .0 .1 .0) (sym (c .before .before .before .before .two-operands .ensures) ∙ c .before .before .o2 .given .1), c .before .before .before .before .before .before .before .before .pre .1, c .before .before .before .before .before .before .before .before .pre .2, two-first _ _ _ _ (c .before .before .before .before .before .before .before .before .pre .0) (c .before .before .before .before .before .before .before .before .pre .1) (c .before .before .before .before .before .before .before .before .pre .2) (c .before .before .o2 .given .0 .0) (c .before .before .o2 .given .0 .1 .0) (sym (c .before .before .before .before .two-operands .ensures) ∙ c .before .before .o2 .given .1), two-second _ _ _ _ (c .before .before .before .before .before .before .before .before .pre .0) (c .before .before .before .before .before .before .before .before .pre .1) (c .before .before .before .before .before .before .before .before .pre .2) (c .before .before .o2 .given .0 .0) (c .before .before .o2 .given .0 .1 .0) (sym (c .before .before .before .before .two-operands .ensures) ∙ c .before .before .o2 .given .1))
+act-two-requires c κs = (two-climbed _ _ _ _ (c .before .before .before .before .before .before .before .before .pre .0) (c .before .before .before .before .before .before .before .before .pre .1) (c .before .before .before .before .before .before .before .before .pre .2) (c .before .before .found2 .given .0 .0) (c .before .before .found2 .given .0 .1 .0) (sym (c .before .before .before .before .two-operands .ensures) ∙ c .before .before .found2 .given .1), c .before .before .before .before .before .before .before .before .pre .1, c .before .before .before .before .before .before .before .before .pre .2, two-first _ _ _ _ (c .before .before .before .before .before .before .before .before .pre .0) (c .before .before .before .before .before .before .before .before .pre .1) (c .before .before .before .before .before .before .before .before .pre .2) (c .before .before .found2 .given .0 .0) (c .before .before .found2 .given .0 .1 .0) (sym (c .before .before .before .before .two-operands .ensures) ∙ c .before .before .found2 .given .1), two-second _ _ _ _ (c .before .before .before .before .before .before .before .before .pre .0) (c .before .before .before .before .before .before .before .before .pre .1) (c .before .before .before .before .before .before .before .before .pre .2) (c .before .before .found2 .given .0 .0) (c .before .before .found2 .given .0 .1 .0) (sym (c .before .before .before .before .two-operands .ensures) ∙ c .before .before .found2 .given .1))
 
+-- src/lib.rt:72:1
 same-length : tie.Need-same-length
 same-length c = search needs
 
+-- src/lib.rt:72:1
 returns : tie.Need-returns
-returns c = search needs
+returns c = two-refused _ _ _ _ (c .before .before .before .before .before .before .before .pre .0) (c .before .before .before .before .before .before .before .pre .1) (c .before .before .before .before .before .before .before .pre .2) _ (sym (c .before .before .before .two-operands .ensures) ∙ c .before .found .given .1)
 
+-- src/lib.rt:72:1
 same-length-2 : tie.Need-same-length-2
 same-length-2 c = search needs
 
+-- src/lib.rt:72:1
 returns-2 : tie.Need-returns-2
 returns-2 c = search needs
 
@@ -41,9 +45,8 @@ serve-two-spec =
     tie.close
     (tie.spec
     two-operands-requires
-    enum-known-o
-    refuse-requires
-    enum-known-o-2
+    enum-known-found
+    enum-known-found-2
     act-two-requires
     same-length
     returns

@@ -1,6 +1,6 @@
 use mathlib.Core.Path.{_∙_, refl, sym}
 use borrow.Author.Tests.{not-false, not-true}
-use Rattle.op_devices.specs.ReachLaws.{device-above, device-shows}
+use Rattle.op_devices.specs.DeviceLevelLaws.{device-above, device-shows}
 use Rattle.ladder.specs.TrialLaws.{tried-left, tried-set}
 use borrow.Author.Needs.{needs}
 use Rattle.op_devices.proofs.trial.try_device_level.Statement.{statement}

@@ -1,0 +1,89 @@
+use borrow.Author.Tests.{not-false, not-true}
+use mathlib.Core.Path.{_∙_, refl}
+use Rattle.op_entities.specs.EntityLaws.{level-10, level-12, level-13, level-done}
+use borrow.Author.Needs.{needs}
+use Rattle.op_entities.proofs.level.Statement.{statement}
+use Rattle.op_entities.proofs.level.Tie as tie
+use Rattle.op_entities.proofs.level.Reads as reads
+use Rattle.op_entities.proofs.level.Lts as lts
+use Rattle.ladder.proofs.kinds.is_entity.Reads as is-entity-reads
+use Rattle.levels.proofs.lower.Reads as lower-reads
+use Rattle.op_entities.proofs.trial.try_level.Reads as try-level-reads
+use Rattle.request.proofs.a.Reads as a-reads
+use Rattle.tables.proofs.level.Reads as level-reads
+use Rattle.tables.proofs.has_role.Reads as has-role-reads
+
+-- src/lib.rt:48:9
+is-entity-requires : tie.Need-is-entity-requires
+is-entity-requires c κs = search needs
+
+-- src/lib.rt:49:9
+same-length : tie.Need-same-length
+same-length c = search needs
+
+-- src/lib.rt:49:9
+returns : tie.Need-returns
+returns c = level-10 _ _ _ _ (c .before .before .before .before .before .pre .0) (c .before .before .before .before .before .pre .1) _ (c .before .is-entity .ensures) (not-true _ (c .if1 .taken))
+
+-- src/lib.rt:51:19
+a-requires : tie.Need-a-requires
+a-requires c κs = search needs
+
+-- src/lib.rt:52:25
+level-requires : tie.Need-level-requires
+level-requires c κs = search needs
+
+-- src/lib.rt:52:8
+lower-requires : tie.Need-lower-requires
+lower-requires c κs = search needs
+
+-- src/lib.rt:52:49
+has-role-requires : tie.Need-has-role-requires
+has-role-requires c κs = search needs
+
+-- src/lib.rt:53:9
+same-length-2 : tie.Need-same-length-2
+same-length-2 c = search needs
+
+-- src/lib.rt:53:9
+returns-2 : tie.Need-returns-2
+returns-2 c = level-12 _ _ _ _ (c .before .before .before .before .before .before .before .before .before .before .before .before .pre .0) (c .before .before .before .before .before .before .before .before .before .before .before .before .pre .1) _ (c .before .before .before .before .before .before .before .before .is-entity .ensures) (not-false _ (c .before .before .before .before .before .before .before .if1 .left)) _ (c .before .before .before .before .before .before .a .ensures) _ _ (c .before .before .before .lower .ensures ∙ rw (c .before .before .before .before .level .ensures)) (c .before .has-role .ensures) (c .if2 .taken)
+
+-- src/lib.rt:55:9
+try-level-requires : tie.Need-try-level-requires
+try-level-requires c κs = search needs
+
+-- src/lib.rt:56:9
+same-length-3 : tie.Need-same-length-3
+same-length-3 c = search needs
+
+-- src/lib.rt:56:9
+returns-3 : tie.Need-returns-3
+returns-3 c = rw (c .before .before .before .try-level .ensures .back (not-true _ (c .if3 .taken))) (level-13 _ _ _ _ (c .before .before .before .before .before .before .before .before .before .before .before .before .before .before .before .before .before .pre .0) (c .before .before .before .before .before .before .before .before .before .before .before .before .before .before .before .before .before .pre .1) _ (c .before .before .before .before .before .before .before .before .before .before .before .before .before .is-entity .ensures) (not-false _ (c .before .before .before .before .before .before .before .before .before .before .before .before .if1 .left)) _ (c .before .before .before .before .before .before .before .before .before .before .before .a .ensures) _ _ (c .before .before .before .before .before .before .before .before .lower .ensures ∙ rw (c .before .before .before .before .before .before .before .before .before .level .ensures)) (c .before .before .before .before .before .before .has-role .ensures) (c .before .before .before .before .before .if2 .left) _ (c .before .before .before .try-level .ensures .secure) (not-true _ (c .if3 .taken)))
+
+-- src/lib.rt:44:1
+same-length-4 : tie.Need-same-length-4
+same-length-4 c = search needs
+
+-- src/lib.rt:44:1
+returns-4 : tie.Need-returns-4
+returns-4 c = level-done _ _ _ _ (c .before .before .before .before .before .before .before .before .before .before .before .before .before .before .before .before .before .pre .0) (c .before .before .before .before .before .before .before .before .before .before .before .before .before .before .before .before .before .pre .1) _ (c .before .before .before .before .before .before .before .before .before .before .before .before .before .is-entity .ensures) (not-false _ (c .before .before .before .before .before .before .before .before .before .before .before .before .if1 .left)) _ (c .before .before .before .before .before .before .before .before .before .before .before .a .ensures) _ _ (c .before .before .before .before .before .before .before .before .lower .ensures ∙ rw (c .before .before .before .before .before .before .before .before .before .level .ensures)) (c .before .before .before .before .before .before .has-role .ensures) (c .before .before .before .before .before .if2 .left) _ (c .before .before .before .try-level .ensures .secure) (not-false _ (c .if3 .left)) _ (c .before .before .before .try-level .ensures .kept (not-false _ (c .if3 .left)))
+
+pub level-spec : {M : Type 1} → statement M
+level-spec =
+    tie.close
+    (tie.spec
+    is-entity-requires
+    same-length
+    returns
+    a-requires
+    level-requires
+    lower-requires
+    has-role-requires
+    same-length-2
+    returns-2
+    try-level-requires
+    same-length-3
+    returns-3
+    same-length-4
+    returns-4)

@@ -1,0 +1,86 @@
+use borrow.Author.Tests.{eq-eqb, ne-eqb, not-false, not-true}
+use mathlib.Core.Path.{refl}
+use Rattle.op_users.specs.UserLaws.{clearance-13, clearance-done, spoken}
+use Rattle.ladder.specs.RungLaws.{clearance-officers, no-officer, user-absent}
+use Rattle.ladder.specs.ArgumentLaws.{arguments-in}
+use Rattle.model.specs.Request.Operations.{toClearance}
+use borrow.Author.Needs.{needs}
+use Rattle.op_users.proofs.clearance.Statement.{statement}
+use Rattle.op_users.proofs.clearance.Tie as tie
+use Rattle.op_users.proofs.clearance.Reads as reads
+use Rattle.op_users.proofs.clearance.Lts as lts
+use Rattle.op_users.proofs.trial.try_clearance.Reads as try-clearance-reads
+use Rattle.request.proofs.a.Reads as a-reads
+use Rattle.request.proofs.b.Reads as b-reads
+use Rattle.tables.proofs.has_role.Reads as has-role-reads
+use Rattle.tables.proofs.present.Reads as present-reads
+
+-- src/lib.rt:39:18
+a-requires : tie.Need-a-requires
+a-requires c κs = c .before .before .pre .climbed .ready .request
+
+-- src/lib.rt:40:8
+present-requires : tie.Need-present-requires
+present-requires c κs = let r = spoken _ _ (c .before .a .ensures) (arguments-in toClearance _ _ _ (c .before .before .before .before .pre) .0) in (c .before .before .before .before .pre .climbed .ready .whole, r .0, r .1)
+
+-- src/lib.rt:41:9
+same-length : tie.Need-same-length
+same-length c = search needs
+
+-- src/lib.rt:41:9
+returns : tie.Need-returns
+returns c = user-absent _ clearance-officers _ _ _ (c .before .before .before .before .before .before .pre) _ _ (c .before .before .before .a .ensures) (c .before .present .ensures) (eq-eqb _ _ (c .if1 .taken))
+
+-- src/lib.rt:43:9
+has-role-requires : tie.Need-has-role-requires
+has-role-requires c κs = search needs
+
+-- src/lib.rt:44:9
+same-length-2 : tie.Need-same-length-2
+same-length-2 c = search needs
+
+-- src/lib.rt:44:9
+returns-2 : tie.Need-returns-2
+returns-2 c = no-officer _ clearance-officers _ _ _ (c .before .before .before .before .before .before .before .before .before .pre) _ _ (c .before .before .before .before .before .before .a .ensures) (c .before .before .before .before .present .ensures) (ne-eqb _ _ (c .before .before .before .if1 .left)) _ (c .before .has-role .ensures) (not-true _ (c .if2 .taken))
+
+-- src/lib.rt:46:49
+b-requires : tie.Need-b-requires
+b-requires c κs = c .before .before .before .before .before .before .before .before .before .before .pre .climbed .ready .request
+
+-- src/lib.rt:46:9
+try-clearance-requires : tie.Need-try-clearance-requires
+try-clearance-requires c κs = let r = spoken _ _ (c .before .before .before .before .before .before .before .before .a .ensures) (arguments-in toClearance _ _ _ (c .before .before .before .before .before .before .before .before .before .before .before .pre) .0) in ((c .before .before .before .before .before .before .before .before .before .before .before .pre .climbed .ready .whole, r .0, r .1), c .before .before .before .before .before .before .before .before .before .before .before .pre .climbed .ready .good)
+
+-- src/lib.rt:47:9
+same-length-3 : tie.Need-same-length-3
+same-length-3 c = search needs
+
+-- src/lib.rt:47:9
+returns-3 : tie.Need-returns-3
+returns-3 c = rw (c .before .before .before .try-clearance .ensures .back (not-true _ (c .if3 .taken))) (clearance-13 _ _ _ (c .before .before .before .before .before .before .before .before .before .before .before .before .before .before .before .pre) _ _ (c .before .before .before .before .before .before .before .before .before .before .before .before .a .ensures) (c .before .before .before .before .before .before .before .before .before .before .present .ensures) (ne-eqb _ _ (c .before .before .before .before .before .before .before .before .before .if1 .left)) _ (c .before .before .before .before .before .before .before .has-role .ensures) (not-false _ (c .before .before .before .before .before .before .if2 .left)) _ (c .before .before .before .before .b .ensures) _ (c .before .before .before .try-clearance .ensures .secure) (not-true _ (c .if3 .taken)))
+
+-- src/lib.rt:35:1
+same-length-4 : tie.Need-same-length-4
+same-length-4 c = search needs
+
+-- src/lib.rt:35:1
+returns-4 : tie.Need-returns-4
+returns-4 c = clearance-done _ _ _ (c .before .before .before .before .before .before .before .before .before .before .before .before .before .before .before .pre) _ _ (c .before .before .before .before .before .before .before .before .before .before .before .before .a .ensures) (c .before .before .before .before .before .before .before .before .before .before .present .ensures) (ne-eqb _ _ (c .before .before .before .before .before .before .before .before .before .if1 .left)) _ (c .before .before .before .before .before .before .before .has-role .ensures) (not-false _ (c .before .before .before .before .before .before .if2 .left)) _ (c .before .before .before .before .b .ensures) _ (c .before .before .before .try-clearance .ensures .secure) (not-false _ (c .if3 .left)) _ (c .before .before .before .try-clearance .ensures .kept (not-false _ (c .if3 .left)))
+
+pub clearance-spec : {M : Type 1} → statement M
+clearance-spec =
+    tie.close
+    (tie.spec
+    a-requires
+    present-requires
+    same-length
+    returns
+    has-role-requires
+    same-length-2
+    returns-2
+    b-requires
+    try-clearance-requires
+    same-length-3
+    returns-3
+    same-length-4
+    returns-4)
