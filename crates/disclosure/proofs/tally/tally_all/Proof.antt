@@ -7,7 +7,6 @@ use Rattle.disclosure.specs.Visited.{followed}
 use Rattle.model.specs.List.Walk.{through, walk}
 use Rattle.disclosure.proofs.tally.tally_all.Statement.{statement}
 use Rattle.disclosure.proofs.tally.tally_all.Tie as tie
-use Rattle.disclosure.proofs.tally.tally_row.Reads as tally-row-reads
 
 abbrev Inv-loop : tie.InvT-loop
 Inv-loop t v b s₀ e₀ s e = (e ≤ 64) × (s ≡ length (followed t v e))

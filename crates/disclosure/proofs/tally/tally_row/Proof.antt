@@ -5,7 +5,6 @@ use Rattle.disclosure.specs.Tallied.{Tallied}
 use borrow.Author.Needs.{needs}
 use Rattle.disclosure.proofs.tally.tally_row.Statement.{statement}
 use Rattle.disclosure.proofs.tally.tally_row.Tie as tie
-use Rattle.disclosure.proofs.tally.tally.Reads as tally-reads
 
 abbrev Inv-loop : tie.InvT-loop
 Inv-loop t v b₀ k i₀ b i = (i ≤ 64) × Tallied t v (k * 64 + i) b

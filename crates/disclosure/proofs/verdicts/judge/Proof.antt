@@ -4,8 +4,6 @@ use Rattle.disclosure.specs.VerdictLaws.{verdict-weighed}
 use borrow.Author.Needs.{needs}
 use Rattle.disclosure.proofs.verdicts.judge.Statement.{statement}
 use Rattle.disclosure.proofs.verdicts.judge.Tie as tie
-use Rattle.disclosure.proofs.verdicts.is_showable.Reads as is-showable-reads
-use Rattle.disclosure.proofs.verdicts.weigh.Reads as weigh-reads
 
 is-bar-requires : tie.Need-is-bar-requires
 is-bar-requires c κs = search needs
