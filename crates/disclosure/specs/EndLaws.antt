@@ -12,9 +12,10 @@ use Rattle.disclosure.specs.VerdictLaws.{judged-found}
 use Rattle.disclosure.specs.Verdicts.{Judged}
 use Rattle.disclosure.specs.Visited.{Fits, followed}
 use Rattle.model.specs.List.AdmittedLaws.{barred-admitted}
-use Rattle.model.specs.List.Listing.{Lists, barred, entries}
+use Rattle.model.specs.List.Listing.{Lists, barred, entries, entryWords}
 use Rattle.model.specs.List.ListingLaws.{lists-found, lists-refused, lists-short, lists-written}
 use Rattle.model.specs.List.Ways.{found}
+use Rattle.model.specs.Request.Refusals as refusal
 use Rattle.model.specs.Tables.Layout.{tablesOf}
 use Rattle.model.specs.Tables.Words.{entityCount}
 
@@ -39,21 +40,22 @@ module _ (t : List ℕ) (u : ℕ) (v : List ℕ) (b : barred t u ≡ 0) (j : Jud
     count-is = sym (y ∙ ap length same-list)
 
     -- there is nothing to list, and any room is enough
-    pub end-none : (room : List ℕ) → n ≡ 0 → Lists t u room 0 0 room
+    pub end-none : (room : List ℕ) → n ≡ 0 → Lists t u room refusal.accepted 0 room
     unfolding entries
     end-none room z = lists-found t u room [] b (empty (found (tablesOf t) u) (count-is ∙ z)) (omega arith)
 
     -- the room is too short
-    pub end-short : (room : List ℕ) → length room < n * 5 → Lists t u room 17 n room
-    end-short room h = subst (λ (m : ℕ). Lists t u room 17 m room) count-is (lists-short t u room b (omega (arith, count-is)))
+    pub end-short : (room : List ℕ) → length room < n * entryWords → Lists t u room refusal.tooShort n room
+    end-short room h = subst (λ (m : ℕ). Lists t u room refusal.tooShort m room) count-is (lists-short t u room b (omega (arith, count-is)))
 
     -- the room suffices
-    pub end-fits : (room : List ℕ) → n * 5 ≤ length room → Fits room 0 (followed t v entityCount)
+    pub end-fits : (room : List ℕ) → n * entryWords ≤ length room → Fits room 0 (followed t v entityCount)
     end-fits room h = omega (arith, y)
 
     -- the walk over the room has written the entries
-    pub end-written : (room s : List ℕ) → n * 5 ≤ length room → s ≡ sets room 0 (entries (followed t v entityCount)) → Lists t u room 0 n s
-    end-written room s h z = subst (λ (k : ℕ). Lists t u room 0 k s) count-is (lists-written t u room s b (omega (arith, count-is)) put)
+    pub end-written : (room s : List ℕ) → n * entryWords ≤ length room → s ≡ sets room 0 (entries (followed t v entityCount))
+        → Lists t u room refusal.accepted n s
+    end-written room s h z = subst (λ (k : ℕ). Lists t u room refusal.accepted k s) count-is (lists-written t u room s b (omega (arith, count-is)) put)
       where
         put : s ≡ entries (found (tablesOf t) u) ++ drop (length (entries (found (tablesOf t) u))) room
         put = z ∙ ap (λ (l : List (List ℕ)). sets room 0 (entries l)) same-list

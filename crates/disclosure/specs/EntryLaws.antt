@@ -1,4 +1,4 @@
--- Entries as words in the room. Stores one behind another are one run of stores, and two runs, the second where the first ends, are one.
+-- Entries as words in the room. Stores one after another are one run of stores, and two runs, the second where the first ends, are one.
 use mathlib.Core.Bool.{Bool, false, true}
 use mathlib.Core.List.{List, [], _++_, _∷_, map}
 use mathlib.Core.Path.{_∙_, _≡_, ap, ap₂, refl, sym}
@@ -12,29 +12,30 @@ use lib.Seq.{append-snoc, getD-set-other, getD-take, length-take-le, sets, take-
 use borrow.Author.Tests.{ltb-false, ltb-true}
 use Rattle.disclosure.specs.Visited.{Padded, entriesOf}
 use Rattle.model.specs.List.Listing.{entries, entry, entryWords}
+use Rattle.model.specs.Request.Words.{nameCount}
 
 -- ---- names that are padded with zeros
 
-padded-at : (ns : List ℕ) (n k : ℕ) → n ≤ 4 → Padded ns n → getD (take n ns) k 0 ≡ getD ns k 0
+padded-at : (ns : List ℕ) (n k : ℕ) → n ≤ nameCount → Padded ns n → getD (take n ns) k 0 ≡ getD ns k 0
 padded-at ns n k l p = go (ltb k n) refl
   where
     go : (b : Bool) → ltb k n ≡ b → getD (take n ns) k 0 ≡ getD ns k 0
     go true e = getD-take n ns k 0 (ltb-true k n e)
     go false e =
         let h : n ≤ k = ltb-false k n e in
-        let f : length ns ≡ 4 = p .four in
+        let f : length ns ≡ nameCount = p .size in
         List·getD-eq-default (take n ns) 0 (omega (arith, length-take-le n ns (omega arith))) ∙ sym (p .zeros k h)
 
--- their entry has the four words as they are
-entry-padded : (ns : List ℕ) (n : ℕ) → n ≤ 4 → Padded ns n → entry (take n ns) ≡ n ∷ getD ns 0 0 ∷ getD ns 1 0 ∷ getD ns 2 0 ∷ getD ns 3 0 ∷ []
+-- their entry has the words of the names as they are
+entry-padded : (ns : List ℕ) (n : ℕ) → n ≤ nameCount → Padded ns n → entry (take n ns) ≡ n ∷ getD ns 0 0 ∷ getD ns 1 0 ∷ getD ns 2 0 ∷ getD ns 3 0 ∷ []
 entry-padded ns n l p =
-    let f : length ns ≡ 4 = p .four in
+    let f : length ns ≡ nameCount = p .size in
     let e : length (take n ns) ≡ n = length-take-le n ns (omega arith) in
     rw (e, padded-at ns n 0 l p, padded-at ns n 1 l p, padded-at ns n 2 l p, padded-at ns n 3 l p) refl
 
 -- one name, and one name more
 pub padded-one : (x : ℕ) → Padded (x ∷ 0 ∷ 0 ∷ 0 ∷ []) 1
-padded-one x = record { four = refl; zeros = go }
+padded-one x = record { size = refl; zeros = go }
   where
     go : (k : ℕ) → 1 ≤ k → getD (x ∷ 0 ∷ 0 ∷ 0 ∷ []) k 0 ≡ 0
     go zero h = absurd (omega arith)
@@ -45,26 +46,27 @@ padded-one x = record { four = refl; zeros = go }
 
 pub padded-more : (ns : List ℕ) (n m x : ℕ) → m ≡ n + 1 → Padded ns n → Padded (set ns n x) m
 padded-more ns n m x e p = record {
-  four = length-set ns n x ∙ p .four;
+  size = length-set ns n x ∙ p .size;
   zeros = λ k h. getD-set-other ns n k x 0 (λ q. omega arith) ∙ p .zeros k (omega arith);
 }
 
-pub take-more : (ns : List ℕ) (n m x : ℕ) → m ≡ n + 1 → n < 4 → Padded ns n → take m (set ns n x) ≡ take n ns ++ (x ∷ [])
+pub take-more : (ns : List ℕ) (n m x : ℕ) → m ≡ n + 1 → n < nameCount → Padded ns n → take m (set ns n x) ≡ take n ns ++ (x ∷ [])
 take-more ns n m x e l p =
-    let f : length ns ≡ 4 = p .four in
+    let f : length ns ≡ nameCount = p .size in
     let h : n < length ns = omega arith in
     rw (e, add-one) (take-suc-set ns n x h)
 
 -- ---- runs of stores
 
-five-stores : (l : List ℕ) (at a b c d e : ℕ) → set (set (set (set (set l at a) (at + 1) b) (at + 2) c) (at + 3) d) (at + 4) e ≡ sets l at (a ∷ b ∷ c ∷ d ∷ e ∷ [])
-five-stores l at a b c d e = simp towards-suc
+entry-stores : (l : List ℕ) (at a b c d e : ℕ)
+    → set (set (set (set (set l at a) (at + 1) b) (at + 2) c) (at + 3) d) (at + 4) e ≡ sets l at (a ∷ b ∷ c ∷ d ∷ e ∷ [])
+entry-stores l at a b c d e = simp towards-suc
 
--- the five stores of an entry
-pub entry-stored : (l : List ℕ) (at n : ℕ) (ns : List ℕ) → n ≤ 4 → Padded ns n
+-- the stores of an entry
+pub entry-stored : (l : List ℕ) (at n : ℕ) (ns : List ℕ) → n ≤ nameCount → Padded ns n
     → set (set (set (set (set l at n) (at + 1) (getD ns 0 0)) (at + 2) (getD ns 1 0)) (at + 3) (getD ns 2 0)) (at + 4) (getD ns 3 0)
     ≡ sets l at (entry (take n ns))
-entry-stored l at n ns h p = five-stores l at n (getD ns 0 0) (getD ns 1 0) (getD ns 2 0) (getD ns 3 0) ∙ ap (sets l at) (sym (entry-padded ns n h p))
+entry-stored l at n ns h p = entry-stores l at n (getD ns 0 0) (getD ns 1 0) (getD ns 2 0) (getD ns 3 0) ∙ ap (sets l at) (sym (entry-padded ns n h p))
 
 sets-append : (a b l : List ℕ) (i : ℕ) → sets (sets l i a) (i + length a) b ≡ sets l i (a ++ b)
 sets-append [] b l i = rw add-zero refl
@@ -84,7 +86,7 @@ entries-append (r ∷ a) b = ap (λ (l : List ℕ). entry r ++ l) (entries-appen
 entriesOf-append : (pre : List ℕ) (a b : List (List ℕ)) → entriesOf pre (a ++ b) ≡ entriesOf pre a ++ entriesOf pre b
 entriesOf-append pre a b = ap entries (map-append (λ r. pre ++ r) a b) ∙ entries-append (map (λ r. pre ++ r) a) (map (λ r. pre ++ r) b)
 
--- a name in front of every continuation is a name behind what begins them
+-- a name in front of every continuation is a name after what begins them
 pub entriesOf-under : (pre : List ℕ) (x : ℕ) (l : List (List ℕ)) → entriesOf pre (map (λ r. x ∷ r) l) ≡ entriesOf (pre ++ (x ∷ [])) l
 entriesOf-under pre x l = ap entries (go l)
   where
@@ -105,10 +107,11 @@ entriesOf-whole l = ap entries (go l)
     go [] = refl
     go (r ∷ l) = ap (λ (b : List (List ℕ)). r ∷ b) (go l)
 
--- the entries of two lists, one behind the other
+-- the entries of two lists, one after the other
 pub stored-both : (pre l m r : List ℕ) (i j : ℕ) (a b : List (List ℕ)) → j ≡ i + entryWords * length a → m ≡ sets l i (entriesOf pre a)
     → r ≡ sets m j (entriesOf pre b) → r ≡ sets l i (entriesOf pre (a ++ b))
 stored-both pre l m r i j a b h p q =
-    let n : length (entriesOf pre a) ≡ entryWords * length a = entries-length (map (λ r. pre ++ r) a) ∙ ap (λ (k : ℕ). entryWords * k) (length-map a (λ r. pre ++ r)) in
+    let n : length (entriesOf pre a) ≡ entryWords * length a =
+    entries-length (map (λ r. pre ++ r) a) ∙ ap (λ (k : ℕ). entryWords * k) (length-map a (λ r. pre ++ r)) in
     q ∙ ap₂ (λ (x : List ℕ) (k : ℕ). sets x k (entriesOf pre b)) p (h ∙ ap (λ (k : ℕ). i + k) (sym n))
     ∙ sets-append (entriesOf pre a) (entriesOf pre b) l i ∙ ap (sets l i) (sym (entriesOf-append pre a b))

@@ -8,10 +8,10 @@ use native.Mathlib.Omega.{arith}
 use lib.Dec.{eqb}
 use lib.ListN.{getD, length, length-append, length-map, length-set, set}
 use lib.Seq.{getD-set-other, getD-set-same}
-use Rattle.disclosure.specs.Tallied.{Tallied, tallyWords}
-use Rattle.disclosure.specs.Verdicts.{Guided, leads, listed}
+use Rattle.disclosure.specs.Tallied.{Tallied, lastRow, tallyWords}
+use Rattle.disclosure.specs.Verdicts.{Guided, leads, listed, wayWeight}
 use Rattle.disclosure.specs.VisitLaws.{followed-more, inside-more, visit-last, visit-more}
-use Rattle.disclosure.specs.Visited.{followed, inside, under}
+use Rattle.disclosure.specs.Visited.{followed, furtherMost, inside, under}
 use Rattle.model.specs.Basics.Choice.{Same, it, other, same}
 use Rattle.model.specs.List.BoundLaws.{through-grows, visit-bound, walk-bound}
 use Rattle.model.specs.List.Reach.{reach}
@@ -37,8 +37,14 @@ module _ (t v : List ℕ) where
     arith,
     length-append (here (listed v e)) (through (leads v e) (λ p. under t v k (standing (tablesOf t) e p))),
     length-append (here (listed v e)) (through (leads v e) (λ p. under t v (suc k) (standing (tablesOf t) e p))),
-    through-least (leads v e) (λ p. under t v k (standing (tablesOf t) e p)) (λ p. under t v (suc k) (standing (tablesOf t) e p)) (λ p. under-grows k (standing (tablesOf t) e p)),
+    through-least (leads v e) (λ p. under t v k (standing (tablesOf t) e p)) (λ p. under t v (suc k) (standing (tablesOf t) e p))
+        (λ p. under-grows k (standing (tablesOf t) e p)),
   )
+
+  -- and so do several
+  under-grown : (j k e : ℕ) → length (under t v k e) ≤ length (under t v (j + k) e)
+  under-grown zero k e = let q : zero + k ≡ k = omega arith in rw q (omega arith)
+  under-grown (suc j) k e = let q : suc j + k ≡ suc (j + k) = omega arith in rw q (omega (arith, under-grown j k e, under-grows (j + k) e))
 
   inside-under : (k e : ℕ) → length (inside t v k e (leads v e)) ≤ length (under t v (suc k) e)
   unfolding visit
@@ -48,67 +54,68 @@ module _ (t v : List ℕ) where
     few : (e : ℕ) → leads v e ≤ placeCount
     few e = omega (arith, g .used e, g .ranged .room e)
 
-    -- at most 585 by three names, so by fewer
-    under-most : (e : ℕ) → length (under t v 3 e) ≤ reach 3
+    -- so many at most by all further names, so by fewer
+    under-most : (e : ℕ) → length (under t v furtherMost e) ≤ reach furtherMost
     under-most e = visit-bound (leads v) (standing (tablesOf t)) (listed v) few e
 
-    pub under-few : (k e : ℕ) → k ≤ 3 → length (under t v k e) ≤ reach 3
-    under-few zero e h = omega (arith, under-grows 0 e, under-grows 1 e, under-grows 2 e, under-most e)
-    under-few (suc zero) e h = omega (arith, under-grows 1 e, under-grows 2 e, under-most e)
-    under-few (suc (suc zero)) e h = omega (arith, under-grows 2 e, under-most e)
-    under-few (suc (suc (suc zero))) e h = under-most e
-    under-few (suc (suc (suc (suc k)))) e h = absurd (omega arith)
+    pub under-few : (k e : ℕ) → k ≤ furtherMost → length (under t v k e) ≤ reach furtherMost
+    under-few k e h =
+        let q : furtherMost - k + k ≡ furtherMost = omega arith in
+        omega (arith, rw q at (under-grown (furtherMost - k) k e), under-most e)
 
-    pub inside-few : (k e p : ℕ) → k ≤ 2 → p ≤ leads v e → length (inside t v k e p) ≤ reach 3
+    pub inside-few : (k e p : ℕ) → k < furtherMost → p ≤ leads v e → length (inside t v k e p) ≤ reach furtherMost
     inside-few k e p h l =
         omega (arith, through-grows p (leads v e) (λ j. under t v k (standing (tablesOf t) e j)) l, under-few (suc k) e (omega arith), inside-under k e)
 
-    pub followed-few : (n : ℕ) → length (followed t v n) ≤ n * reach 3
+    pub followed-few : (n : ℕ) → length (followed t v n) ≤ n * reach furtherMost
     followed-few n = walk-bound (leads v) (standing (tablesOf t)) (listed v) few n
 
   -- ---- what one entity has
 
   -- the last bit of a verdict counts the entity itself
-  bit-here : (e : ℕ) → getD v e 0 % 2 ≡ length (here (listed v e))
+  bit-here : (e : ℕ) → getD v e 0 % wayWeight ≡ length (here (listed v e))
   unfolding listed
-  bit-here e = go (getD v e 0 % 2) (omega arith)
+  bit-here e = go (getD v e 0 % wayWeight) (omega arith)
     where
-      go : (x : ℕ) → x < 2 → x ≡ length (here (eqb x 1))
+      go : (x : ℕ) → x < wayWeight → x ≡ length (here (eqb x 1))
       go zero h = refl
       go (suc zero) h = refl
       go (suc (suc x)) h = absurd (omega arith)
 
-  pub tally-last : (k e : ℕ) → k ≡ 0 → getD v e 0 % 2 ≡ length (under t v k e)
+  pub tally-last : (k e : ℕ) → k ≡ 0 → getD v e 0 % wayWeight ≡ length (under t v k e)
   tally-last k e z = bit-here e ∙ ap length (sym (visit-last t v k e z))
 
-  pub tally-more : (k e s : ℕ) → k ≢ 0 → s ≡ length (inside t v (k - 1) e (leads v e)) → getD v e 0 % 2 + s ≡ length (under t v k e)
+  pub tally-more : (k e s : ℕ) → k ≢ 0 → s ≡ length (inside t v (k - 1) e (leads v e)) → getD v e 0 % wayWeight + s ≡ length (under t v k e)
   tally-more k e s z h =
       omega (arith, bit-here e, ap length (visit-more t v k e z), length-append (here (listed v e)) (inside t v (k - 1) e (leads v e)))
 
   -- ---- rows of tallies
 
   module _ (b : List ℕ) where
-    pub tallied-none : length b ≡ 257 → Tallied t v 0 b
+    pub tallied-none : length b ≡ suc tallyWords → Tallied t v 0 b
     tallied-none h = record { size = h; told = λ k e low high l. absurd (omega arith) }
 
     pub tallied-less : (m n : ℕ) → m ≤ n → Tallied t v n b → Tallied t v m b
     tallied-less m n h y = record { size = y .size; told = λ k e low high l. y .told k e low high (omega arith) }
 
     -- the next word of a row
-    pub tallied-more : (k i x : ℕ) → k ≤ 3 → i < entityCount → Tallied t v (k * entityCount + i) b → x ≡ length (under t v k (i + 1))
+    pub tallied-more : (k i x : ℕ) → k ≤ furtherMost → i < entityCount → Tallied t v (k * entityCount + i) b → x ≡ length (under t v k (i + 1))
         → Tallied t v (k * entityCount + (i + 1)) (set b (k * entityCount + (i + 1)) x)
     tallied-more k i x few l y h = record {
       size = length-set b (k * entityCount + (i + 1)) x ∙ y .size;
-      told = λ j c low high m. go j c low high m (eqb (j * entityCount + c) (k * entityCount + (i + 1))) (same (j * entityCount + c) (k * entityCount + (i + 1)));
+      told = λ j c low high m. go j c low high m (eqb (j * entityCount + c) (k * entityCount + (i + 1)))
+          (same (j * entityCount + c) (k * entityCount + (i + 1)));
     }
       where
-        go : (j c : ℕ) → 1 ≤ c → c ≤ entityCount → j * entityCount + c ≤ k * entityCount + (i + 1) → (s : Bool) → Same (j * entityCount + c) (k * entityCount + (i + 1)) s
+        go : (j c : ℕ) → 1 ≤ c → c ≤ entityCount → j * entityCount + c ≤ k * entityCount + (i + 1) → (s : Bool)
+            → Same (j * entityCount + c) (k * entityCount + (i + 1)) s
             → getD (set b (k * entityCount + (i + 1)) x) (j * entityCount + c) 0 ≡ length (under t v j c)
         go j c low high m true (it w) =
             let row : k ≡ j = omega arith in
             let at : i + 1 ≡ c = omega arith in
             let room : k * entityCount + (i + 1) < length b = omega (arith, y .size) in
-            rw w (getD-set-same b (k * entityCount + (i + 1)) x 0 room ∙ h) ∙ ap (λ (r : ℕ). length (under t v r (i + 1))) row ∙ ap (λ (r : ℕ). length (under t v j r)) at
+            rw w (getD-set-same b (k * entityCount + (i + 1)) x 0 room ∙ h) ∙ ap (λ (r : ℕ). length (under t v r (i + 1))) row
+            ∙ ap (λ (r : ℕ). length (under t v j r)) at
         go j c low high m false (other w) = getD-set-other b (k * entityCount + (i + 1)) (j * entityCount + c) x 0 w ∙ y .told j c low high (omega arith)
 
     module _ (n : ℕ) (y : Tallied t v n b) where
@@ -125,21 +132,22 @@ module _ (t v : List ℕ) where
       )
 
       -- the last row tells what each entity begins
-      pub last-row : (p : ℕ) → p < entityCount → tallyWords ≤ n → getD b (193 + p) 0 ≡ length (under t v 3 (p + 1))
+      pub last-row : (p : ℕ) → p < entityCount → tallyWords ≤ n → getD b (lastRow + p) 0 ≡ length (under t v furtherMost (p + 1))
       last-row p h l =
-          let at : 193 + p ≡ 3 * entityCount + (p + 1) = omega arith in
-          ap (λ (i : ℕ). getD b i 0) at ∙ y .told 3 (p + 1) (omega arith) (omega arith) (omega arith)
+          let at : lastRow + p ≡ furtherMost * entityCount + (p + 1) = omega arith in
+          ap (λ (i : ℕ). getD b i 0) at ∙ y .told furtherMost (p + 1) (omega arith) (omega arith) (omega arith)
 
       -- one entity more
-      pub tally-entity : (p s : ℕ) → p < entityCount → tallyWords ≤ n → s ≡ length (followed t v p) → s + getD b (193 + p) 0 ≡ length (followed t v (p + 1))
+      pub tally-entity : (p s : ℕ) → p < entityCount → tallyWords ≤ n → s ≡ length (followed t v p) → s + getD b (lastRow + p) 0 ≡ length (followed t v (p + 1))
       tally-entity p s h l q = omega (
         arith,
         last-row p h l,
         ap length (followed-more t v p),
-        length-append (followed t v p) (map (λ r. (p + 1) ∷ r) (under t v 3 (p + 1))),
-        length-map (under t v 3 (p + 1)) (λ r. (p + 1) ∷ r),
+        length-append (followed t v p) (map (λ r. (p + 1) ∷ r) (under t v furtherMost (p + 1))),
+        length-map (under t v furtherMost (p + 1)) (λ r. (p + 1) ∷ r),
       )
 
       -- nothing goes on from an entity with the tally 0
-      pub tally-nothing : (k e : ℕ) → k ≤ 3 → tallyWords ≤ n → 1 ≤ e → e ≤ entityCount → getD b (k * entityCount + e) 0 ≡ 0 → length (under t v k e) ≡ 0
+      pub tally-nothing : (k e : ℕ) → k ≤ furtherMost → tallyWords ≤ n → 1 ≤ e → e ≤ entityCount → getD b (k * entityCount + e) 0 ≡ 0
+          → length (under t v k e) ≡ 0
       tally-nothing k e h l low high z = sym (y .told k e low high (omega arith)) ∙ z

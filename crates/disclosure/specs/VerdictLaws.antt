@@ -10,8 +10,8 @@ use lib.Seq.{getD-set-other, getD-set-same}
 use borrow.Author.Tests.{leb-false, leb-true}
 use Rattle.model.specs.Basics.TestLaws.{only}
 use Rattle.model.specs.List.Admitted.{Admitted}
-use Rattle.disclosure.specs.Verdicts.{Guided, Judged, leads, listed, verdict}
-use Rattle.disclosure.specs.Visited.{followed}
+use Rattle.disclosure.specs.Verdicts.{Guided, Judged, leads, listed, verdict, wayWeight}
+use Rattle.disclosure.specs.Visited.{followed, furtherMost}
 use Rattle.model.specs.Basics.Choice.{Same, it, other, pick, same}
 use Rattle.model.specs.Level.{atMost}
 use Rattle.model.specs.List.ListingLaws.{ways-used}
@@ -36,29 +36,29 @@ bit-small true = omega arith
 bit-small false = omega arith
 
 -- a verdict is weighed from whether the way on is shut, how many places are used, and whether the entity may be shown
-pub verdict-weighed : (d : Tables) (u e l : ℕ) (shut : Bool) (used : ℕ) (shown : Bool) → l ≡ d .user u clearance → shut ≡ bar d l e
-    → used ≡ usedPlaces d e → shown ≡ showable d u e → pick shut 0 used * 2 + pick shown 1 0 ≡ verdict d u e
+pub verdict-weighed : (d : Tables) (u e l : ℕ) (shut : Bool) (n : ℕ) (shown : Bool) → l ≡ d .user u clearance → shut ≡ bar d l e
+    → n ≡ usedPlaces d e → shown ≡ showable d u e → pick shut 0 n * wayWeight + pick shown 1 0 ≡ verdict d u e
 unfolding verdict ways
-verdict-weighed d u e l shut used shown c s n w = rw (s, n, w, c, bars-one d (d .user u clearance) e)
+verdict-weighed d u e l shut n shown c s p w = rw (s, p, w, c, bars-one d (d .user u clearance) e)
 
 -- ---- what a verdict tells
 
 module _ (d : Tables) (u e x : ℕ) (h : x ≡ verdict d u e) where
-  told-ways : x / 2 ≡ ways d u e
+  told-ways : x / wayWeight ≡ ways d u e
   unfolding verdict
-  told-ways = ap (λ (n : ℕ). n / 2) h ∙ go (showable d u e) (ways d u e)
+  told-ways = ap (λ (n : ℕ). n / wayWeight) h ∙ go (showable d u e) (ways d u e)
     where
-      go : (b : Bool) (n : ℕ) → (n * 2 + pick b 1 0) / 2 ≡ n
+      go : (b : Bool) (n : ℕ) → (n * wayWeight + pick b 1 0) / wayWeight ≡ n
       go true n = omega arith
       go false n = omega arith
 
-  told-showable : eqb (x % 2) 1 ≡ showable d u e
+  told-showable : eqb (x % wayWeight) 1 ≡ showable d u e
   unfolding verdict
-  told-showable = ap (λ (n : ℕ). eqb (n % 2) 1) h ∙ go (showable d u e) (ways d u e)
+  told-showable = ap (λ (n : ℕ). eqb (n % wayWeight) 1) h ∙ go (showable d u e) (ways d u e)
     where
-      go : (b : Bool) (n : ℕ) → eqb ((n * 2 + pick b 1 0) % 2) 1 ≡ b
-      go true n = let q : (n * 2 + 1) % 2 ≡ 1 = omega arith in rw q refl
-      go false n = let q : (n * 2 + 0) % 2 ≡ 0 = omega arith in rw q refl
+      go : (b : Bool) (n : ℕ) → eqb ((n * wayWeight + pick b 1 0) % wayWeight) 1 ≡ b
+      go true n = let q : (n * wayWeight + 1) % wayWeight ≡ 1 = omega arith in rw q refl
+      go false n = let q : (n * wayWeight + 0) % wayWeight ≡ 0 = omega arith in rw q refl
 
 -- a place that leads on holds an entity, and is one of eight
 module _ (t v : List ℕ) (g : Guided t v) (e n p : ℕ) (q : n ≡ leads v e) (l : p < n) where
@@ -73,7 +73,7 @@ module _ (t v : List ℕ) (g : Guided t v) (e n p : ℕ) (q : n ≡ leads v e) (
 
 -- ---- the verdicts on all
 
-pub judged-none : (d : Tables) (u : ℕ) (v : List ℕ) → length v ≡ 65 → getD v 0 0 ≡ 0 → Judged d u 0 v
+pub judged-none : (d : Tables) (u : ℕ) (v : List ℕ) → length v ≡ suc entityCount → getD v 0 0 ≡ 0 → Judged d u 0 v
 judged-none d u v h z = record { size = h; first = z; told = λ e a b. absurd (omega arith) }
 
 pub judged-more : (d : Tables) (u i x : ℕ) (v : List ℕ) → i < entityCount → Judged d u i v → x ≡ verdict d u (i + 1) → Judged d u (i + 1) (set v (i + 1) x)
@@ -129,4 +129,4 @@ module _ (t : List ℕ) (u : ℕ) (v : List ℕ) (a : Admitted t u) (j : Judged 
   pub judged-found : followed t v entityCount ≡ found (tablesOf t) u
   unfolding d leads listed found
   judged-found i = walk (λ e. told-ways (tablesOf t) u e (getD v e 0) (word-verdict e) i) (standing (tablesOf t))
-      (λ e. told-showable (tablesOf t) u e (getD v e 0) (word-verdict e) i) 3 entityCount
+      (λ e. told-showable (tablesOf t) u e (getD v e 0) (word-verdict e) i) furtherMost entityCount

@@ -19,16 +19,20 @@ pub record Asker (t : List ℕ) (u c s : ℕ) : Type 0 where
   pub clearance : c ≡ tablesOf t .user u clearance
   pub screen : s ≡ levelOf (tablesOf t) (devices (tablesOf t) u)
 
--- Twice the places that lead on, and one more where the entity may be shown.
+-- a place that leads on weighs so much in a verdict
+abbrev pub wayWeight : ℕ
+wayWeight = 2
+
+-- The places that lead on by their weight, and one more where the entity may be shown.
 unfoldable pub verdict : Tables → ℕ → ℕ → ℕ
-verdict d u e = ways d u e * 2 + pick (showable d u e) 1 0
+verdict d u e = ways d u e * wayWeight + pick (showable d u e) 1 0
 
 -- What a word of verdicts says: how many places lead on, and whether the entity is to be listed.
 unfoldable pub leads : List ℕ → ℕ → ℕ
-leads v e = getD v e 0 / 2
+leads v e = getD v e 0 / wayWeight
 
 unfoldable pub listed : List ℕ → ℕ → Bool
-listed v e = eqb (getD v e 0 % 2) 1
+listed v e = eqb (getD v e 0 % wayWeight) 1
 
 -- v has the verdicts on the entities 1 to n, each at its number; its word 0 is for no entity
 pub record Judged (d : Tables) (u n : ℕ) (v : List ℕ) : Type 0 where

@@ -11,11 +11,12 @@ use lib.ListN.{length, length-append, length-map, set, take}
 use lib.Seq.{length-sets, sets}
 use Rattle.disclosure.specs.EntryLaws.{entriesOf-under, entriesOf-whole, stored-both, take-more}
 use Rattle.disclosure.specs.Verdicts.{leads, listed}
-use Rattle.disclosure.specs.Visited.{Fits, Padded, Visited, entriesOf, followed, inside, under}
+use Rattle.disclosure.specs.Visited.{Fits, Padded, Visited, entriesOf, followed, furtherMost, inside, under}
 use Rattle.model.specs.List.BoundLaws.{through-grows, through-more}
 use Rattle.model.specs.List.Listing.{entries, entry, entryWords}
 use Rattle.model.specs.List.Walk.{here, through, visit, walk}
 use Rattle.model.specs.Request.Reference.{standing}
+use Rattle.model.specs.Request.Words.{nameCount}
 use Rattle.model.specs.Tables.Layout.{tablesOf}
 use Rattle.model.specs.Tables.Words.{places}
 
@@ -36,7 +37,7 @@ skipped : (a b : List (List ℕ)) (x : ℕ) → length b ≡ 0 → a ++ map (λ 
 skipped a [] x h = append-nil a
 skipped a (r ∷ b) x h = absurd (omega arith)
 
--- two visits, one behind the other
+-- two visits, one after the other
 visited-both : (pre l m r : List ℕ) (i j n : ℕ) (a b : List (List ℕ)) → Visited pre l i a j m → Visited pre m j b n r → Visited pre l i (a ++ b) n r
 visited-both pre l m r i j n a b p q =
     let f : j ≡ i + entryWords * length a = p .reach in
@@ -46,7 +47,7 @@ visited-both pre l m r i j n a b p q =
       wrote = stored-both pre l m r i j a b f (p .wrote) (q .wrote);
     }
 
--- a visit with one name more behind what begins its entries is a visit of what that name begins
+-- a visit with one name more after what begins its entries is a visit of what that name begins
 visited-under : (pre more l r : List ℕ) (x i n : ℕ) (a : List (List ℕ)) → more ≡ pre ++ (x ∷ []) → Visited more l i a n r
     → Visited pre l i (map (λ s. x ∷ s) a) n r
 visited-under pre more l r x i n a e y =
@@ -56,7 +57,7 @@ visited-under pre more l r x i n a e y =
       wrote = y .wrote ∙ ap (λ (o : List ℕ). sets l i (entriesOf o a)) e ∙ ap (sets l i) (sym (entriesOf-under pre x a));
     }
 
--- what one of the names leads to has space behind what the names before it led to, where the room has space for all
+-- what one of the names leads to has space after what the names before it led to, where the room has space for all
 visited-next : (f : ℕ → List (List ℕ)) (p m : ℕ) (pre l x : List ℕ) (at i : ℕ) → p < m → Visited pre l at (through p f) i x → Fits l at (through m f)
     → Fits x i (f (p + 1))
 visited-next f p m pre l x at i lt y room =
@@ -76,14 +77,14 @@ visited-next f p m pre l x at i lt y room =
 pub here-no : (b : Bool) (pre l : List ℕ) (i : ℕ) → b ≡ false → Visited pre l i (here b) i l
 here-no b pre l i h = visited-as pre l l i i [] (here b) (ap here (sym h)) (visited-none pre l i)
 
--- one that is to be listed has space for its five words
-pub here-next : (b : Bool) (l : List ℕ) (i : ℕ) → b ≡ true → Fits l i (here b) → i + 5 ≤ length l
+-- one that is to be listed has space for its words
+pub here-next : (b : Bool) (l : List ℕ) (i : ℕ) → b ≡ true → Fits l i (here b) → i + entryWords ≤ length l
 here-next b l i h f = subst (λ (x : Bool). Fits l i (here x)) h f
 
-pub here-yes : (b : Bool) (pre l r : List ℕ) (i : ℕ) → b ≡ true → r ≡ sets l i (entry pre) → Visited pre l i (here b) (i + 5) r
+pub here-yes : (b : Bool) (pre l r : List ℕ) (i : ℕ) → b ≡ true → r ≡ sets l i (entry pre) → Visited pre l i (here b) (i + entryWords) r
 unfolding entries
 here-yes b pre l r i h q =
-    visited-as pre l r i (i + 5) (here true) (here b) (ap here (sym h))
+    visited-as pre l r i (i + entryWords) (here true) (here b) (ap here (sym h))
     (record { reach = refl; wrote = q ∙ ap (λ (o : List ℕ). sets l i (entry o)) (sym (append-nil pre)) })
 
 -- ---- an entity and its places
@@ -119,10 +120,17 @@ module _ (t v : List ℕ) where
           visit-more (suc k) e (λ q. omega arith) ∙ ap (λ (m : ℕ). here (listed v e) ++ inside t v (suc k - 1) e m) z ∙ append-nil (here (listed v e))
 
   pub here-room : (k e : ℕ) (b : Bool) (l : List ℕ) (i : ℕ) → b ≡ listed v e → Fits l i (under t v k e) → Fits l i (here b)
-  here-room zero e b l i s h = let q : length (here b) ≡ length (under t v zero e) = ap (λ (x : Bool). length (here x)) s ∙ ap length (sym (visit-last zero e refl)) in omega arith
+  here-room zero e b l i s h =
+      let q : length (here b) ≡ length (under t v zero e) = ap (λ (x : Bool). length (here x)) s ∙ ap length (sym (visit-last zero e refl)) in
+      omega arith
   here-room (suc k) e b l i s h =
       let z : suc k ≢ 0 = λ q. omega arith in
-      omega (arith, ap (λ (x : Bool). length (here x)) s, ap length (visit-more (suc k) e z), length-append (here (listed v e)) (inside t v (suc k - 1) e (leads v e)))
+      omega (
+        arith,
+        ap (λ (x : Bool). length (here x)) s,
+        ap length (visit-more (suc k) e z),
+        length-append (here (listed v e)) (inside t v (suc k - 1) e (leads v e)),
+      )
 
   module _ (k e m : ℕ) (b : Bool) (z : k ≢ 0) (s : b ≡ listed v e) (w : m ≡ leads v e) where
     -- names are left: its places follow
@@ -154,7 +162,7 @@ module _ (t v : List ℕ) where
   places-done k e p n pre l r i j h y = visited-as pre l r i j (inside t v k e p) (inside t v k e n) (ap (inside t v k e) h) y
 
   module _ (k e p c : ℕ) (z : c ≡ places (tablesOf t) e p) where
-    pub places-turn : (ns : List ℕ) (a b : ℕ) (l x r : List ℕ) (at i n : ℕ) → Padded ns a → a < 4 → b ≡ a + 1
+    pub places-turn : (ns : List ℕ) (a b : ℕ) (l x r : List ℕ) (at i n : ℕ) → Padded ns a → a < nameCount → b ≡ a + 1
         → Visited (take a ns) l at (inside t v k e p) i x → Visited (take b (set ns a (p + 1))) x i (under t v k c) n r
         → Visited (take a ns) l at (inside t v k e (p + 1)) n r
     places-turn ns a b l x r at i n pad lt more y w =
@@ -164,10 +172,12 @@ module _ (t v : List ℕ) where
         (visited-under (take a ns) (take b (set ns a (p + 1))) x r (p + 1) i n (under t v k c) (take-more ns a b (p + 1) more lt pad) w))
 
     -- a place that leads to nothing is passed by
-    pub places-skip : (pre l r : List ℕ) (at i : ℕ) → length (under t v k c) ≡ 0 → Visited pre l at (inside t v k e p) i r → Visited pre l at (inside t v k e (p + 1)) i r
+    pub places-skip : (pre l r : List ℕ) (at i : ℕ) → length (under t v k c) ≡ 0 → Visited pre l at (inside t v k e p) i r
+        → Visited pre l at (inside t v k e (p + 1)) i r
     places-skip pre l r at i h y =
         visited-as pre l r at i (inside t v k e p) (inside t v k e (p + 1))
-        (sym (inside-more k e p ∙ skipped (inside t v k e p) (under t v k (places (tablesOf t) e p)) (p + 1) (ap (λ (d : ℕ). length (under t v k d)) (sym z) ∙ h))) y
+        (sym (inside-more k e p ∙ skipped (inside t v k e p) (under t v k (places (tablesOf t) e p)) (p + 1)
+        (ap (λ (d : ℕ). length (under t v k d)) (sym z) ∙ h))) y
 
     pub turn-room : (pre l x : List ℕ) (at i m : ℕ) → p < m → Visited pre l at (inside t v k e p) i x → Fits l at (inside t v k e m) → Fits x i (under t v k c)
     turn-room pre l x at i m lt y room =
@@ -179,24 +189,27 @@ module _ (t v : List ℕ) where
   unfolding walk through
   all-none l = visited-none [] l 0
 
-  pub followed-more : (p : ℕ) → followed t v (p + 1) ≡ followed t v p ++ map (λ o. (p + 1) ∷ o) (under t v 3 (p + 1))
+  pub followed-more : (p : ℕ) → followed t v (p + 1) ≡ followed t v p ++ map (λ o. (p + 1) ∷ o) (under t v furtherMost (p + 1))
   unfolding walk through
   followed-more p = rw add-one refl
 
   pub all-turn : (p : ℕ) (l x r : List ℕ) (i n : ℕ) → Visited [] l 0 (followed t v p) i x
-      → Visited ((p + 1) ∷ []) x i (under t v 3 (p + 1)) n r → Visited [] l 0 (followed t v (p + 1)) n r
+      → Visited ((p + 1) ∷ []) x i (under t v furtherMost (p + 1)) n r → Visited [] l 0 (followed t v (p + 1)) n r
   all-turn p l x r i n y w =
-      visited-as [] l r 0 n (followed t v p ++ map (λ o. (p + 1) ∷ o) (under t v 3 (p + 1))) (followed t v (p + 1)) (sym (followed-more p))
-      (visited-both [] l x r 0 i n (followed t v p) (map (λ o. (p + 1) ∷ o) (under t v 3 (p + 1))) y
-      (visited-under [] ((p + 1) ∷ []) x r (p + 1) i n (under t v 3 (p + 1)) refl w))
+      visited-as [] l r 0 n (followed t v p ++ map (λ o. (p + 1) ∷ o) (under t v furtherMost (p + 1))) (followed t v (p + 1)) (sym (followed-more p))
+      (visited-both [] l x r 0 i n (followed t v p) (map (λ o. (p + 1) ∷ o) (under t v furtherMost (p + 1))) y
+      (visited-under [] ((p + 1) ∷ []) x r (p + 1) i n (under t v furtherMost (p + 1)) refl w))
 
-  pub all-skip : (p : ℕ) (l r : List ℕ) (i : ℕ) → length (under t v 3 (p + 1)) ≡ 0 → Visited [] l 0 (followed t v p) i r → Visited [] l 0 (followed t v (p + 1)) i r
+  pub all-skip : (p : ℕ) (l r : List ℕ) (i : ℕ) → length (under t v furtherMost (p + 1)) ≡ 0 → Visited [] l 0 (followed t v p) i r
+      → Visited [] l 0 (followed t v (p + 1)) i r
   all-skip p l r i h y =
-      visited-as [] l r 0 i (followed t v p) (followed t v (p + 1)) (sym (followed-more p ∙ skipped (followed t v p) (under t v 3 (p + 1)) (p + 1) h)) y
+      visited-as [] l r 0 i (followed t v p) (followed t v (p + 1))
+      (sym (followed-more p ∙ skipped (followed t v p) (under t v furtherMost (p + 1)) (p + 1) h)) y
 
-  pub all-room : (p m : ℕ) (l x : List ℕ) (i : ℕ) → p < m → Visited [] l 0 (followed t v p) i x → Fits l 0 (followed t v m) → Fits x i (under t v 3 (p + 1))
+  pub all-room : (p m : ℕ) (l x : List ℕ) (i : ℕ) → p < m → Visited [] l 0 (followed t v p) i x → Fits l 0 (followed t v m)
+      → Fits x i (under t v furtherMost (p + 1))
   unfolding walk
-  all-room p m l x i lt y room = visited-next (under t v 3) p m [] l x 0 i lt y room
+  all-room p m l x i lt y room = visited-next (under t v furtherMost) p m [] l x 0 i lt y room
 
   -- the whole list is written
   pub all-done : (p n : ℕ) (l r : List ℕ) (j : ℕ) → p ≡ n → Visited [] l 0 (followed t v p) j r → r ≡ sets l 0 (entries (followed t v n))

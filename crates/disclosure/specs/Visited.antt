@@ -15,21 +15,25 @@ use Rattle.model.specs.Tables.Layout.{tablesOf}
 abbrev pub under : List ℕ → List ℕ → ℕ → ℕ → List (List ℕ)
 under t v k e = visit (leads v) (standing (tablesOf t)) (listed v) k e
 
--- those by the first n places of e, and at most k names behind
+-- those by the first n places of e, and at most k names after that
 abbrev pub inside : List ℕ → List ℕ → ℕ → ℕ → ℕ → List (List ℕ)
 inside t v k e n = through n (λ p. under t v k (standing (tablesOf t) e p))
 
+-- so many names may follow the first
+abbrev pub furtherMost : ℕ
+furtherMost = pred nameCount
+
 -- the references whose first name is one of 1 to n
 abbrev pub followed : List ℕ → List ℕ → ℕ → List (List ℕ)
-followed t v n = walk (leads v) (standing (tablesOf t)) (listed v) (pred nameCount) n
+followed t v n = walk (leads v) (standing (tablesOf t)) (listed v) furtherMost n
 
 -- the words of the references that begin with the names of pre and go on as the list says
 abbrev pub entriesOf : List ℕ → List (List ℕ) → List ℕ
 entriesOf pre l = entries (map (λ r. pre ++ r) l)
 
--- four words of names, of which those from n on are zero
+-- the words of all names, of which those from n on are zero
 pub record Padded (ns : List ℕ) (n : ℕ) : Type 0 where
-  pub four : length ns ≡ nameCount
+  pub size : length ns ≡ nameCount
   pub zeros : (k : ℕ) → n ≤ k → getD ns k 0 ≡ 0
 
 -- the room has space for the entries of l from word i on

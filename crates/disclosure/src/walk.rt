@@ -1,24 +1,28 @@
 // The walk: one function looks at an entity, the other goes through its places and hands each back to the first, as long as names are left.
 // The verdicts v say what is listed and how many places lead on, the tallies b from where nothing can be listed. The entries are stored one
-// behind the other, in a room that has space for them all.
+// after the other, in a room that has space for them all.
+use crate::sizes;
+use crate::verdicts;
+use names::size;
 use tables::Entity;
 ghost use mathlib.Core.Path.{_≡_};
 ghost use Prim.Native.Nat.{_+_, _-_, _<_, _≤_};
 ghost use lib.ListN.{length, take};
 ghost use lib.Seq.{sets};
 ghost use Rattle.disclosure.specs.Tallied.{Arrived, Tallied, tallyWords};
-ghost use Rattle.disclosure.specs.Visited.{Fits, Padded, Visited, followed, inside, under};
+ghost use Rattle.disclosure.specs.Visited.{Fits, Padded, Visited, followed, furtherMost, inside, under};
 ghost use Rattle.disclosure.specs.Verdicts.{Guided, leads};
-ghost use Rattle.model.specs.List.Listing.{entries, entry};
+ghost use Rattle.model.specs.List.Listing.{entries, entry, entryWords};
 ghost use Rattle.model.specs.List.Walk.{here};
+ghost use Rattle.model.specs.Request.Words.{nameCount};
 ghost use Rattle.model.specs.Tables.Words.{entityCount};
 
-// Stores the entry of all names but the last `left`.
-fn put_entry(left: usize, names: [u32; 4], room: &mut [u32], at: usize)
-    requires { ⌜ (left ≤ 3) × Padded names (4 - left) × (at + 5 ≤ length (now room)) ⌝ }
-    ensures { λ _. ⌜ now (room .exit) ≡ sets (now (room .entry)) at (entry (take (4 - left) names)) ⌝ }
+// Stores the entry of all names but the last `left`: how many they are, then each name, and 0 for those that are left.
+fn put_entry(left: usize, names: [u32; sizes::NAMES], room: &mut [u32], at: usize)
+    requires { ⌜ (left ≤ furtherMost) × Padded names (nameCount - left) × (at + entryWords ≤ length (now room)) ⌝ }
+    ensures { λ _. ⌜ now (room .exit) ≡ sets (now (room .entry)) at (entry (take (nameCount - left) names)) ⌝ }
 {
-    room[at] = (4 - left) as u32;
+    room[at] = (sizes::NAMES - left) as u32;
     room[at + 1] = names[0];
     room[at + 2] = names[1];
     room[at + 3] = names[2];
@@ -26,68 +30,77 @@ fn put_entry(left: usize, names: [u32; 4], room: &mut [u32], at: usize)
 }
 
 // Stores the entry if it is to be listed. Returns where the next one goes.
-fn visit_here(shown: bool, left: usize, names: [u32; 4], room: &mut [u32], at: usize) -> usize
-    requires { ⌜ (left ≤ 3) × Padded names (4 - left) × Fits (now room) at (here shown) ⌝ }
-    ensures { λ r. ⌜ Visited (take (4 - left) names) (now (room .entry)) at (here shown) r (now (room .exit)) ⌝ }
+fn visit_here(
+    shown: bool,
+    left: usize,
+    names: [u32; sizes::NAMES],
+    room: &mut [u32],
+    at: usize,
+) -> usize
+    requires { ⌜ (left ≤ furtherMost) × Padded names (nameCount - left) × Fits (now room) at (here shown) ⌝ }
+    ensures { λ r. ⌜ Visited (take (nameCount - left) names) (now (room .entry)) at (here shown) r (now (room .exit)) ⌝ }
 {
     if !shown {
         return at;
     }
     put_entry(left, names, room, at);
-    at + 5
+    at + size::ENTRY_WORDS
 }
 
 // Visits entity e, which the names before the last `left` lead to, and what they lead to by further names.
 fn visit_entity(
     t: &[u32],
-    v: &[u32; 65],
-    b: &[u32; 257],
+    v: &[u32; size::ENTITY_NUMBERS],
+    b: &[u32; sizes::TALLIES],
     e: Entity,
     left: usize,
-    names: [u32; 4],
+    names: [u32; sizes::NAMES],
     room: &mut [u32],
     at: usize,
 ) -> usize
     requires { ⌜ Arrived (now t) (now v) (now b) (e .0) left names × Fits (now room) at (under (now t) (now v) left (e .0)) ⌝ }
-    ensures { λ r. ⌜ Visited (take (4 - left) names) (now (room .entry)) at (under (now (t .entry)) (now (v .entry)) left (e .0)) r (now (room .exit)) ⌝ }
+    ensures { λ r. ⌜ Visited (take (nameCount - left) names) (now (room .entry)) at
+        (under (now (t .entry)) (now (v .entry)) left (e .0)) r (now (room .exit)) ⌝ }
 {
     let w = v[e.0 as usize];
-    let next = visit_here(w % 2 == 1, left, names, room, at);
+    let next = visit_here(w % verdicts::WAY == 1, left, names, room, at);
     if left == 0 {
         return next;
     }
-    visit_places(t, v, b, e, w / 2, left, names, room, next)
+    visit_places(t, v, b, e, w / verdicts::WAY, left, names, room, next)
 }
 
 // Visits the places of entity e that lead on, but for those from which nothing can be listed. What has no places that lead on is done with at
 // once: most visits are of that kind.
 fn visit_places(
     t: &[u32],
-    v: &[u32; 65],
-    b: &[u32; 257],
+    v: &[u32; size::ENTITY_NUMBERS],
+    b: &[u32; sizes::TALLIES],
     e: Entity,
     n: u32,
     left: usize,
-    names: [u32; 4],
+    names: [u32; sizes::NAMES],
     room: &mut [u32],
     at: usize,
 ) -> usize
-    requires { ⌜ Arrived (now t) (now v) (now b) (e .0) left names × (0 < left) × (n ≡ leads (now v) (e .0)) × Fits (now room) at (inside (now t) (now v) (left - 1) (e .0) n) ⌝ }
-    ensures { λ r. ⌜ Visited (take (4 - left) names) (now (room .entry)) at (inside (now (t .entry)) (now (v .entry)) (left - 1) (e .0) n) r (now (room .exit)) ⌝ }
+    requires { ⌜ Arrived (now t) (now v) (now b) (e .0) left names × (0 < left) × (n ≡ leads (now v) (e .0))
+        × Fits (now room) at (inside (now t) (now v) (left - 1) (e .0) n) ⌝ }
+    ensures { λ r. ⌜ Visited (take (nameCount - left) names) (now (room .entry)) at
+        (inside (now (t .entry)) (now (v .entry)) (left - 1) (e .0) n) r (now (room .exit)) ⌝ }
 {
     let mut i = at;
     let mut p: u32 = 0;
     while p < n {
         let c = tables::place(t, e, p);
-        if b[(left - 1) * 64 + c.0 as usize] == 0 {
+        if b[(left - 1) * sizes::ROW + c.0 as usize] == 0 {
             p += 1;
             continue;
         }
         let mut longer = names;
-        longer[4 - left] = p + 1;
+        longer[sizes::NAMES - left] = p + 1;
         let w = v[c.0 as usize];
-        if w < 2 {
-            i = visit_here(w % 2 == 1, left - 1, longer, room, i);
+        if w < verdicts::WAY {
+            i = visit_here(w % verdicts::WAY == 1, left - 1, longer, room, i);
             p += 1;
             continue;
         }
@@ -98,20 +111,25 @@ fn visit_places(
 }
 
 // Visits every entity from which something can be listed, by its number, and so writes the whole list from the front of the room.
-pub fn visit_all(t: &[u32], v: &[u32; 65], b: &[u32; 257], room: &mut [u32])
+pub fn visit_all(
+    t: &[u32],
+    v: &[u32; size::ENTITY_NUMBERS],
+    b: &[u32; sizes::TALLIES],
+    room: &mut [u32],
+)
     requires { ⌜ Guided (now t) (now v) × Tallied (now t) (now v) tallyWords (now b) × Fits (now room) 0 (followed (now t) (now v) entityCount) ⌝ }
     ensures { λ _. ⌜ now (room .exit) ≡ sets (now (room .entry)) 0 (entries (followed (now (t .entry)) (now (v .entry)) entityCount)) ⌝ }
 {
     let mut i: usize = 0;
     let mut e: u32 = 0;
-    while e < 64 {
-        if b[193 + e as usize] == 0 {
+    while e < size::ENTITIES {
+        if b[sizes::LAST_ROW + e as usize] == 0 {
             e += 1;
             continue;
         }
-        let mut names = [0u32; 4];
+        let mut names = [0u32; sizes::NAMES];
         names[0] = e + 1;
-        i = visit_entity(t, v, b, Entity(e + 1), 3, names, room, i);
+        i = visit_entity(t, v, b, Entity(e + 1), sizes::FURTHER, names, room, i);
         e += 1;
     }
 }

@@ -11,6 +11,7 @@ use Rattle.model.specs.Basics.Agree.{Agrees, agreement, agrees-T, agrees-and, a
 use Rattle.model.specs.Basics.Choice.{Below, below, over, under}
 use Rattle.model.specs.Basics.TestLaws.{T-l, equal-bools}
 use Rattle.model.specs.Basics.Tests.{every}
+use Rattle.model.specs.Level.{levelCount}
 use Rattle.model.specs.State.Agree.{eights, zero-ok}
 use Rattle.model.specs.State.AgreeRecords.{entity-agrees, filled-agrees}
 use Rattle.model.specs.State.Tests.{entityTest, filledTest, shapeTest}
@@ -19,42 +20,46 @@ use Rattle.model.specs.Tables.Layout.{Bounded, entityWidth, offset}
 use Rattle.model.specs.Tables.WordAt.{entityWordAt}
 use Rattle.model.specs.Tables.WordAtLaws.{entity-word-back, offset-below}
 use Rattle.model.specs.Tables.Words.{EntityWord, Tables, absentKind, containerKind, used, usedPlaces, deviceKind, index, kind, kinds, level, mark}
-use Rattle.model.specs.Tables.Words.{maximum, objectKind, place, placeCount, places, releaser, shown, sumMost, sums, triple, type, value}
+use Rattle.model.specs.Tables.Words.{maximum, objectKind, place, placeCount, places, plainType, releasedType, releaser, shown, sumMost, sums, triple, type}
+use Rattle.model.specs.Tables.Words.{userCount, value}
 use Rattle.state.specs.Passes.{contentsAt, usedTest, entityBlank, idleAt, ownTest, placeTest, unlike}
 
 -- ---- the single words, as the code asks for them
 
--- words 0 to 6
-pub shape-form : (k y l m v b x : ℕ)
-    → (leb k 3 && (leb y 2 && (ltb l 1024 && (leb m 1 && (ltb x 1024 && ((eqb y 0 || eqb k 2) && ((eqb m 0 || eqb k 2)
-    && ((not (eqb y 2) || (leb 1 b && leb b 16)) && ((eqb y 2 || eqb b 0) && ((eqb k 3 || eqb x 0) && (not (eqb k 3) || eqb v 0)))))))))))
+-- kind, type, level, mark, value, releaser and maximum; s says whether what is of kind k shows things
+pub shape-form : (k y l m v b x : ℕ) (s : Bool) → s ≡ eqb k deviceKind
+    → (leb k deviceKind && (leb y releasedType && (ltb l levelCount && (leb m 1 && (ltb x levelCount
+    && ((eqb y plainType || eqb k containerKind) && ((eqb m 0 || eqb k containerKind)
+    && ((not (eqb y releasedType) || (leb 1 b && leb b userCount)) && ((eqb y releasedType || eqb b 0)
+    && ((s || eqb x 0) && (not s || eqb v 0)))))))))))
     ≡ shapeTest k y l m v b x
 unfolding shapeTest
-shape-form k y l m v b x = rw (
-  or-imp-not (eqb y 0) (eqb k 2),
-  or-imp-not (eqb m 0) (eqb k 2),
-  or-imp (eqb y 2) (leb 1 b && leb b 16),
-  or-imp-not (eqb y 2) (eqb b 0),
-  or-imp-not (eqb k 3) (eqb x 0),
-  or-imp (eqb k 3) (eqb v 0),
+shape-form k y l m v b x s se = rw (
+  se,
+  or-imp-not (eqb y plainType) (eqb k containerKind),
+  or-imp-not (eqb m 0) (eqb k containerKind),
+  or-imp (eqb y releasedType) (leb 1 b && leb b userCount),
+  or-imp-not (eqb y releasedType) (eqb b 0),
+  or-imp-not (eqb k deviceKind) (eqb x 0),
+  or-imp (eqb k deviceKind) (eqb v 0),
 )
 
--- word 7
-pub used-form : (k n : ℕ) → (leb n 8 && (not (eqb k 1) || eqb n 0)) ≡ usedTest k n
+-- how many places are used
+pub used-form : (k n : ℕ) → (leb n placeCount && (not (eqb k objectKind) || eqb n 0)) ≡ usedTest k n
 unfolding usedTest
-used-form k n = rw (or-imp (eqb k 1) (eqb n 0))
+used-form k n = rw (or-imp (eqb k objectKind) (eqb n 0))
 
 -- ---- a record of zeros
 
 module _ (d : Tables) (o : Bounded d) (e : ℕ) where
-  -- where all 32 words are zero, each single word is, and each of a row before its eighth place
+  -- where all words are zero, each single word is, and each of a row as far as it goes
   blank-at : T (entityBlank d e) → (f : EntityWord) → index f < placeCount → d .entity e f ≡ 0
   unfolding entityBlank
   blank-at t f h = ap (d .entity e) (sym (entity-word-back f h))
       ∙ eqb→eq (d .entity e (entityWordAt (offset f))) 0
       (every-at entityWidth (λ i. eqb (d .entity e (entityWordAt i)) 0) t (offset f) (offset-below f h))
 
-  -- a row that is zero from its eighth place on is then zero
+  -- a row that is zero after its last word is then zero
   blank-row : T (entityBlank d e) → (f : ℕ → EntityWord) → ((i : ℕ) → index (f i) ≡ i) → ((i : ℕ) → placeCount ≤ i → d .entity e (f i) ≡ 0)
       → (i : ℕ) → d .entity e (f i) ≡ 0
   blank-row t f n out i = go (ltb i placeCount) (below i placeCount)

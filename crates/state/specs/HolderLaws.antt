@@ -22,9 +22,10 @@ use Rattle.model.specs.State.Tests.{entityTest}
 use Rattle.model.specs.State.WellFormed.{InTables}
 use Rattle.model.specs.Tables.Layout.{Bounded}
 use Rattle.model.specs.Tables.Rows.{Packed}
-use Rattle.model.specs.Tables.Words.{Tables, used, usedPlaces, device, devices, entityCount, kind, kinds, place, placeCount, places}
+use Rattle.model.specs.Tables.Words.{Tables, containerKind, used, usedPlaces, device, devices, entityCount, kind, kinds, place, placeCount, places}
 use Rattle.state.specs.EntityLaws.{contents-agrees}
-use Rattle.state.specs.Holders.{Filled, Filling, Low, Slot}
+use Rattle.state.specs.Holders.{Filled, Filling, Low, Slot, entityNumbers, slotCount}
+use Rattle.state.specs.Jumps.{allEnd}
 use Rattle.state.specs.Passes.{contentsAt, idleAt, ownTest}
 
 -- a list of zeros
@@ -34,37 +35,37 @@ getD-zeros (suc n) zero = refl
 getD-zeros (suc n) (suc x) = getD-zeros n x
 
 -- nothing is noted at the start
-pub filled-none : (d : Tables) (h : List ℕ) → h ≡ replicate 65 0 → Filled d 0 h
+pub filled-none : (d : Tables) (h : List ℕ) → h ≡ replicate entityNumbers 0 → Filled d 0 h
 filled-none d h e = record {
   size = ap length e;
-  sound = λ x l. absurd (omega (arith, ap (λ (k : List ℕ). getD k x 0) e ∙ getD-zeros 65 x));
+  sound = λ x l. absurd (omega (arith, ap (λ (k : List ℕ). getD k x 0) e ∙ getD-zeros entityNumbers x));
   whole = λ c i x s l. absurd (omega arith);
 }
 
 -- there is no slot between n and m
 filled-more : (d : Tables) (n m : ℕ) (h : List ℕ) → Filled d n h → n ≤ m
-    → ((c i x : ℕ) → Slot d c i x → n ≤ (c - 1) * 8 + i → (c - 1) * 8 + i < m → ⊥) → Filled d m h
+    → ((c i x : ℕ) → Slot d c i x → n ≤ (c - 1) * placeCount + i → (c - 1) * placeCount + i < m → ⊥) → Filled d m h
 filled-more d n m h f l g = record {
   size = f .size;
   sound = λ x k. let r = f .sound x k in (r .0, r .1, omega (arith, r .2));
-  whole = λ c i x s k. go c i x s k (ltb ((c - 1) * 8 + i) n) (below ((c - 1) * 8 + i) n);
+  whole = λ c i x s k. go c i x s k (ltb ((c - 1) * placeCount + i) n) (below ((c - 1) * placeCount + i) n);
 }
   where
-    go : (c i x : ℕ) → Slot d c i x → (c - 1) * 8 + i < m → (b : Bool) → Below ((c - 1) * 8 + i) n b → getD h x 0 ≡ c
+    go : (c i x : ℕ) → Slot d c i x → (c - 1) * placeCount + i < m → (b : Bool) → Below ((c - 1) * placeCount + i) n b → getD h x 0 ≡ c
     go c i x s k true (under q) = f .whole c i x s q
     go c i x s k false (over q) = absurd (g c i x s q k)
 
 -- the numbers of slots as the loops count them
-pub filled-start : (d : Tables) (c : ℕ) (h : List ℕ) → Filled d ((c - 1) * 8) h → Filled d ((c - 1) * 8 + 0) h
-filled-start d c h f = let e : (c - 1) * 8 + 0 ≡ (c - 1) * 8 = omega arith in rw e f
+pub filled-start : (d : Tables) (c : ℕ) (h : List ℕ) → Filled d ((c - 1) * placeCount) h → Filled d ((c - 1) * placeCount + 0) h
+filled-start d c h f = let e : (c - 1) * placeCount + 0 ≡ (c - 1) * placeCount = omega arith in rw e f
 
 -- the next container
-pub filled-next : (d : Tables) (i : ℕ) (h : List ℕ) → Filled d (i * 8) h → Filled d ((i + 1 - 1) * 8) h
-filled-next d i h f = let e : (i + 1 - 1) * 8 ≡ i * 8 = omega arith in rw e f
+pub filled-next : (d : Tables) (i : ℕ) (h : List ℕ) → Filled d (i * placeCount) h → Filled d ((i + 1 - 1) * placeCount) h
+filled-next d i h f = let e : (i + 1 - 1) * placeCount ≡ i * placeCount = omega arith in rw e f
 
--- behind the last container
-pub filled-end : (d : Tables) (i : ℕ) (h : List ℕ) → i ≤ 64 → 64 ≤ i → Filled d (i * 8) h → Filled d 512 h
-filled-end d i h a b f = let e : 512 ≡ i * 8 = omega arith in rw e f
+-- after the last container
+pub filled-end : (d : Tables) (i : ℕ) (h : List ℕ) → i ≤ entityCount → entityCount ≤ i → Filled d (i * placeCount) h → Filled d slotCount h
+filled-end d i h a b f = let e : slotCount ≡ i * placeCount = omega arith in rw e f
 
 -- what a pass says that went on, or stopped
 pub went-on : (d : Tables) (n : ℕ) (h : List ℕ) → Filled d n h → Filling d n true h
@@ -128,50 +129,51 @@ module _ (d : Tables) (o : Bounded d) (w : every entityCount (λ e. ownTest d (s
   slot-in c i x s = (number c i (s .used) .1, omega (arith, s .used, packed c .room))
 
   -- the slot that the loop is at, over the values read
-  pub slot-at : (c i x k n : ℕ) → 1 ≤ c → k ≡ kinds d c → k ≡ 2 → n ≡ usedPlaces d c → i < n → x ≡ places d c i → Slot d c i x
+  pub slot-at : (c i x k n : ℕ) → 1 ≤ c → k ≡ kinds d c → k ≡ containerKind → n ≡ usedPlaces d c → i < n → x ≡ places d c i → Slot d c i x
   slot-at c i x k n l ke k2 ne h xe = record { low = l; box = sym ke ∙ k2; used = omega arith; at = sym xe }
 
   -- what stands in a slot is an entity
   pub slot-entity : (c i x : ℕ) → Slot d c i x → (1 ≤ x) × (x ≤ entityCount)
   slot-entity c i x s = rw (← s .at) (content c i (s .used))
 
-  -- at most eight places are used
+  -- no more places are used than there are
   pub used-low : (c n : ℕ) → n ≡ usedPlaces d c → n ≤ placeCount
   used-low c n e = omega (arith, packed c .room)
 
   -- no container
-  pub filled-skip : (c k : ℕ) (h : List ℕ) → 1 ≤ c → k ≡ kinds d c → k ≢ 2 → Filled d ((c - 1) * 8) h → Filled d (c * 8) h
-  filled-skip c k h l ke q f = filled-more d ((c - 1) * 8) (c * 8) h f (omega arith)
+  pub filled-skip : (c k : ℕ) (h : List ℕ) → 1 ≤ c → k ≡ kinds d c → k ≢ containerKind → Filled d ((c - 1) * placeCount) h → Filled d (c * placeCount) h
+  filled-skip c k h l ke q f = filled-more d ((c - 1) * placeCount) (c * placeCount) h f (omega arith)
       (λ a i x s m n. let e : a ≡ c = omega (arith, slot-in a i x s, s .low) in q (ke ∙ ap (kinds d) (sym e) ∙ s .box))
 
   -- the end of a container
-  pub filled-rest : (c i n : ℕ) (h : List ℕ) → 1 ≤ c → n ≡ usedPlaces d c → i ≤ n → n ≤ i → Filled d ((c - 1) * 8 + i) h → Filled d (c * 8) h
-  filled-rest c i n h l ne a b f = filled-more d ((c - 1) * 8 + i) (c * 8) h f (omega (arith, packed c .room))
+  pub filled-rest : (c i n : ℕ) (h : List ℕ) → 1 ≤ c → n ≡ usedPlaces d c → i ≤ n → n ≤ i → Filled d ((c - 1) * placeCount + i) h → Filled d (c * placeCount) h
+  filled-rest c i n h l ne a b f = filled-more d ((c - 1) * placeCount + i) (c * placeCount) h f (omega (arith, packed c .room))
       (λ z j x s m k.
       let e : z ≡ c = omega (arith, slot-in z j x s, s .low) in
       let u : j < usedPlaces d c = rw e at (s .used) in omega arith)
 
   -- the next slot is noted
-  pub filled-put : (c i x : ℕ) (h : List ℕ) → Slot d c i x → getD h x 0 ≡ 0 → Filled d ((c - 1) * 8 + i) h
-      → Filled d ((c - 1) * 8 + (i + 1)) (set h x c)
+  pub filled-put : (c i x : ℕ) (h : List ℕ) → Slot d c i x → getD h x 0 ≡ 0 → Filled d ((c - 1) * placeCount + i) h
+      → Filled d ((c - 1) * placeCount + (i + 1)) (set h x c)
   filled-put c i x h s z f = record {
     size = length-set h x c ∙ f .size;
     sound = λ y l. sound y l (eqb y x) (same y x);
-    whole = λ a p y t l. whole a p y t l (eqb y x) (same y x) (ltb ((a - 1) * 8 + p) ((c - 1) * 8 + i)) (below ((a - 1) * 8 + p) ((c - 1) * 8 + i));
+    whole = λ a p y t l. whole a p y t l (eqb y x) (same y x) (ltb ((a - 1) * placeCount + p) ((c - 1) * placeCount + i))
+        (below ((a - 1) * placeCount + p) ((c - 1) * placeCount + i));
   }
     where
       here : getD (set h x c) x 0 ≡ c
       here = getD-set-same h x c 0 (omega (arith, f .size, slot-entity c i x s))
 
       sound : (y : ℕ) → 1 ≤ getD (set h x c) y 0 → (b : Bool) → Same y x b
-          → (p : ℕ) × Slot d (getD (set h x c) y 0) p y × ((getD (set h x c) y 0 - 1) * 8 + p < (c - 1) * 8 + (i + 1))
+          → (p : ℕ) × Slot d (getD (set h x c) y 0) p y × ((getD (set h x c) y 0 - 1) * placeCount + p < (c - 1) * placeCount + (i + 1))
       sound y l true (it e) = rw (e, here) (i, s, omega arith)
       sound y l false (other e) =
           let q : getD (set h x c) y 0 ≡ getD h y 0 = getD-set-other h x y c 0 e in
           let r = f .sound y (omega arith) in rw q (r .0, r .1, omega (arith, r .2))
 
-      whole : (a p y : ℕ) → Slot d a p y → (a - 1) * 8 + p < (c - 1) * 8 + (i + 1) → (b : Bool) → Same y x b
-          → (m : Bool) → Below ((a - 1) * 8 + p) ((c - 1) * 8 + i) m → getD (set h x c) y 0 ≡ a
+      whole : (a p y : ℕ) → Slot d a p y → (a - 1) * placeCount + p < (c - 1) * placeCount + (i + 1) → (b : Bool) → Same y x b
+          → (m : Bool) → Below ((a - 1) * placeCount + p) ((c - 1) * placeCount + i) m → getD (set h x c) y 0 ≡ a
       whole a p y t l true (it e) true (under k) = absurd (omega (arith, f .whole a p y t k, ap (λ (v : ℕ). getD h v 0) e, t .low))
       whole a p y t l true (it e) false (over k) =
           let q : c ≡ a = omega (arith, slot-in a p y t, slot-in c i x s, t .low, s .low) in rw e (here ∙ q)
@@ -193,13 +195,13 @@ module _ (d : Tables) (o : Bounded d) (w : every entityCount (λ e. ownTest d (s
       (λ u q. o .userOut u q device) (λ e. packed e .room)
 
   -- something that is noted already stands in two
-  pub held-twice : (c i x : ℕ) (h : List ℕ) → Slot d c i x → getD h x 0 ≢ 0 → Filled d ((c - 1) * 8 + i) h
+  pub held-twice : (c i x : ℕ) (h : List ℕ) → Slot d c i x → getD h x 0 ≢ 0 → Filled d ((c - 1) * placeCount + i) h
       → oneTest (kinds d) (usedPlaces d) (places d) (devices d) ≡ false
   held-twice c i x h s z f = fails (oneTest (kinds d) (usedPlaces d) (places d) (devices d)) (λ t.
       let r = f .sound x (omega arith) in
       again (getD h x 0) (r .0) (r .1) (r .2) (one .to t x (getD h x 0) c (box (getD h x 0) (r .0) x (r .1)) (box c i x s)))
     where
-      again : (v p : ℕ) → Slot d v p x → (v - 1) * 8 + p < (c - 1) * 8 + i → v ≡ c → ⊥
+      again : (v p : ℕ) → Slot d v p x → (v - 1) * placeCount + p < (c - 1) * placeCount + i → v ≡ c → ⊥
       again v p t l e =
           let u : p < usedPlaces d c = rw e at (t .used) in
           let q : places d c p ≡ x = rw e at (t .at) in
@@ -211,7 +213,7 @@ module _ (d : Tables) (o : Bounded d) (w : every entityCount (λ e. ownTest d (s
   slot-of : (c x : ℕ) → (m : InTables d c x) → Slot d c (m .1 .0) x
   slot-of c x m = record { low = number c (m .1 .0) (m .1 .1) .0; box = m .0; used = m .1 .1; at = m .1 .2 }
 
-  module _ (h : List ℕ) (f : Filled d 512 h) where
+  module _ (h : List ℕ) (f : Filled d slotCount h) where
     -- the whole list tells the container of everything
     whole-at : (c x : ℕ) → InTables d c x → getD h x 0 ≡ c
     whole-at c x m = let s = slot-of c x m in f .whole c (m .1 .0) x s (omega (arith, slot-in c (m .1 .0) x s))
@@ -235,7 +237,7 @@ module _ (d : Tables) (o : Bounded d) (w : every entityCount (λ e. ownTest d (s
             (λ e. packed e .room) x e)
 
     -- so that climbing the list decides the model's test
-    filled-loop : every entityCount (λ e. up (λ x. getD h x 0) (suc entityCount) (suc e)) ≡ loopTest (kinds d) (usedPlaces d) (places d) (devices d)
+    filled-loop : allEnd h ≡ loopTest (kinds d) (usedPlaces d) (places d) (devices d)
     unfolding loopTest
     filled-loop = ap (λ (g : ℕ → ℕ). every entityCount (λ e. up g (suc entityCount) (suc e))) (fun-ext filled-at)
 
@@ -259,7 +261,6 @@ module _ (d : Tables) (o : Bounded d) (w : every entityCount (λ e. ownTest d (s
   tree-refused n r h f e = rw (f .refused e)
 
   -- the list is whole: what is left to ask is that every way up ends
-  pub tree-ends : (r : Bool) (h : List ℕ) → Filling d 512 r h → r ≡ true → (b : Bool)
-      → b ≡ every entityCount (λ e. up (λ x. getD h x 0) (suc entityCount) (suc e))
+  pub tree-ends : (r : Bool) (h : List ℕ) → Filling d slotCount r h → r ≡ true → (b : Bool) → b ≡ allEnd h
       → b ≡ (oneTest (kinds d) (usedPlaces d) (places d) (devices d) && loopTest (kinds d) (usedPlaces d) (places d) (devices d))
   tree-ends r h f e b be = rw (filled-one h (f .filled e)) (be ∙ filled-loop h (f .filled e))

@@ -1,12 +1,20 @@
 -- The list of holders: for each entity the container in which the pass has met it, or 0. A container's places are numbered through,
--- container c, place i as (c - 1) × 8 + i, so one number says how far the pass has come.
+-- container c, place i as (c - 1) × placeCount + i, so one number says how far the pass has come.
 use mathlib.Core.Bool.{Bool, false, true}
 use mathlib.Core.List.{List}
 use mathlib.Core.Path.{_≡_}
-use Prim.Native.Nat.{_*_, _+_, _-_, _<_, _≤_, ℕ}
+use Prim.Native.Nat.{_*_, _+_, _-_, _<_, _≤_, suc, ℕ}
 use lib.ListN.{getD, length}
 use Rattle.model.specs.State.Check.{oneTest}
-use Rattle.model.specs.Tables.Words.{Tables, containerKind, usedPlaces, devices, entityCount, kinds, places}
+use Rattle.model.specs.Tables.Words.{Tables, containerKind, usedPlaces, devices, entityCount, kinds, placeCount, places}
+
+-- the numbers of entities, and 0
+abbrev pub entityNumbers : ℕ
+entityNumbers = suc entityCount
+
+-- the places of all entities
+abbrev pub slotCount : ℕ
+slotCount = entityCount * placeCount
 
 -- x stands in place i of the container c
 pub record Slot (d : Tables) (c i x : ℕ) : Type 0 where
@@ -17,9 +25,9 @@ pub record Slot (d : Tables) (c i x : ℕ) : Type 0 where
 
 -- h tells the container of everything that stands in one of the slots before n, and of nothing else
 pub record Filled (d : Tables) (n : ℕ) (h : List ℕ) : Type 0 where
-  pub size : length h ≡ 65
-  pub sound : (x : ℕ) → 1 ≤ getD h x 0 → (i : ℕ) × Slot d (getD h x 0) i x × ((getD h x 0 - 1) * 8 + i < n)
-  pub whole : (c i x : ℕ) → Slot d c i x → (c - 1) * 8 + i < n → getD h x 0 ≡ c
+  pub size : length h ≡ entityNumbers
+  pub sound : (x : ℕ) → 1 ≤ getD h x 0 → (i : ℕ) × Slot d (getD h x 0) i x × ((getD h x 0 - 1) * placeCount + i < n)
+  pub whole : (c i x : ℕ) → Slot d c i x → (c - 1) * placeCount + i < n → getD h x 0 ≡ c
 
 -- the pass has gone on to n, or it has met something that stands in two containers
 pub record Filling (d : Tables) (n : ℕ) (r : Bool) (h : List ℕ) : Type 0 where
@@ -28,4 +36,4 @@ pub record Filling (d : Tables) (n : ℕ) (r : Bool) (h : List ℕ) : Type 0 whe
 
 -- what h tells are numbers of entities
 abbrev pub Low : List ℕ → Type 0
-Low h = (length h ≡ 65) × ((x : ℕ) → getD h x 0 ≤ entityCount)
+Low h = (length h ≡ entityNumbers) × ((x : ℕ) → getD h x 0 ≤ entityCount)

@@ -16,8 +16,8 @@ use Rattle.model.specs.Basics.TestLaws.{equal-bools, every-same, holds-true, is
 use Rattle.model.specs.Basics.Tests.{every}
 use Rattle.model.specs.State.Climb.{up}
 use Rattle.model.specs.Tables.Words.{entityCount}
-use Rattle.state.specs.Holders.{Low}
-use Rattle.state.specs.Jumps.{Climbed, Jumped, steps}
+use Rattle.state.specs.Holders.{Low, entityNumbers}
+use Rattle.state.specs.Jumps.{Climbed, Jumped, allEnd, endsAfter, steps}
 
 -- ---- steps
 
@@ -72,11 +72,11 @@ module _ (par : ℕ → ℕ) where
 
 module _ (a b : List ℕ) where
   -- nothing is joined
-  pub jumped-none : (d : List ℕ) → length d ≡ 65 → Jumped a b 0 true d
+  pub jumped-none : (d : List ℕ) → length d ≡ entityNumbers → Jumped a b 0 true d
   jumped-none d e = record { size = e; at = λ x l. absurd (omega arith); none = sym (every-none _) }
 
   -- the next number
-  pub jumped-more : (i : ℕ) (r : Bool) (d : List ℕ) → i < 65 → Jumped a b i r d
+  pub jumped-more : (i : ℕ) (r : Bool) (d : List ℕ) → i < entityNumbers → Jumped a b i r d
       → Jumped a b (i + 1) (eqb (getD b (getD a i 0) 0) 0 && r) (set d i (getD b (getD a i 0) 0))
   jumped-more i r d l j = record {
     size = length-set d i (getD b (getD a i 0) 0) ∙ j .size;
@@ -109,7 +109,7 @@ module _ (h : List ℕ) (low : Low h) where
       go x false (over l) = omega (arith, c .at x l, steps-low (λ y. getD h y 0) (low .1) n x l)
 
   -- two lists joined climb the steps of both
-  pub climbed-on : (m n : ℕ) (a b : List ℕ) (r : Bool) (d : List ℕ) → Climbed h m a → Climbed h n b → Jumped a b 65 r d → Climbed h (m + n) d
+  pub climbed-on : (m n : ℕ) (a b : List ℕ) (r : Bool) (d : List ℕ) → Climbed h m a → Climbed h n b → Jumped a b entityNumbers r d → Climbed h (m + n) d
   climbed-on m n a b r d c e j = record {
     size = j .size;
     at = λ x l. j .at x (omega arith)
@@ -118,27 +118,29 @@ module _ (h : List ℕ) (low : Low h) where
   }
 
   -- a list joined with itself climbs twice as far
-  pub climbed-twice : (n : ℕ) (a : List ℕ) (r : Bool) (d : List ℕ) → Climbed h n a → Jumped a a 65 r d → Climbed h (n + n) d
+  pub climbed-twice : (n : ℕ) (a : List ℕ) (r : Bool) (d : List ℕ) → Climbed h n a → Jumped a a entityNumbers r d → Climbed h (n + n) d
   climbed-twice n a r d c j = climbed-on n n a a r d c c j
 
-  module _ (n : ℕ) (a b : List ℕ) (r : Bool) (d : List ℕ) (c : Climbed h n d) (j : Jumped a b 65 r d) where
+  module _ (n : ℕ) (a b : List ℕ) (r : Bool) (d : List ℕ) (c : Climbed h n d) (j : Jumped a b entityNumbers r d) where
     -- the answer is whether nothing is left of any way
-    climbed-none : r ≡ every 65 (λ x. eqb (steps (λ y. getD h y 0) n x) 0)
-    climbed-none = j .none ∙ every-same 65 (λ x. eqb (getD b (getD a x 0) 0) 0) (λ x. eqb (steps (λ y. getD h y 0) n x) 0)
+    climbed-none : r ≡ every entityNumbers (λ x. eqb (steps (λ y. getD h y 0) n x) 0)
+    climbed-none = j .none ∙ every-same entityNumbers (λ x. eqb (getD b (getD a x 0) 0) 0) (λ x. eqb (steps (λ y. getD h y 0) n x) 0)
         (λ x l. ap (λ (v : ℕ). eqb v 0) (sym (j .at x l) ∙ c .at x (omega arith)))
 
     -- then every way ends
-    pub climbed-ends : 1 ≤ n → n ≤ 65 → r ≡ true → true ≡ every entityCount (λ e. up (λ x. getD h x 0) 65 (suc e))
-    climbed-ends l m t = sym (holds-true _ (every-of entityCount (λ e. up (λ x. getD h x 0) 65 (suc e))
-        (λ x k. up-within (λ y. getD h y 0) 65 n (suc x) l m
-        (eqb-true _ 0 (holds-true _ (every-at 65 (λ x. eqb (steps (λ y. getD h y 0) n x) 0) (is-true _ (sym climbed-none ∙ t)) (suc x) (omega arith)))))))
+    pub climbed-ends : 1 ≤ n → n ≤ entityNumbers → r ≡ true → true ≡ allEnd h
+    climbed-ends l m t = sym (holds-true _ (every-of entityCount (endsAfter h)
+        (λ x k. up-within (λ y. getD h y 0) entityNumbers n (suc x) l m
+        (eqb-true _ 0 (holds-true _ (every-at entityNumbers (λ x. eqb (steps (λ y. getD h y 0) n x) 0)
+        (is-true _ (sym climbed-none ∙ t)) (suc x) (omega arith)))))))
 
     -- and after as many steps as `up` goes, only then
-    pub climbed-all : getD h 0 0 ≡ 0 → n ≡ 65 → r ≡ every entityCount (λ e. up (λ x. getD h x 0) 65 (suc e))
-    climbed-all o q = equal-bools r (every entityCount (λ e. up (λ x. getD h x 0) 65 (suc e)))
+    pub climbed-all : getD h 0 0 ≡ 0 → n ≡ entityNumbers → r ≡ allEnd h
+    climbed-all o q = equal-bools r (allEnd h)
         (λ t. is-true _ (sym (climbed-ends (omega arith) (omega arith) (holds-true r t))))
-        (λ t. is-true r (climbed-none ∙ holds-true _ (every-of 65 (λ x. eqb (steps (λ y. getD h y 0) n x) 0) (λ x l. is-true _ (eq-eqb _ 0 (left t x l))))))
+        (λ t. is-true r (climbed-none ∙ holds-true _ (every-of entityNumbers (λ x. eqb (steps (λ y. getD h y 0) n x) 0)
+        (λ x l. is-true _ (eq-eqb _ 0 (left t x l))))))
       where
-        left : T (every entityCount (λ e. up (λ x. getD h x 0) 65 (suc e))) → (x : ℕ) → x < 65 → steps (λ y. getD h y 0) n x ≡ 0
+        left : T (allEnd h) → (x : ℕ) → x < entityNumbers → steps (λ y. getD h y 0) n x ≡ 0
         left t zero l = steps-none (λ y. getD h y 0) o n
-        left t (suc x) l = rw q (up-steps (λ y. getD h y 0) o 65 (suc x) (every-at entityCount (λ e. up (λ x. getD h x 0) 65 (suc e)) t x (omega arith)))
+        left t (suc x) l = rw q (up-steps (λ y. getD h y 0) o entityNumbers (suc x) (every-at entityCount (endsAfter h) t x (omega arith)))

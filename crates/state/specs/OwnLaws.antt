@@ -18,30 +18,30 @@ use Rattle.model.specs.State.WellFormed.{Access, GoodTriple}
 use Rattle.model.specs.Tables.Layout.{Bounded}
 use Rattle.model.specs.Tables.RowLaws.{before, sought}
 use Rattle.model.specs.Tables.Rows.{Sought, seek}
-use Rattle.model.specs.Tables.Words.{Tables, usedPlaces, devices, kinds, level, mark, maximum, placeCount, places, releaser, sums}
+use Rattle.model.specs.Tables.Words.{Tables, usedPlaces, deviceKind, devices, kinds, level, mark, maximum, placeCount, places, releaser, sums}
 use Rattle.model.specs.Tables.Words.{triples, type, userCount, value}
 use Rattle.state.specs.EntityLaws.{apart, used-agrees, filled-passes, unlike-agrees}
-use Rattle.state.specs.Passes.{contentsAt, usedTest, idleAt, ownTest, placeTest, tripleNew, unlike}
+use Rattle.state.specs.Passes.{contentsAt, usedTest, idleAt, lastTriple, ownTest, placeTest, tripleNew, unlike}
 
 -- ---- triples
 
 -- what `tripleNew` says of triple i
 abbrev Tripled : (ℕ → ℕ) → ℕ → Type 0
-Tripled row i = (row i ≡ 0 → (7 ≤ i) ⊎ (row (i + 1) ≡ 0)) × ((row i ≡ 0 → ⊥) → GoodTriple (row i) × ((j : ℕ) → j < i → row j ≡ row i → ⊥))
+Tripled row i = (row i ≡ 0 → (lastTriple ≤ i) ⊎ (row (i + 1) ≡ 0)) × ((row i ≡ 0 → ⊥) → GoodTriple (row i) × ((j : ℕ) → j < i → row j ≡ row i → ⊥))
 
 -- the test says so
 triple-agrees : (row : ℕ → ℕ) (i : ℕ) → Agrees (tripleNew row i) (Tripled row i)
 unfolding tripleNew
-triple-agrees row i = agrees-pick (agrees-eq (row i) 0) (agrees-or (agrees-le 7 i) (agrees-eq (row (i + 1)) 0))
+triple-agrees row i = agrees-pick (agrees-eq (row i) 0) (agrees-or (agrees-le lastTriple i) (agrees-eq (row (i + 1)) 0))
     (agrees-and (good-agrees (row i)) (unlike-agrees row i))
 
 module _ (row : ℕ → ℕ) (out : Eight row) where
-  -- behind a zero all are zero
+  -- after a zero all are zero
   zero-up : ((i : ℕ) → i < placeCount → Tripled row i) → (k m i : ℕ) → row k ≡ 0 → i ≡ k + m → row i ≡ 0
   zero-up f k zero i z e = let q : i ≡ k = omega arith in rw q z
   zero-up f k (suc m) i z e = go (ltb (k + m) placeCount) (below (k + m) placeCount) (zero-up f k m (k + m) z refl)
     where
-      next : (7 ≤ k + m) ⊎ (row (k + m + 1) ≡ 0) → row i ≡ 0
+      next : (lastTriple ≤ k + m) ⊎ (row (k + m + 1) ≡ 0) → row i ≡ 0
       next (inl h) = out i (omega arith)
       next (inr h) = let q : i ≡ k + m + 1 = omega arith in rw q h
 
@@ -106,7 +106,7 @@ one-by-one true false p u x = refl
 one-by-one false n p u x = refl
 
 module _ (d : Tables) (o : Bounded d) (e : ℕ) (present : 1 ≤ kinds d e) where
-  -- words 0 to 6 are in order
+  -- the single words but for the last are in order
   abbrev shape : Bool
   shape = shapeTest (kinds d e) (d .entity e type) (d .entity e level) (d .entity e mark) (d .entity e value) (d .entity e releaser) (d .entity e maximum)
 
@@ -129,20 +129,21 @@ module _ (d : Tables) (o : Bounded d) (e k y l m v b x : ℕ) (ke : k ≡ kinds 
       && (every placeCount (tripleNew (triples d e)) && idleAt d e))))) ≡ ownTest d e
   from-shape = rw (se, ke, ye, le, me, ve, be, xe) (own-present d o e (omega arith))
 
-  -- words 0 to 6 are not in order
+  -- the single words but for the last are not in order
   pub own-shape : s ≡ false → false ≡ ownTest d e
   own-shape f = rw f at from-shape
 
   module _ (st : s ≡ true) (n : ℕ) (ne : n ≡ usedPlaces d e) (c : Bool) (ce : c ≡ usedTest k n) where
     -- what is left to ask from the count on
-    from-count : (c && (every placeCount (placeTest d e) && (every n (unlike (places d e)) && (every placeCount (tripleNew (triples d e)) && idleAt d e)))) ≡ ownTest d e
+    from-count : (c && (every placeCount (placeTest d e) && (every n (unlike (places d e))
+        && (every placeCount (tripleNew (triples d e)) && idleAt d e)))) ≡ ownTest d e
     from-count = rw (ce, ne) (rw st at from-shape)
 
     -- too many places are used
     pub own-count : c ≡ false → false ≡ ownTest d e
     own-count f = rw f at from-count
 
-    -- no more than eight are used
+    -- no more are used than there are
     pub own-room : c ≡ true → n ≤ placeCount
     own-room t = rw ne (used-agrees d o e .to (rw (← ke, ← ne) (is-true (usedTest k n) (sym ce ∙ t))) .0)
 
@@ -174,13 +175,14 @@ module _ (d : Tables) (o : Bounded d) (e k y l m v b x : ℕ) (ke : k ≡ kinds 
           own-triples f = rw f at from-triples
 
           module _ (rt : r ≡ true) where
-            -- what is no device, or empty, may have nobody on it
-            pub own-quiet : (not (eqb k 3) || eqb n 0) ≡ true → true ≡ ownTest d e
+            -- what shows nothing may have nobody on it; w says whether what is of kind k shows things
+            pub own-quiet : (w : Bool) → w ≡ eqb k deviceKind → (not w || eqb n 0) ≡ true → true ≡ ownTest d e
             unfolding idleAt
-            own-quiet h = sym (imp-quiet (eqb k 3) (eqb n 0) (every userCount (λ u. not (eqb (devices d (suc u)) e))) h)
+            own-quiet w we h = sym (imp-quiet (eqb k deviceKind) (eqb n 0) (every userCount (λ u. not (eqb (devices d (suc u)) e))) (rw we at h))
                 ∙ rw (ke, ne) (rw rt at from-triples)
 
             -- on a device that shows something somebody is
-            pub own-shown : (not (eqb k 3) || eqb n 0) ≡ false → (z : Bool) → z ≡ every userCount (λ u. not (eqb (devices d (suc u)) e)) → not z ≡ ownTest d e
+            pub own-shown : (w : Bool) → w ≡ eqb k deviceKind → (not w || eqb n 0) ≡ false
+                → (z : Bool) → z ≡ every userCount (λ u. not (eqb (devices d (suc u)) e)) → not z ≡ ownTest d e
             unfolding idleAt
-            own-shown h z ze = sym (imp-shown (eqb k 3) (eqb n 0) z h) ∙ rw (ke, ne, ze) (rw rt at from-triples)
+            own-shown w we h z ze = sym (imp-shown (eqb k deviceKind) (eqb n 0) z (rw we at h)) ∙ rw (ke, ne, ze) (rw rt at from-triples)

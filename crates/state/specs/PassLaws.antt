@@ -70,8 +70,10 @@ module _ (d : Tables) (o : Bounded d) where
 -- the passes' order and the model's
 regroup : (u dv al e c i o l : Bool) → (u && ((dv && al) && ((e && (c && i)) && (o && l)))) ≡ (u && (e && (c && (o && (l && (dv && (al && i)))))))
 regroup u dv al e c i o l = equal-bools (u && ((dv && al) && ((e && (c && i)) && (o && l)))) (u && (e && (c && (o && (l && (dv && (al && i)))))))
-    (λ t. let z = left .to t in right .from (z .0, (z .1 .1 .0 .0, (z .1 .1 .0 .1 .0, (z .1 .1 .1 .0, (z .1 .1 .1 .1, (z .1 .0 .0, (z .1 .0 .1, z .1 .1 .0 .1 .1))))))))
-    (λ t. let z = right .to t in left .from (z .0, ((z .1 .1 .1 .1 .1 .0, z .1 .1 .1 .1 .1 .1 .0), ((z .1 .0, (z .1 .1 .0, z .1 .1 .1 .1 .1 .1 .1)), (z .1 .1 .1 .0, z .1 .1 .1 .1 .0)))))
+    (λ t. let z = left .to t in let y = z .1 .1 in
+    right .from (z .0, (y .0 .0, (y .0 .1 .0, (y .1 .0, (y .1 .1, (z .1 .0 .0, (z .1 .0 .1, y .0 .1 .1))))))))
+    (λ t. let z = right .to t in let y = z .1 .1 .1 in
+    left .from (z .0, ((y .1 .1 .0, y .1 .1 .1 .0), ((z .1 .0, (z .1 .1 .0, y .1 .1 .1 .1)), (y .0, y .1 .0)))))
   where
     left : Agrees (u && ((dv && al) && ((e && (c && i)) && (o && l)))) (T u × ((T dv × T al) × ((T e × (T c × T i)) × (T o × T l))))
     left = agrees-and (agrees-T u) (agrees-and (agrees-and (agrees-T dv) (agrees-T al))

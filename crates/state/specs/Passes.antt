@@ -1,7 +1,8 @@
 -- What each pass of the state check asks, record by record. The model asks sentence by sentence; the laws beside show that all passes
 -- together ask what all sentences do.
 use mathlib.Core.Bool.{Bool, _&&_, _||_, not}
-use Prim.Native.Nat.{_+_, pred, suc, ℕ}
+use mathlib.Core.Path.{_≡_}
+use Prim.Native.Nat.{_+_, _-_, pred, suc, ℕ}
 use lib.Dec.{eqb, leb, ltb}
 use Rattle.model.specs.Basics.Choice.{pick}
 use Rattle.model.specs.Basics.Tests.{every, imp}
@@ -20,7 +21,7 @@ use Rattle.model.specs.Tables.Words.{sumMost, sums, userCount}
 unfoldable pub userBlank : Tables → ℕ → Bool
 userBlank d u = every userWidth (λ f. eqb (d .user u (userWordAt f)) 0)
 
--- words 0 to 4 of a user, who is there
+-- the words before the notice of a user who is there
 unfoldable pub userHead : (p c a r v : ℕ) → Bool
 userHead p c a r v = leb p 1 && (ltb c levelCount && (ltb a roleSets && (ltb r roleSets && imp (eqb v 0) (eqb r 0))))
 
@@ -39,6 +40,10 @@ entityBlank d e = every entityWidth (λ f. eqb (d .entity e (entityWordAt f)) 0)
 unfoldable pub usedTest : ℕ → ℕ → Bool
 usedTest k n = leb n placeCount && imp (eqb k objectKind) (eqb n 0)
 
+-- what is known of entity e before its places are looked at: n is how many it uses, and s whether it shows what stands in them
+abbrev pub Counted : Tables → ℕ → ℕ → Bool → Type 0
+Counted d e n s = (n ≡ usedPlaces d e) × (s ≡ eqb (kinds d e) deviceKind)
+
 -- place i of entity e: beyond the places used there is nothing; in them stands what may, and only a device shows some of it
 unfoldable pub placeTest : Tables → ℕ → ℕ → Bool
 placeTest d e i = pick (leb (usedPlaces d e) i) (eqb (places d e i) 0 && eqb (sums d e i) 0)
@@ -53,9 +58,13 @@ unlike row i = every i (λ j. not (eqb (row j) (row i)))
 unfoldable pub newAt : (ℕ → ℕ) → ℕ → Bool
 newAt row i = eqb (row i) 0 || unlike row i
 
+-- the place of the last triple
+abbrev pub lastTriple : ℕ
+lastTriple = placeCount - 1
+
 -- triple i of a row: zero, and then the next one too; else it names what it may, and is none of those before it
 unfoldable pub tripleNew : (ℕ → ℕ) → ℕ → Bool
-tripleNew row i = pick (eqb (row i) 0) (leb 7 i || eqb (row (i + 1)) 0) (tripleTest (row i) && unlike row i)
+tripleNew row i = pick (eqb (row i) 0) (leb lastTriple i || eqb (row (i + 1)) 0) (tripleTest (row i) && unlike row i)
 
 -- only objects and containers stand in the places of e
 unfoldable pub contentsAt : Tables → ℕ → Bool
@@ -79,9 +88,13 @@ allOwn d = every entityCount (λ e. ownTest d (suc e))
 
 -- ---- security
 
--- a number, or eight where it is more
+-- a number, or that of the places of a row where it is more
 unfoldable pub capped : ℕ → ℕ
 capped n = pick (ltb placeCount n) placeCount n
+
+-- what is known of entity e before its places are looked at: l is its level, and s whether it shows what stands in them
+abbrev pub Graded : Tables → ℕ → ℕ → Bool → Type 0
+Graded d e l s = (l ≡ d .entity e level) × (s ≡ eqb (kinds d e) deviceKind)
 
 -- place i of entity e keeps rules 4.1 and 4.3
 unfoldable pub placeSecure : Tables → ℕ → ℕ → Bool

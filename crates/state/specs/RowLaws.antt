@@ -8,8 +8,8 @@ use borrow.Author.Tests.{eq-eqb, le-leb, lt-leb, ne-eqb}
 use Rattle.laws.specs.Bools.{or-imp, or-imp-not}
 use Rattle.model.specs.Basics.Tests.{every}
 use Rattle.model.specs.State.Tests.{tripleTest}
-use Rattle.model.specs.Tables.Words.{Tables, usedPlaces, deviceKind, kinds, places, sums}
-use Rattle.state.specs.Passes.{newAt, placeTest, tripleNew, unlike}
+use Rattle.model.specs.Tables.Words.{Tables, containerKind, deviceKind, kinds, objectKind, places, sumMost, sums, usedPlaces}
+use Rattle.state.specs.Passes.{lastTriple, newAt, placeTest, tripleNew, unlike}
 
 -- ---- a place, which holds x and of which v is shown, of an entity that uses n places
 
@@ -21,9 +21,9 @@ module _ (d : Tables) (e i n x v : ℕ) (ne : n ≡ usedPlaces d e) (xe : x ≡ 
 
   -- a place that is used, by an entity of kind k
   pub place-within : i < n → (k : ℕ) (s : Bool) → k ≡ kinds d x → s ≡ eqb (kinds d e) deviceKind
-      → (leb 1 k && (leb k 2 && ((not s || (leb 1 v && leb v 7)) && (s || eqb v 0)))) ≡ placeTest d e i
+      → (leb objectKind k && (leb k containerKind && ((not s || (leb 1 v && leb v sumMost)) && (s || eqb v 0)))) ≡ placeTest d e i
   unfolding placeTest
-  place-within h k s ke se = rw (← ne, ← xe, ← ve, lt-leb n i h, ← ke, ← se, or-imp s (leb 1 v && leb v 7), or-imp-not s (eqb v 0))
+  place-within h k s ke se = rw (← ne, ← xe, ← ve, lt-leb n i h, ← ke, ← se, or-imp s (leb 1 v && leb v sumMost), or-imp-not s (eqb v 0))
 
 -- what stands at i, compared with all before it
 pub unlike-of : (row : ℕ → ℕ) (i x : ℕ) → x ≡ row i → (b : Bool) → b ≡ every i (λ j. not (eqb (row j) x)) → b ≡ unlike row i
@@ -44,14 +44,14 @@ new-of row i x e z b h = unlike-of row i x e b h ∙ rw (← e, ne-eqb x 0 z)
 
 module _ (row : ℕ → ℕ) (i x : ℕ) (xe : x ≡ row i) where
   -- zero, and the last
-  pub triple-last : x ≡ 0 → 7 ≤ i → true ≡ tripleNew row i
+  pub triple-last : x ≡ 0 → lastTriple ≤ i → true ≡ tripleNew row i
   unfolding tripleNew
-  triple-last z h = rw (← xe, eq-eqb x 0 z, le-leb 7 i h)
+  triple-last z h = rw (← xe, eq-eqb x 0 z, le-leb lastTriple i h)
 
   -- zero: then the next one is, too
-  pub triple-next : x ≡ 0 → i < 7 → (y : ℕ) → y ≡ row (i + 1) → eqb y 0 ≡ tripleNew row i
+  pub triple-next : x ≡ 0 → i < lastTriple → (y : ℕ) → y ≡ row (i + 1) → eqb y 0 ≡ tripleNew row i
   unfolding tripleNew
-  triple-next z h y ye = rw (← xe, eq-eqb x 0 z, lt-leb 7 i h, ← ye)
+  triple-next z h y ye = rw (← xe, eq-eqb x 0 z, lt-leb lastTriple i h, ← ye)
 
   -- not zero, and not what a triple may name
   pub triple-unnamed : x ≢ 0 → (b : Bool) → b ≡ tripleTest x → b ≡ false → false ≡ tripleNew row i

@@ -21,14 +21,14 @@ use Rattle.model.specs.Tables.Words.{Tables, authorised, clearance, used, usedP
 use Rattle.model.specs.Tables.Words.{maximum, placeCount, places, sums, userCount}
 use Rattle.state.specs.Passes.{allSecure, capped, entitySecure, placeSecure, userSecure}
 
--- ---- a number, or eight
+-- ---- a number that is capped
 
--- more than eight
+-- a number above the places of a row
 pub capped-over : (n : ℕ) → placeCount < n → placeCount ≡ capped n
 unfolding capped
 capped-over n h = rw (lt-ltb placeCount n h)
 
--- at most eight
+-- and one that is not
 pub capped-within : (n : ℕ) → n ≤ placeCount → n ≡ capped n
 unfolding capped
 capped-within n h = rw (le-ltb placeCount n h)
@@ -42,11 +42,11 @@ capped-cases n P f g = go (ltb placeCount n) (below placeCount n)
     go true (under h) = f h
     go false (over h) = g h
 
--- never more than eight
+-- what is capped is never above it
 pub capped-low : (n : ℕ) → capped n ≤ placeCount
 capped-low n = capped-cases n (λ c. c ≤ placeCount) (λ h. omega arith) (λ h. h)
 
--- the first n of eight are those of the eight that are below n
+-- the first n places are those of the row that are below n
 pub capped-every : (n : ℕ) (p : ℕ → Bool) → every (capped n) p ≡ every placeCount (λ i. imp (ltb i n) (p i))
 capped-every n p = equal-bools (every (capped n) p) (every placeCount (λ i. imp (ltb i n) (p i)))
     (λ t. every-of placeCount (λ i. imp (ltb i n) (p i)) (λ i h. agrees-imp (agrees-le (suc i) n) (agrees-T (p i)) .from

@@ -1,4 +1,4 @@
--- That the used places are distinct may be asked of all eight: those behind them hold nothing, and pass.
+-- That the used places are distinct may be asked of all places: those after them hold nothing, and pass.
 use mathlib.Core.Bool.{Bool, false, true}
 use mathlib.Core.Logic.{_≢_, _⊎_, inl, inr}
 use mathlib.Core.Path.{_≡_, refl}
@@ -15,8 +15,8 @@ use Rattle.model.specs.Tables.Words.{Tables, usedPlaces, placeCount, places}
 use Rattle.state.specs.EntityLaws.{Placed, place-agrees, placed-used}
 use Rattle.state.specs.Passes.{newAt, placeTest, unlike}
 
--- fewer than two are distinct
-pub unlike-few : (row : ℕ → ℕ) (n : ℕ) → n < 2 → true ≡ every n (unlike row)
+-- none and one are distinct
+pub unlike-few : (row : ℕ → ℕ) (n : ℕ) → n ≤ 1 → true ≡ every n (unlike row)
 unfolding every unlike
 unlike-few row zero h = refl
 unlike-few row (suc zero) h = refl
@@ -27,9 +27,9 @@ new-agrees : (row : ℕ → ℕ) (i : ℕ) → Agrees (newAt row i) ((row i ≡ 
 unfolding newAt
 new-agrees row i = agrees-or (agrees-eq (row i) 0) (agrees-T (unlike row i))
 
--- a row that holds something in its first n places and nothing behind them
+-- a row that holds something in its first n places and nothing after them
 module _ (row : ℕ → ℕ) (n : ℕ) (room : n ≤ placeCount) (used : (i : ℕ) → i < n → row i ≢ 0) (rest : (i : ℕ) → i < placeCount → n ≤ i → row i ≡ 0) where
-  -- where those n are distinct, each of the eight is new or holds nothing
+  -- where those n are distinct, each place is new or holds nothing
   new-place : T (every n (unlike row)) → (i : ℕ) → i < placeCount → (b : Bool) → Below i n b → T (newAt row i)
   new-place t i h true (under l) = new-agrees row i .from (inr (every-at n (unlike row) t i l))
   new-place t i h false (over m) = new-agrees row i .from (inl (rest i h m))
@@ -39,7 +39,7 @@ module _ (row : ℕ → ℕ) (n : ℕ) (room : n ≤ placeCount) (used : (i : �
   unlike-place i l (inl z) = absurd (used i l z)
   unlike-place i l (inr u) = u
 
-  -- so the n are distinct where all eight pass
+  -- so the n are distinct where all places pass
   unlike-new : every n (unlike row) ≡ every placeCount (newAt row)
   unlike-new = equal-bools (every n (unlike row)) (every placeCount (newAt row))
       (λ t. every-of placeCount (newAt row) (λ i h. new-place t i h (ltb i n) (below i n)))

@@ -21,30 +21,32 @@ use Rattle.model.specs.Tables.Layout.{Bounded, userOffset, userWidth}
 use Rattle.model.specs.Tables.WordAt.{userWordAt}
 use Rattle.model.specs.Tables.WordAtLaws.{user-word-back}
 use Rattle.model.specs.Tables.Words.{Tables, UserWord, authorised, clearance, current, device, devices, held, heldOp, kinds, missed, present}
-use Rattle.model.specs.Tables.Words.{spare, spareCount}
+use Rattle.model.specs.Tables.Words.{deviceKind, firstNoticed, lastNoticed, missedMost, operationCount, spare, spareCount}
 use Rattle.state.specs.Passes.{onDevice, userBlank, userHead}
+use Rattle.tables.specs.Singles.{singleCount}
 
 -- ---- the single words, as the code asks for them
 
--- words 0 to 4
-pub head-form : (p c a r v : ℕ) → (leb p 1 && (ltb c 1024 && (ltb a 256 && (ltb r 256 && (not (eqb v 0) || eqb r 0))))) ≡ userHead p c a r v
+-- presence, clearance, roles authorised and current, and the device
+pub head-form : (p c a r v : ℕ)
+    → (leb p 1 && (ltb c levelCount && (ltb a roleSets && (ltb r roleSets && (not (eqb v 0) || eqb r 0))))) ≡ userHead p c a r v
 unfolding userHead
 head-form p c a r v = rw (or-imp (eqb v 0) (eqb r 0))
 
 -- the notice
-pub notice-form : (h o n : ℕ) → ((eqb h 0 || (leb 5 h && leb h 16)) && (leb o 20 && (leb n 65535
+pub notice-form : (h o n : ℕ) → ((eqb h 0 || (leb firstNoticed h && leb h lastNoticed)) && (leb o operationCount && (leb n missedMost
     && ((not (eqb h 0) || eqb n 0) && ((not (eqb n 0) || eqb h 0) && (not (eqb h 0) || eqb o 0)))))) ≡ noticeTest h o n
 unfolding noticeTest
 notice-form h o n = rw (or-imp (eqb h 0) (eqb n 0), or-imp (eqb n 0) (eqb h 0), or-imp (eqb h 0) (eqb o 0))
 
--- the spare words stand behind the eight single ones
-pub spare-zero : (d : Tables) (u i : ℕ) → eqb (d .user u (userWordAt (8 + i))) 0 ≡ eqb (d .user u (spare i)) 0
+-- the spare words stand after the single ones
+pub spare-zero : (d : Tables) (u i : ℕ) → eqb (d .user u (userWordAt (singleCount + i))) 0 ≡ eqb (d .user u (spare i)) 0
 spare-zero d u i = ap (λ (w : UserWord). eqb (d .user u w) 0) (user-word-back (spare i))
 
 -- ---- a record
 
 module _ (d : Tables) (o : Bounded d) (u : ℕ) where
-  -- where all sixteen words are zero, each one is
+  -- where all words are zero, each one is
   blank-at : T (userBlank d u) → (f : UserWord) → userOffset f < userWidth → d .user u f ≡ 0
   unfolding userBlank
   blank-at t f h = ap (d .user u) (sym (user-word-back f))
@@ -74,7 +76,7 @@ module _ (d : Tables) (o : Bounded d) (u : ℕ) where
       (λ t. let z = user-agrees (d .user u) (o .sparesOut u) .to t .absent e in
       every-of userWidth (λ f. eqb (d .user u (userWordAt f)) 0) (λ f h. agrees-eq (d .user u (userWordAt f)) 0 .from (z (userWordAt f))))
 
--- of a user who is there: words 0 to 4, the notice, the spare words
+-- of a user who is there: the single words before the notice, the notice, the spare words
 pub user-present : (w : UserWord → ℕ) → w present ≢ 0
     → (userHead (w present) (w clearance) (w authorised) (w current) (w device)
     && (noticeTest (w held) (w heldOp) (w missed) && every spareCount (λ i. eqb (w (spare i)) 0))) ≡ userTest w
@@ -98,7 +100,7 @@ user-present w n = rw (ne-eqb (w present) 0 n)
 -- what the pass over the record of a user who is there has read
 module _ (w : UserWord → ℕ) (p c a r v : ℕ) (pe : p ≡ w present) (ce : c ≡ w clearance) (ae : a ≡ w authorised) (re : r ≡ w current)
     (ve : v ≡ w device) (n : p ≢ 0) (h : Bool) (he : h ≡ userHead p c a r v) where
-  -- words 0 to 4, as the record has them
+  -- the words before the notice, as the record has them
   head-read : h ≡ userHead (w present) (w clearance) (w authorised) (w current) (w device)
   head-read = he ∙ rw (pe, ce, ae, re, ve)
 
@@ -128,13 +130,14 @@ module _ (d : Tables) (u n : ℕ) (ne : n ≡ devices d u) where
   unfolding onDevice imp
   on-none z = rw (← ne, eq-eqb n 0 z)
 
-  module _ (z : n ≢ 0) (k : ℕ) (ke : k ≡ kinds d n) where
+  -- s says whether one can be logged on to what is of kind k
+  module _ (z : n ≢ 0) (k : ℕ) (ke : k ≡ kinds d n) (s : Bool) (se : s ≡ eqb k deviceKind) where
     -- on what is no device
-    pub on-other : k ≢ 3 → false ≡ onDevice d u
+    pub on-other : s ≡ false → false ≡ onDevice d u
     unfolding onDevice imp
-    on-other q = rw (← ne, ne-eqb n 0 z, ← ke, ne-eqb k 3 q)
+    on-other q = rw (← ne, ne-eqb n 0 z, ← ke, ← se, q)
 
     -- on a device, which is compared with those of the users before
-    pub on-alone : k ≡ 3 → (m : ℕ) → m ≡ pred u → (b : Bool) → b ≡ every m (λ v. not (eqb (devices d (suc v)) n)) → b ≡ onDevice d u
+    pub on-alone : s ≡ true → (m : ℕ) → m ≡ pred u → (b : Bool) → b ≡ every m (λ v. not (eqb (devices d (suc v)) n)) → b ≡ onDevice d u
     unfolding onDevice imp
-    on-alone q m me b be = be ∙ rw (me, ← ne, ne-eqb n 0 z, ← ke, eq-eqb k 3 q)
+    on-alone q m me b be = be ∙ rw (me, ← ne, ne-eqb n 0 z, ← ke, ← se, q)

@@ -1,5 +1,11 @@
-// The entities' records, each by itself, what stands in their places, and screens that nobody is on.
+// The records of the entities, each by itself, what stands in their places, and screens that nobody is on.
+use names::kind;
+use names::op;
+use names::range;
+use names::size;
+use names::types;
 use tables::Entity;
+use tables::triples;
 ghost use mathlib.Core.Path.{_≡_};
 ghost use mathlib.Core.Bool.{not, true};
 ghost use Prim.Native.Nat.{_+_, _<_, _≤_, suc};
@@ -9,9 +15,12 @@ ghost use Rattle.model.specs.Basics.Tests.{every};
 ghost use Rattle.model.specs.State.Tests.{shapeTest, tripleTest};
 ghost use Rattle.model.specs.Tables.Layout.{entityWidth, tablesOf, wordCount};
 ghost use Rattle.model.specs.Tables.WordAt.{entityWordAt};
-ghost use Rattle.model.specs.Tables.Words.{usedPlaces, deviceKind, entityCount, kinds, placeCount, places, triples};
-ghost use Rattle.state.specs.Passes.{usedTest, entityBlank, newAt, ownTest, placeTest, tripleNew, unlike};
+ghost use Rattle.model.specs.Tables.Words.{entityCount, kinds, placeCount, places, triples, usedPlaces};
+ghost use Rattle.state.specs.Passes.{Counted, usedTest, entityBlank, newAt, ownTest, placeTest, tripleNew, unlike};
 ghost use Rattle.tables.specs.Singles.{EntityIn};
+
+// The place of the last triple.
+const LAST_TRIPLE: u32 = size::TRIPLES - 1;
 
 // Whether word f of entity e is zero.
 fn word_zero(t: &[u32], e: Entity, f: usize) -> bool
@@ -28,39 +37,43 @@ fn entity_blank(t: &[u32], e: Entity) -> bool
 {
     let mut blank = true;
     let mut f: usize = 0;
-    while f < 32 {
+    while f < size::ENTITY_WORDS {
         blank = word_zero(t, e, f) & blank;
         f += 1;
     }
     blank
 }
 
-// Whether words 0 to 6 of an entity are in their ranges and fit each other.
+// Whether the single words of an entity but for the last are in their ranges and fit each other: kind k, type y, level l, mark m, value v,
+// releaser b and maximum x.
 fn shape_fine(k: u32, y: u32, l: u32, m: u32, v: u32, b: u32, x: u32) -> bool
     ensures { λ r. ⌜ r ≡ shapeTest k y l m v b x ⌝ }
 {
-    (k <= 3)
-        & ((y <= 2)
-            & ((l < 1024)
-                & ((m <= 1)
-                    & ((x < 1024)
-                        & (((y == 0) | (k == 2))
-                            & (((m == 0) | (k == 2))
-                                & ((!(y == 2) | ((1 <= b) & (b <= 16)))
-                                    & (((y == 2) | (b == 0))
-                                        & (((k == 3) | (x == 0)) & (!(k == 3) | (v == 0)))))))))))
+    let shows = tables::is_screen(k);
+    let container = k == kind::CONTAINER;
+    let released = y == types::RELEASED;
+    (k <= range::KIND_MOST)
+        & ((y <= range::TYPE_MOST)
+            & ((l < range::LEVELS)
+                & ((m <= range::MARK_MOST)
+                    & ((x < range::LEVELS)
+                        & (((y == types::PLAIN) | container)
+                            & (((m == 0) | container)
+                                & ((!released | ((1 <= b) & (b <= size::USERS)))
+                                    & ((released | (b == 0))
+                                        & ((shows | (x == 0)) & (!shows | (v == 0)))))))))))
 }
 
 // Whether an entity of kind k may use n places.
 fn used_fine(k: u32, n: u32) -> bool
     ensures { λ r. ⌜ r ≡ usedTest k n ⌝ }
 {
-    (n <= 8) & (!(k == 1) | (n == 0))
+    (n <= size::PLACES) & (!(k == kind::OBJECT) | (n == 0))
 }
 
-// Whether place i of entity e, which uses n places and is a device or not, holds what it may and shows what it may.
-fn place_fine(t: &[u32], e: Entity, s: bool, n: u32, i: u32) -> bool
-    requires { ⌜ EntityIn (now t) (e .0) × (n ≡ usedPlaces (tablesOf (now t)) (e .0)) × (s ≡ eqb (kinds (tablesOf (now t)) (e .0)) deviceKind) × (i < placeCount) ⌝ }
+// Whether place i of entity e, which uses n places and shows them or not, holds what it may, and what is shown of it is what may be.
+fn place_fine(t: &[u32], e: Entity, shows: bool, n: u32, i: u32) -> bool
+    requires { ⌜ EntityIn (now t) (e .0) × Counted (tablesOf (now t)) (e .0) n shows × (i < placeCount) ⌝ }
     ensures { λ r. ⌜ r ≡ placeTest (tablesOf (now (t .entry))) (e .0) i ⌝ }
 {
     let c = tables::place(t, e, i);
@@ -70,18 +83,19 @@ fn place_fine(t: &[u32], e: Entity, s: bool, n: u32, i: u32) -> bool
         return (x == 0) & (v == 0);
     }
     let k = tables::kind_or_zero(t, c);
-    (names::kind::OBJECT <= k)
-        & ((k <= names::kind::CONTAINER) & ((!s | ((1 <= v) & (v <= 7))) & (s | (v == 0))))
+    (kind::OBJECT <= k)
+        & ((k <= kind::CONTAINER)
+            & ((!shows | ((1 <= v) & (v <= range::SUM_MOST))) & (shows | (v == 0))))
 }
 
 // Whether every place of entity e is in order by itself.
-fn places_fine(t: &[u32], e: Entity, s: bool, n: u32) -> bool
-    requires { ⌜ EntityIn (now t) (e .0) × (n ≡ usedPlaces (tablesOf (now t)) (e .0)) × (s ≡ eqb (kinds (tablesOf (now t)) (e .0)) deviceKind) ⌝ }
+fn places_fine(t: &[u32], e: Entity, shows: bool, n: u32) -> bool
+    requires { ⌜ EntityIn (now t) (e .0) × Counted (tablesOf (now t)) (e .0) n shows ⌝ }
     ensures { λ r. ⌜ r ≡ every placeCount (placeTest (tablesOf (now (t .entry))) (e .0)) ⌝ }
 {
     let mut i: u32 = 0;
-    while i < 8 {
-        if !place_fine(t, e, s, n, i) {
+    while i < size::PLACES {
+        if !place_fine(t, e, shows, n, i) {
             return false;
         }
         i += 1;
@@ -116,17 +130,18 @@ fn place_new(t: &[u32], e: Entity, i: u32) -> bool
     true
 }
 
-// Whether the n places that entity e uses are distinct, where each is in order by itself. All eight are looked at, since a loop that always
+// Whether the n places that entity e uses are distinct, where each is in order by itself. All places are looked at, since a loop that always
 // ends at the same place has no end to be guessed; those not used are zero and pass.
 fn places_new(t: &[u32], e: Entity, n: u32) -> bool
-    requires { ⌜ EntityIn (now t) (e .0) × (n ≤ placeCount) × (n ≡ usedPlaces (tablesOf (now t)) (e .0)) × (every placeCount (placeTest (tablesOf (now t)) (e .0)) ≡ true) ⌝ }
+    requires { ⌜ EntityIn (now t) (e .0) × (n ≤ placeCount) × (n ≡ usedPlaces (tablesOf (now t)) (e .0))
+        × (every placeCount (placeTest (tablesOf (now t)) (e .0)) ≡ true) ⌝ }
     ensures { λ r. ⌜ r ≡ every n (unlike (places (tablesOf (now (t .entry))) (e .0))) ⌝ }
 {
-    if n < 2 {
+    if n <= 1 {
         return true;
     }
     let mut i: u32 = 0;
-    while i < 8 {
+    while i < size::PLACES {
         if !place_new(t, e, i) {
             return false;
         }
@@ -139,10 +154,12 @@ fn places_new(t: &[u32], e: Entity, n: u32) -> bool
 fn named(x: u32) -> bool
     ensures { λ r. ⌜ r ≡ tripleTest x ⌝ }
 {
-    let w = x / 65536;
-    let o = x / 256 % 256;
-    let p = x % 256;
-    ((1 <= w) & (w <= 24)) & (((1 <= o) & (o <= 20)) & ((1 <= p) & (p <= 2)))
+    let w = triples::who(x);
+    let o = triples::operation(x);
+    let p = triples::position(x);
+    ((1 <= w) & (w <= range::WHO_MOST))
+        & (((1 <= o) & (o <= range::OPERATION_MOST))
+            & ((op::FIRST <= p) & (p <= range::POSITION_MOST)))
 }
 
 // Whether triple j of entity e is another than x.
@@ -168,14 +185,14 @@ fn triple_unlike(t: &[u32], e: Entity, n: u32, x: u32) -> bool
     true
 }
 
-// Whether triple i of entity e is zero like the next one, or names what it may and is none of those before it.
+// Whether triple i of entity e is zero and so is the next one, or it names what it may and is none of those before it.
 fn triple_fine(t: &[u32], e: Entity, i: u32) -> bool
     requires { ⌜ EntityIn (now t) (e .0) × (i < placeCount) ⌝ }
     ensures { λ r. ⌜ r ≡ tripleNew (triples (tablesOf (now (t .entry))) (e .0)) i ⌝ }
 {
     let x = tables::triple(t, e, i);
     if x == 0 {
-        if 7 <= i {
+        if LAST_TRIPLE <= i {
             return true;
         }
         return tables::triple(t, e, i + 1) == 0;
@@ -192,7 +209,7 @@ fn triples_fine(t: &[u32], e: Entity) -> bool
     ensures { λ r. ⌜ r ≡ every placeCount (tripleNew (triples (tablesOf (now (t .entry))) (e .0))) ⌝ }
 {
     let mut i: u32 = 0;
-    while i < 8 {
+    while i < size::TRIPLES {
         if !triple_fine(t, e, i) {
             return false;
         }
@@ -221,7 +238,8 @@ fn present_fine(t: &[u32], e: Entity, k: u32) -> bool
     if !used_fine(k, n) {
         return false;
     }
-    if !places_fine(t, e, k == names::kind::DEVICE, n) {
+    let shows = tables::is_screen(k);
+    if !places_fine(t, e, shows, n) {
         return false;
     }
     if !places_new(t, e, n) {
@@ -230,10 +248,10 @@ fn present_fine(t: &[u32], e: Entity, k: u32) -> bool
     if !triples_fine(t, e) {
         return false;
     }
-    if (k != names::kind::DEVICE) | (n == 0) {
+    if !shows | (n == 0) {
         return true;
     }
-    !tables::nobody_on(t, e, 16)
+    !tables::nobody_on(t, e, size::USERS)
 }
 
 // Whether entity e is in order: its record by itself, what stands in its places, and its screen.
@@ -242,7 +260,7 @@ fn entity_fine(t: &[u32], e: Entity) -> bool
     ensures { λ r. ⌜ r ≡ ownTest (tablesOf (now (t .entry))) (e .0) ⌝ }
 {
     let k = tables::kind(t, e);
-    if k == 0 {
+    if k == kind::ABSENT {
         return entity_blank(t, e);
     }
     present_fine(t, e, k)
@@ -254,7 +272,7 @@ pub fn entities_fine(t: &[u32]) -> bool
     ensures { λ r. ⌜ r ≡ every entityCount (λ e. ownTest (tablesOf (now (t .entry))) (suc e)) ⌝ }
 {
     let mut i: u32 = 0;
-    while i < 64 {
+    while i < size::ENTITIES {
         if !entity_fine(t, Entity(i + 1)) {
             return false;
         }

@@ -1,4 +1,6 @@
-// The state check: whether 2,304 words are well-formed tables, and secure ones.
+// The state check: whether lent words are well-formed tables, and secure ones.
+use names::refusal;
+use names::size;
 ghost use mathlib.Core.Path.{_≡_};
 ghost use lib.ListN.{length};
 ghost use Rattle.model.specs.State.Check.{check, judge, secureTest, wellFormedTest};
@@ -37,26 +39,26 @@ pub fn is_secure(t: &[u32]) -> bool
     secure::users_secure(t)
 }
 
-// 2 where the tables are not well-formed, else 3 where they are not secure, else 0.
+// The refusal of tables that are not well-formed, else of tables that are not secure, else none.
 pub fn judged(t: &[u32]) -> u32
     requires { ⌜ length (now t) ≡ wordCount ⌝ }
     ensures { λ r. ⌜ r ≡ judge (tablesOf (now (t .entry))) ⌝ }
 {
     if !well_formed(t) {
-        return 2;
+        return refusal::NOT_WELL_FORMED;
     }
     if !is_secure(t) {
-        return 3;
+        return refusal::NOT_SECURE;
     }
-    0
+    refusal::ACCEPTED
 }
 
-// The state check of any words: 1 where they are not 2,304, else as judged.
+// The state check of any words: the refusal of a wrong number of them, else as judged.
 pub fn checked(t: &[u32]) -> u32
     ensures { λ r. ⌜ r ≡ check (now (t .entry)) ⌝ }
 {
-    if t.len() != 2304 {
-        return 1;
+    if t.len() != size::TABLE_WORDS {
+        return refusal::BAD_LENGTH;
     }
     judged(t)
 }

@@ -1,36 +1,36 @@
-// Definition 2, of any tables: in one pass over the entities and one over the users.
+// Whether any tables are secure (definition 2): one pass over the entities, and one over the users.
 use levels::Level;
+use names::size;
 use tables::Entity;
 use tables::User;
 ghost use mathlib.Core.Bool.{true};
 ghost use mathlib.Core.Path.{_≡_};
 ghost use Prim.Native.Nat.{_+_, _<_, _≤_, suc};
-ghost use lib.Dec.{eqb};
 ghost use lib.ListN.{length};
 ghost use Rattle.model.specs.Basics.Tests.{every};
 ghost use Rattle.model.specs.Level.{atMost};
 ghost use Rattle.model.specs.Tables.Layout.{tablesOf, wordCount};
-ghost use Rattle.model.specs.Tables.Words.{deviceKind, entityCount, kinds, level, placeCount, places, userCount};
-ghost use Rattle.state.specs.Passes.{allSecure, capped, entitySecure, placeSecure, userSecure};
+ghost use Rattle.model.specs.Tables.Words.{entityCount, level, placeCount, places, userCount};
+ghost use Rattle.state.specs.Passes.{Graded, allSecure, capped, entitySecure, placeSecure, userSecure};
 ghost use Rattle.tables.specs.Singles.{EntityIn, UserIn};
 
-// Whether place i of entity e, of level l and a device or not, keeps rules 4.1 and 4.3.
-fn place_secure(t: &[u32], e: Entity, l: Level, s: bool, i: u32) -> bool
-    requires { ⌜ EntityIn (now t) (e .0) × (l .0 ≡ tablesOf (now t) .entity (e .0) level) × (s ≡ eqb (kinds (tablesOf (now t)) (e .0)) deviceKind) × (i < placeCount) ⌝ }
+// Whether place i of entity e, which is of level l and shows its places or not, keeps rules 4.1 and 4.3.
+fn place_secure(t: &[u32], e: Entity, l: Level, shows: bool, i: u32) -> bool
+    requires { ⌜ EntityIn (now t) (e .0) × Graded (tablesOf (now t)) (e .0) (l .0) shows × (i < placeCount) ⌝ }
     ensures { λ r. ⌜ r ≡ placeSecure (tablesOf (now (t .entry))) (e .0) i ⌝ }
 {
     levels::at_most(tables::level_or_zero(t, tables::place(t, e, i)), l)
-        & (!s | tables::sums::is_labelled(tables::shown(t, e, i)))
+        & (!shows | tables::sums::is_labelled(tables::shown(t, e, i)))
 }
 
 // Whether the first n places of entity e keep rules 4.1 and 4.3.
-fn places_secure(t: &[u32], e: Entity, l: Level, s: bool, n: u32) -> bool
-    requires { ⌜ EntityIn (now t) (e .0) × (l .0 ≡ tablesOf (now t) .entity (e .0) level) × (s ≡ eqb (kinds (tablesOf (now t)) (e .0)) deviceKind) × (n ≤ placeCount) ⌝ }
+fn places_secure(t: &[u32], e: Entity, l: Level, shows: bool, n: u32) -> bool
+    requires { ⌜ EntityIn (now t) (e .0) × Graded (tablesOf (now t)) (e .0) (l .0) shows × (n ≤ placeCount) ⌝ }
     ensures { λ r. ⌜ r ≡ every n (placeSecure (tablesOf (now (t .entry))) (e .0)) ⌝ }
 {
     let mut i: u32 = 0;
     while i < n {
-        if !place_secure(t, e, l, s, i) {
+        if !place_secure(t, e, l, shows, i) {
             return false;
         }
         i += 1;
@@ -38,12 +38,12 @@ fn places_secure(t: &[u32], e: Entity, l: Level, s: bool, n: u32) -> bool
     true
 }
 
-// The number n, or eight where it is more.
-fn at_most_eight(n: u32) -> u32
+// The number n, or that of the places of a row where it is more.
+fn capped(n: u32) -> u32
     ensures { λ r. ⌜ r ≡ capped n ⌝ }
 {
-    if 8 < n {
-        return 8;
+    if size::PLACES < n {
+        return size::PLACES;
     }
     n
 }
@@ -53,13 +53,13 @@ fn entity_secure(t: &[u32], e: Entity) -> bool
     requires { ⌜ EntityIn (now t) (e .0) ⌝ }
     ensures { λ r. ⌜ r ≡ entitySecure (tablesOf (now (t .entry))) (e .0) ⌝ }
 {
-    let n = at_most_eight(tables::used(t, e));
+    let n = capped(tables::used(t, e));
     let l = tables::level(t, e);
-    let s = tables::kind(t, e) == names::kind::DEVICE;
-    if !places_secure(t, e, l, s, n) {
+    let shows = tables::is_screen(tables::kind(t, e));
+    if !places_secure(t, e, l, shows, n) {
         return false;
     }
-    if !s {
+    if !shows {
         return true;
     }
     levels::at_most(l, tables::maximum(t, e))
@@ -71,7 +71,7 @@ pub fn entities_secure(t: &[u32]) -> bool
     ensures { λ r. ⌜ r ≡ every entityCount (λ e. entitySecure (tablesOf (now (t .entry))) (suc e)) ⌝ }
 {
     let mut i: u32 = 0;
-    while i < 64 {
+    while i < size::ENTITIES {
         if !entity_secure(t, Entity(i + 1)) {
             return false;
         }
@@ -103,8 +103,8 @@ fn places_below(t: &[u32], v: Entity, c: Level, n: u32) -> bool
     true
 }
 
-// Whether user u keeps rules 4.2 and 4.4, where every entity is secure: what a device shows is at most its own level then (4.1), so of one that is
-// at most the clearance it need not be looked at.
+// Whether user u keeps rules 4.2 and 4.4, where every entity is secure. What a device shows is at most its own level then (4.1), so it need not be
+// looked at where that level is at most the clearance.
 fn user_secure(t: &[u32], u: User) -> bool
     requires { ⌜ UserIn (now t) (u .0) × (allSecure (tablesOf (now t)) ≡ true) ⌝ }
     ensures { λ r. ⌜ r ≡ userSecure (tablesOf (now (t .entry))) (u .0) ⌝ }
@@ -117,14 +117,14 @@ fn user_secure(t: &[u32], u: User) -> bool
     if n < 1 {
         return true;
     }
-    if 64 < n {
+    if size::ENTITIES < n {
         return true;
     }
     let c = tables::clearance(t, u);
     if levels::at_most(tables::level(t, v), c) {
         return true;
     }
-    places_below(t, v, c, at_most_eight(tables::used(t, v)))
+    places_below(t, v, c, capped(tables::used(t, v)))
 }
 
 // Whether every user keeps rules 4.2 and 4.4, where every entity is secure.
@@ -133,7 +133,7 @@ pub fn users_secure(t: &[u32]) -> bool
     ensures { λ r. ⌜ r ≡ every userCount (λ u. userSecure (tablesOf (now (t .entry))) (suc u)) ⌝ }
 {
     let mut i: u32 = 0;
-    while i < 16 {
+    while i < size::USERS {
         if !user_secure(t, User(i + 1)) {
             return false;
         }

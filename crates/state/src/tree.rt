@@ -1,25 +1,25 @@
-// Containers in containers: no entity stands in two, and none lies in itself. One pass notes for each entity what it stands in;
-// climbing that list, from all entities at once, decides depth.
+// Containers in containers: no entity stands in two, and none lies in itself. One pass notes for each entity the container that it stands in.
+// Then all entities climb that list at once: whoever has not come out of the last container after as many steps as there are entities, lies in itself.
+use names::kind;
+use names::size;
 use tables::Entity;
 ghost use mathlib.Core.Path.{_≡_};
 ghost use mathlib.Core.Bool.{true};
-ghost use Prim.Native.Nat.{_*_, _-_, suc};
+ghost use Prim.Native.Nat.{_*_, _-_};
 ghost use lib.ListN.{getD, length};
-ghost use Rattle.model.specs.Basics.Tests.{every};
-ghost use Rattle.model.specs.State.Climb.{up};
 ghost use Rattle.model.specs.Tables.Layout.{tablesOf, wordCount};
-ghost use Rattle.model.specs.Tables.Words.{entityCount};
-ghost use Rattle.state.specs.Holders.{Filled, Filling, Low};
-ghost use Rattle.state.specs.Jumps.{Jumped};
+ghost use Rattle.model.specs.Tables.Words.{placeCount};
+ghost use Rattle.state.specs.Holders.{Filled, Filling, Low, entityNumbers, slotCount};
+ghost use Rattle.state.specs.Jumps.{Jumped, allEnd};
 ghost use Rattle.state.specs.Passes.{allOwn, treeTest};
 ghost use Rattle.tables.specs.Singles.{EntityIn};
 
-// The places of entity c, if it is a container, are noted in h; false where something in them is noted already.
-fn note_row(t: &[u32], h: &mut [u32; 65], c: Entity) -> bool
-    requires { ⌜ EntityIn (now t) (c .0) × (allOwn (tablesOf (now t)) ≡ true) × Filled (tablesOf (now t)) ((c .0 - 1) * 8) (now h) ⌝ }
-    ensures { λ r. ⌜ Filling (tablesOf (now (t .entry))) (c .0 * 8) r (now (h .exit)) ⌝ }
+// Notes in h what stands in the places of entity c, if it is a container. Returns false where some of it is noted already.
+fn note_row(t: &[u32], h: &mut [u32; size::ENTITY_NUMBERS], c: Entity) -> bool
+    requires { ⌜ EntityIn (now t) (c .0) × (allOwn (tablesOf (now t)) ≡ true) × Filled (tablesOf (now t)) ((c .0 - 1) * placeCount) (now h) ⌝ }
+    ensures { λ r. ⌜ Filling (tablesOf (now (t .entry))) (c .0 * placeCount) r (now (h .exit)) ⌝ }
 {
-    if tables::kind(t, c) != names::kind::CONTAINER {
+    if tables::kind(t, c) != kind::CONTAINER {
         return true;
     }
     let n = tables::used(t, c);
@@ -35,13 +35,13 @@ fn note_row(t: &[u32], h: &mut [u32; 65], c: Entity) -> bool
     true
 }
 
-// The places of every container are noted in h; false where something stands in two.
-fn note_all(t: &[u32], h: &mut [u32; 65]) -> bool
+// Notes in h what stands in every container. Returns false where something stands in two.
+fn note_all(t: &[u32], h: &mut [u32; size::ENTITY_NUMBERS]) -> bool
     requires { ⌜ (length (now t) ≡ wordCount) × (allOwn (tablesOf (now t)) ≡ true) × Filled (tablesOf (now t)) 0 (now h) ⌝ }
-    ensures { λ r. ⌜ Filling (tablesOf (now (t .entry))) 512 r (now (h .exit)) ⌝ }
+    ensures { λ r. ⌜ Filling (tablesOf (now (t .entry))) slotCount r (now (h .exit)) ⌝ }
 {
     let mut i: u32 = 0;
-    while i < 64 {
+    while i < size::ENTITIES {
         if !note_row(t, h, Entity(i + 1)) {
             return false;
         }
@@ -50,14 +50,18 @@ fn note_all(t: &[u32], h: &mut [u32; 65]) -> bool
     true
 }
 
-// What is up from each number by a, and on from there by b, is noted in d; whether that is nothing for all of them.
-fn jump(a: &[u32; 65], b: &[u32; 65], d: &mut [u32; 65]) -> bool
-    requires { ⌜ Low (now a) × Low (now b) × (length (now d) ≡ 65) ⌝ }
-    ensures { λ r. ⌜ Jumped (now (a .entry)) (now (b .entry)) (suc entityCount) r (now (d .exit)) ⌝ }
+// Sets d[i] = b[a[i]] for every i. Returns whether all are 0.
+fn jump(
+    a: &[u32; size::ENTITY_NUMBERS],
+    b: &[u32; size::ENTITY_NUMBERS],
+    d: &mut [u32; size::ENTITY_NUMBERS],
+) -> bool
+    requires { ⌜ Low (now a) × Low (now b) × (length (now d) ≡ entityNumbers) ⌝ }
+    ensures { λ r. ⌜ Jumped (now (a .entry)) (now (b .entry)) entityNumbers r (now (d .exit)) ⌝ }
 {
     let mut none = true;
     let mut i: usize = 0;
-    while i < 65 {
+    while i < size::ENTITY_NUMBERS {
         let y = b[a[i] as usize];
         d[i] = y;
         none = (y == 0) & none;
@@ -66,16 +70,16 @@ fn jump(a: &[u32; 65], b: &[u32; 65], d: &mut [u32; 65]) -> bool
     none
 }
 
-// Whether the way up from every entity ends. All of them climb at once, each time twice as far, so that no branch waits on how deep one lies.
-fn all_end(h: &[u32; 65]) -> bool
+// Whether the way up from every entity ends. All of them climb at once, each time twice as far, so that no branch waits for how deep one lies.
+fn all_end(h: &[u32; size::ENTITY_NUMBERS]) -> bool
     requires { ⌜ Low (now h) × (getD (now h) 0 0 ≡ 0) ⌝ }
-    ensures { λ r. ⌜ r ≡ every entityCount (λ e. up (λ x. getD (now (h .entry)) x 0) (suc entityCount) (suc e)) ⌝ }
+    ensures { λ r. ⌜ r ≡ allEnd (now (h .entry)) ⌝ }
 {
-    let mut a = [0u32; 65];
+    let mut a = [0u32; size::ENTITY_NUMBERS];
     if jump(h, h, &mut a) {
         return true;
     }
-    let mut b = [0u32; 65];
+    let mut b = [0u32; size::ENTITY_NUMBERS];
     if jump(&a, &a, &mut b) {
         return true;
     }
@@ -99,7 +103,7 @@ pub fn tree_fine(t: &[u32]) -> bool
     requires { ⌜ (length (now t) ≡ wordCount) × (allOwn (tablesOf (now t)) ≡ true) ⌝ }
     ensures { λ r. ⌜ r ≡ treeTest (tablesOf (now (t .entry))) ⌝ }
 {
-    let mut h = [0u32; 65];
+    let mut h = [0u32; size::ENTITY_NUMBERS];
     if !note_all(t, &mut h) {
         return false;
     }

@@ -1,5 +1,7 @@
-// The users' records, each by itself, and who is on which device.
-use tables::Entity;
+// The records of the users, each by itself, and who is on which device.
+use names::range;
+use names::size;
+use names::word;
 use tables::User;
 ghost use mathlib.Core.Path.{_≡_};
 ghost use mathlib.Core.Bool.{not};
@@ -29,7 +31,7 @@ fn user_blank(t: &[u32], u: User) -> bool
 {
     let mut blank = true;
     let mut f: usize = 0;
-    while f < 16 {
+    while f < size::USER_WORDS {
         blank = word_zero(t, u, f) & blank;
         f += 1;
     }
@@ -43,8 +45,8 @@ fn spares_zero(t: &[u32], u: User) -> bool
 {
     let mut blank = true;
     let mut f: usize = 0;
-    while f < 8 {
-        blank = word_zero(t, u, 8 + f) & blank;
+    while f < size::SPARES {
+        blank = word_zero(t, u, word::USER_SPARES + f) & blank;
         f += 1;
     }
     blank
@@ -54,17 +56,20 @@ fn spares_zero(t: &[u32], u: User) -> bool
 fn notice_fine(h: u32, o: u32, n: u32) -> bool
     ensures { λ r. ⌜ r ≡ noticeTest h o n ⌝ }
 {
-    ((h == 0) | ((5 <= h) & (h <= 16)))
-        & ((o <= 20)
-            & ((n <= 65535)
+    ((h == 0) | ((range::FIRST_NOTICED <= h) & (h <= range::LAST_NOTICED)))
+        & ((o <= range::OPERATION_MOST)
+            & ((n <= range::MISSED_MOST)
                 & ((!(h == 0) | (n == 0)) & ((!(n == 0) | (h == 0)) & (!(h == 0) | (o == 0))))))
 }
 
-// Whether the single words of a user who is there are in their ranges.
+// Whether the words before the notice of a user who is there are in their ranges: presence p, clearance c, roles authorised a and current r,
+// and device d.
 fn user_head(p: u32, c: u32, a: u32, r: u32, d: u32) -> bool
     ensures { λ z. ⌜ z ≡ userHead p c a r d ⌝ }
 {
-    (p <= 1) & ((c < 1024) & ((a < 256) & ((r < 256) & (!(d == 0) | (r == 0)))))
+    (p <= range::PRESENT_MOST)
+        & ((c < range::LEVELS)
+            & ((a < range::ROLE_SETS) & ((r < range::ROLE_SETS) & (!(d == 0) | (r == 0)))))
 }
 
 // Whether the record of user u is in order by itself.
@@ -101,7 +106,7 @@ pub fn users_fine(t: &[u32]) -> bool
     ensures { λ r. ⌜ r ≡ every userCount (λ u. userTest (tablesOf (now (t .entry)) .user (suc u))) ⌝ }
 {
     let mut i: u32 = 0;
-    while i < 16 {
+    while i < size::USERS {
         if !user_fine(t, User(i + 1)) {
             return false;
         }
@@ -120,19 +125,19 @@ fn device_fine(t: &[u32], u: User) -> bool
     if n == 0 {
         return true;
     }
-    if tables::kind_or_zero(t, d) != names::kind::DEVICE {
+    if !tables::is_terminal(tables::kind_or_zero(t, d)) {
         return false;
     }
     tables::nobody_on(t, d, u.0 - 1)
 }
 
-// Whether all who are on are on devices of their own.
+// Whether each user who is on is on a device alone.
 pub fn devices_fine(t: &[u32]) -> bool
     requires { ⌜ length (now t) ≡ wordCount ⌝ }
     ensures { λ r. ⌜ r ≡ every userCount (λ u. onDevice (tablesOf (now (t .entry))) (suc u)) ⌝ }
 {
     let mut i: u32 = 0;
-    while i < 16 {
+    while i < size::USERS {
         if !device_fine(t, User(i + 1)) {
             return false;
         }

@@ -6,18 +6,20 @@ use Rattle.model.specs.List.AdmittedLaws.{barred-admitted}
 use borrow.Author.Needs.{needs}
 use Rattle.disclosure.proofs.disclose.Statement.{statement}
 use Rattle.disclosure.proofs.disclose.Tie as tie
-use Rattle.disclosure.proofs.tally.tally_all.Reads as tally-all-reads
-use Rattle.disclosure.proofs.verdicts.judge_all.Reads as judge-all-reads
-use Rattle.disclosure.proofs.walk.visit_all.Reads as visit-all-reads
 
 judge-all-requires : tie.Need-judge-all-requires
 judge-all-requires c κs = (barred-admitted _ _ (c .before .before .before .pre), judged-none _ _ _ refl refl)
 
 tally-all-requires : tie.Need-tally-all-requires
-tally-all-requires c κs = (judged-guided _ _ _ (barred-admitted _ _ (c .before .before .before .before .before .before .pre)) (c .before .before .judge-all .ensures), refl)
+tally-all-requires c κs =
+    let s6 = c .before .before .before .before .before .before in
+    (judged-guided _ _ _ (barred-admitted _ _ (s6 .pre)) (c .before .before .judge-all .ensures), refl)
 
 returns : tie.Need-returns
-returns c = end-none _ _ _ (c .before .before .before .before .before .before .before .before .pre) (c .before .before .before .before .judge-all .ensures) _ (c .before .tally-all .ensures .0) _ (omega (arith, c .if1 .taken))
+returns c =
+    let s4 = c .before .before .before .before in
+    let s8 = s4 .before .before .before .before in
+    end-none _ _ _ (s8 .pre) (s4 .judge-all .ensures) _ (c .before .tally-all .ensures .0) _ (omega (arith, c .if1 .taken))
 
 cast-need : tie.Need-cast-need
 cast-need c = search needs
@@ -26,16 +28,33 @@ mul-need : tie.Need-mul-need
 mul-need c = search needs
 
 returns-2 : tie.Need-returns-2
-returns-2 c = end-short _ _ _ (c .before .before .before .before .before .before .before .before .before .pre) (c .before .before .before .before .before .judge-all .ensures) _ (c .before .before .tally-all .ensures .0) _ (omega (arith, c .if2 .taken))
+returns-2 c =
+    let s5 = c .before .before .before .before .before in
+    let s9 = s5 .before .before .before .before in
+    end-short _ _ _ (s9 .pre) (s5 .judge-all .ensures) _ (c .before .before .tally-all .ensures .0) _ (omega (arith, c .if2 .taken))
 
 visit-all-requires : tie.Need-visit-all-requires
-visit-all-requires c κs = (judged-guided _ _ _ (barred-admitted _ _ (c .before .before .before .before .before .before .before .before .before .before .before .before .pre)) (c .before .before .before .before .before .before .before .before .judge-all .ensures), c .before .before .before .before .before .tally-all .ensures .1, end-fits _ _ _ (c .before .before .before .before .before .before .before .before .before .before .before .before .pre) (c .before .before .before .before .before .before .before .before .judge-all .ensures) _ (c .before .before .before .before .before .tally-all .ensures .0) (c .before .before .before .before .before .before .before .before .before .before .before .before .args .room .now) (omega (arith, c .before .before .before .if2 .left)))
+visit-all-requires c κs =
+    let s5 = c .before .before .before .before .before in
+    let s8 = s5 .before .before .before in
+    let s12 = s8 .before .before .before .before in (
+      judged-guided _ _ _ (barred-admitted _ _ (s12 .pre)) (s8 .judge-all .ensures),
+      s5 .tally-all .ensures .1,
+      end-fits _ _ _ (s12 .pre)
+          (s8 .judge-all .ensures) _ (s5 .tally-all .ensures .0) (s12 .args .room .now) (omega (arith, c .before .before .before .if2 .left)),
+    )
 
 same-length : tie.Need-same-length
 same-length c = search needs
 
 returns-3 : tie.Need-returns-3
-returns-3 c = end-written _ _ _ (c .before .before .before .before .before .before .before .before .before .before .before .before .before .before .before .pre) (c .before .before .before .before .before .before .before .before .before .before .before .judge-all .ensures) _ (c .before .before .before .before .before .before .before .before .tally-all .ensures .0) _ _ (omega (arith, c .before .before .before .before .before .before .if2 .left)) (c .before .before .visit-all .ensures)
+returns-3 c =
+    let s6 = c .before .before .before .before .before .before in
+    let s8 = s6 .before .before in
+    let s11 = s8 .before .before .before in
+    let s15 = s11 .before .before .before .before in
+    end-written _ _ _ (s15 .pre) (s11 .judge-all .ensures) _ (s8 .tally-all .ensures .0) _ _ (omega (arith, s6 .if2 .left))
+    (c .before .before .visit-all .ensures)
 
 pub disclose-spec : {M : Type 1} → statement M
 disclose-spec =

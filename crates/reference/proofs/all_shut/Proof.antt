@@ -12,7 +12,6 @@ use Rattle.model.specs.Tables.Words.{placeCount, triples}
 use Rattle.model.specs.Tables.Layout.{tablesOf}
 use Rattle.reference.proofs.all_shut.Statement.{statement}
 use Rattle.reference.proofs.all_shut.Tie as tie
-use Rattle.reference.proofs.shuts.Reads as shuts-reads
 
 abbrev Inv-loop : tie.InvT-loop
 Inv-loop t e u roles key i₀ i = (i ≤ placeCount) × (every i (λ k. not (admits (u .0) roles key (triples (tablesOf t) (e .0) k))) ≡ true)

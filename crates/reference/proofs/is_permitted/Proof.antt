@@ -2,7 +2,6 @@ use Rattle.reference.specs.TripleLaws.{permits-some}
 use borrow.Author.Needs.{needs}
 use Rattle.reference.proofs.is_permitted.Statement.{statement}
 use Rattle.reference.proofs.is_permitted.Tie as tie
-use Rattle.reference.proofs.all_shut.Reads as all-shut-reads
 
 current-requires : tie.Need-current-requires
 current-requires c κs = search needs

@@ -1,7 +1,6 @@
 use borrow.Author.Needs.{needs}
 use Rattle.reference.proofs.shuts.Statement.{statement}
 use Rattle.reference.proofs.shuts.Tie as tie
-use Rattle.reference.proofs.is_admitted.Reads as is-admitted-reads
 
 triple-requires : tie.Need-triple-requires
 triple-requires c κs = search needs

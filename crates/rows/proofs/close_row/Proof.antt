@@ -47,8 +47,8 @@ loop-again c =
       search needs,
       omega arith,
       omega arith,
-      closing-step _ (row-name (a .r)) _ _ (tablesOf (a .t .now)) _ _ _ _
-          (s7 .loop .inv .1) (s7 .loop .inv .3) (s4 .row-word .ensures) (c .before .before .set-row-word .ensures),
+      closing-step _ (row-name (a .r)) _ _ (tablesOf (a .t .now)) _ _ _ _ (s7 .loop .inv .1)
+          (s7 .loop .inv .3) (s4 .row-word .ensures) (c .before .before .set-row-word .ensures),
     )
 
 set-row-word-requires-2 : tie.Need-set-row-word-requires-2 Inv-loop μ-loop
@@ -62,8 +62,8 @@ returns c =
     let s5 = c .before .before .before .before .before in
     let s7 = s5 .before .before in
     let a = s7 .args in
-    closing-end _ (row-name (a .r)) (a .e .0) _ (tablesOf (a .t .now)) (row-out (a .r) _ (bounded _) _) (s7 .pre .2) (s5 .loop .i) _ _ (omega arith)
-    (s5 .loop .inv .3) (c .before .before .set-row-word2 .ensures)
+    closing-end _ (row-name (a .r)) (a .e .0) _ (tablesOf (a .t .now)) (row-out (a .r) _ (bounded _) _) (s7 .pre .2) (s5 .loop .i) _ _
+    (omega arith) (s5 .loop .inv .3) (c .before .before .set-row-word2 .ensures)
 
 pub close-row-spec : {M : Type 1} → statement M
 close-row-spec =

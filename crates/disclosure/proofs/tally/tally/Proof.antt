@@ -2,9 +2,9 @@ use native.Mathlib.Omega.{arith}
 use Prim.Native.Nat.{_*_, _+_, _-_}
 use Rattle.disclosure.specs.TallyLaws.{tallied-less, tally-last, tally-more, under-few}
 use borrow.Author.Needs.{needs}
+use Rattle.model.specs.Tables.Words.{entityCount}
 use Rattle.disclosure.proofs.tally.tally.Statement.{statement}
 use Rattle.disclosure.proofs.tally.tally.Tie as tie
-use Rattle.disclosure.proofs.tally.tally_places.Reads as tally-places-reads
 
 cast-shown : tie.Need-cast-shown
 cast-shown c = search needs
@@ -22,13 +22,30 @@ sub-tally-places : tie.Need-sub-tally-places
 sub-tally-places c = search needs
 
 tally-places-requires : tie.Need-tally-places-requires
-tally-places-requires c κs = (c .before .before .before .before .pre .0, tallied-less (c .before .before .before .before .args .t .now) (c .before .before .before .before .args .v .now) (c .before .before .before .before .args .b .now) ((c .before .before .before .before .args .k - 1 + 1) * 64) _ (omega (arith, c .if1 .left)) (c .before .before .before .before .pre .1), omega (arith, c .before .before .before .before .pre .2), c .before .before .before .before .pre .3, c .before .before .before .before .pre .4)
+tally-places-requires c κs =
+    let s4 = c .before .before .before .before in (
+      s4 .pre .0,
+      tallied-less (s4 .args .t .now) (s4 .args .v .now) (s4 .args .b .now) ((s4 .args .k - 1 + 1) * entityCount) _
+          (omega (arith, c .if1 .left)) (s4 .pre .1),
+      omega (arith, s4 .pre .2),
+      s4 .pre .3,
+      s4 .pre .4,
+    )
 
 add-result : tie.Need-add-result
-add-result c = omega (arith, tally-more (c .before .before .before .before .before .args .t .now) (c .before .before .before .before .before .args .v .now) (c .before .before .before .before .before .args .k) (c .before .before .before .before .before .args .e .0) _ (c .before .if1 .left) (c .tally-places .ensures), under-few (c .before .before .before .before .before .args .t .now) (c .before .before .before .before .before .args .v .now) (c .before .before .before .before .before .pre .0) (c .before .before .before .before .before .args .k) (c .before .before .before .before .before .args .e .0) (c .before .before .before .before .before .pre .2))
+add-result c =
+    let s5 = c .before .before .before .before .before in
+    omega (
+      arith,
+      tally-more (s5 .args .t .now) (s5 .args .v .now) (s5 .args .k) (s5 .args .e .0) _ (c .before .if1 .left)
+          (c .tally-places .ensures),
+      under-few (s5 .args .t .now) (s5 .args .v .now) (s5 .pre .0) (s5 .args .k) (s5 .args .e .0) (s5 .pre .2),
+    )
 
 returns-2 : tie.Need-returns-2
-returns-2 c = tally-more (c .before .before .before .before .before .args .t .now) (c .before .before .before .before .before .args .v .now) (c .before .before .before .before .before .args .k) (c .before .before .before .before .before .args .e .0) _ (c .before .if1 .left) (c .tally-places .ensures)
+returns-2 c =
+    let s5 = c .before .before .before .before .before in
+    tally-more (s5 .args .t .now) (s5 .args .v .now) (s5 .args .k) (s5 .args .e .0) _ (c .before .if1 .left) (c .tally-places .ensures)
 
 pub tally-spec : {M : Type 1} → statement M
 tally-spec =

@@ -32,7 +32,12 @@ loop-holds c = (omega arith, refl)
 
 place-requires : tie.Need-place-requires Inv-loop μ-loop
 unfolding leads
-place-requires c κs = ((c .before .before .before .before .before .pre .0 .whole, c .before .before .before .before .before .pre .3, c .before .before .before .before .before .pre .4), guided-place (c .before .before .before .before .before .args .t .now) (c .before .before .before .before .before .args .v .now) (c .before .before .before .before .before .pre .0) (c .before .before .before .before .before .args .e .0) _ _ refl (c .loop-test .taken))
+place-requires c κs =
+    let s5 = c .before .before .before .before .before in (
+      (s5 .pre .0 .whole, s5 .pre .3, s5 .pre .4),
+      guided-place (s5 .args .t .now) (s5 .args .v .now) (s5 .pre .0) (s5 .args .e .0) _ _ refl
+          (c .loop-test .taken),
+    )
 
 mul-s : tie.Need-mul-s Inv-loop μ-loop
 mul-s c = omega (arith, c .before .before .before .before .before .before .pre .2)
@@ -42,34 +47,85 @@ cast-s c = search needs
 
 add-s : tie.Need-add-s Inv-loop μ-loop
 unfolding leads
-add-s c = omega (arith, c .before .before .before .before .before .before .before .pre .2, guided-next (c .before .before .before .before .before .before .before .args .t .now) (c .before .before .before .before .before .before .before .args .v .now) (c .before .before .before .before .before .before .before .pre .0) (c .before .before .before .before .before .before .before .args .e .0) _ _ refl (c .before .before .loop-test .taken) _ (c .before .place .ensures))
+add-s c =
+    let s7 = c .before .before .before .before .before .before .before in
+    omega (
+      arith,
+      s7 .pre .2,
+      guided-next (s7 .args .t .now) (s7 .args .v .now) (s7 .pre .0) (s7 .args .e .0) _ _ refl
+          (c .before .before .loop-test .taken) _ (c .before .place .ensures),
+    )
 
 mul-s-2 : tie.Need-mul-s-2 Inv-loop μ-loop
 unfolding leads
-mul-s-2 c = omega (arith, c .before .before .before .before .before .before .before .pre .2, guided-next (c .before .before .before .before .before .before .before .args .t .now) (c .before .before .before .before .before .before .before .args .v .now) (c .before .before .before .before .before .before .before .pre .0) (c .before .before .before .before .before .before .before .args .e .0) _ _ refl (c .before .before .loop-test .taken) _ (c .before .place .ensures))
+mul-s-2 c =
+    let s7 = c .before .before .before .before .before .before .before in
+    omega (
+      arith,
+      s7 .pre .2,
+      guided-next (s7 .args .t .now) (s7 .args .v .now) (s7 .pre .0) (s7 .args .e .0) _ _ refl
+          (c .before .before .loop-test .taken) _ (c .before .place .ensures),
+    )
 
 element-copy-out-s : tie.Need-element-copy-out-s Inv-loop μ-loop
 unfolding leads
-element-copy-out-s c = omega (arith, c .before .before .before .before .before .before .before .pre .2, guided-next (c .before .before .before .before .before .before .before .args .t .now) (c .before .before .before .before .before .before .before .args .v .now) (c .before .before .before .before .before .before .before .pre .0) (c .before .before .before .before .before .before .before .args .e .0) _ _ refl (c .before .before .loop-test .taken) _ (c .before .place .ensures))
+element-copy-out-s c =
+    let s7 = c .before .before .before .before .before .before .before in
+    omega (
+      arith,
+      s7 .pre .2,
+      guided-next (s7 .args .t .now) (s7 .args .v .now) (s7 .pre .0) (s7 .args .e .0) _ _ refl
+          (c .before .before .loop-test .taken) _ (c .before .place .ensures),
+    )
 
 add-s-2 : tie.Need-add-s-2 Inv-loop μ-loop
 unfolding leads
-add-s-2 c = let g = guided-next (c .before .before .before .before .before .before .before .before .args .t .now) (c .before .before .before .before .before .before .before .before .args .v .now) (c .before .before .before .before .before .before .before .before .pre .0) (c .before .before .before .before .before .before .before .before .args .e .0) _ _ refl (c .before .before .before .loop-test .taken) _ (c .before .before .place .ensures) in omega (arith, tally-place (c .before .before .before .before .before .before .before .before .args .t .now) (c .before .before .before .before .before .before .before .before .args .v .now) (c .before .before .before .before .before .before .before .before .args .b .now) _ (c .before .before .before .before .before .before .before .before .pre .1) (c .before .before .before .before .before .before .before .before .args .k) (c .before .before .before .before .before .before .before .before .args .e .0) (c .before .before .before .before .loop .p) _ _ (g .0) (g .1) (omega arith) (c .before .before .place .ensures) (c .before .before .before .before .loop .inv .1), inside-few (c .before .before .before .before .before .before .before .before .args .t .now) (c .before .before .before .before .before .before .before .before .args .v .now) (c .before .before .before .before .before .before .before .before .pre .0) (c .before .before .before .before .before .before .before .before .args .k) (c .before .before .before .before .before .before .before .before .args .e .0) (c .before .before .before .before .loop .p + 1) (c .before .before .before .before .before .before .before .before .pre .2) (omega (arith, c .before .before .before .loop-test .taken)))
+add-s-2 c =
+    let s4 = c .before .before .before .before in
+    let s8 = s4 .before .before .before .before in
+    let g = guided-next (s8 .args .t .now) (s8 .args .v .now) (s8 .pre .0) (s8 .args .e .0) _ _ refl
+    (c .before .before .before .loop-test .taken) _ (c .before .before .place .ensures) in
+    omega (
+      arith,
+      tally-place (s8 .args .t .now) (s8 .args .v .now) (s8 .args .b .now) _ (s8 .pre .1) (s8 .args .k) (s8 .args .e .0)
+          (s4 .loop .p) _ _ (g .0) (g .1) (omega arith) (c .before .before .place .ensures) (s4 .loop .inv .1),
+      inside-few (s8 .args .t .now)
+          (s8 .args .v .now) (s8 .pre .0) (s8 .args .k) (s8 .args .e .0) (s4 .loop .p + 1) (s8 .pre .2)
+          (omega (arith, c .before .before .before .loop-test .taken)),
+    )
 
 add-p : tie.Need-add-p Inv-loop μ-loop
 unfolding leads
-add-p c = omega (arith, guided-place (c .before .before .before .before .before .before .before .before .args .t .now) (c .before .before .before .before .before .before .before .before .args .v .now) (c .before .before .before .before .before .before .before .before .pre .0) (c .before .before .before .before .before .before .before .before .args .e .0) _ _ refl (c .before .before .before .loop-test .taken))
+add-p c =
+    let s8 = c .before .before .before .before .before .before .before .before in
+    omega (
+      arith,
+      guided-place (s8 .args .t .now) (s8 .args .v .now) (s8 .pre .0) (s8 .args .e .0) _ _ refl
+          (c .before .before .before .loop-test .taken),
+    )
 
 loop-less : tie.Need-loop-less Inv-loop μ-loop
 loop-less c = omega (arith, c .before .before .before .loop-test .taken)
 
 loop-again : tie.Need-loop-again Inv-loop μ-loop
 unfolding leads
-loop-again c = let g = guided-next (c .before .before .before .before .before .before .before .before .args .t .now) (c .before .before .before .before .before .before .before .before .args .v .now) (c .before .before .before .before .before .before .before .before .pre .0) (c .before .before .before .before .before .before .before .before .args .e .0) _ _ refl (c .before .before .before .loop-test .taken) _ (c .before .before .place .ensures) in (omega (arith, c .before .before .before .loop-test .taken), tally-place (c .before .before .before .before .before .before .before .before .args .t .now) (c .before .before .before .before .before .before .before .before .args .v .now) (c .before .before .before .before .before .before .before .before .args .b .now) _ (c .before .before .before .before .before .before .before .before .pre .1) (c .before .before .before .before .before .before .before .before .args .k) (c .before .before .before .before .before .before .before .before .args .e .0) (c .before .before .before .before .loop .p) _ _ (g .0) (g .1) (omega arith) (c .before .before .place .ensures) (c .before .before .before .before .loop .inv .1))
+loop-again c =
+    let s4 = c .before .before .before .before in
+    let s8 = s4 .before .before .before .before in
+    let g = guided-next (s8 .args .t .now) (s8 .args .v .now) (s8 .pre .0) (s8 .args .e .0) _ _ refl
+    (c .before .before .before .loop-test .taken) _ (c .before .before .place .ensures) in (
+      omega (arith, c .before .before .before .loop-test .taken),
+      tally-place (s8 .args .t .now) (s8 .args .v .now) (s8 .args .b .now) _
+          (s8 .pre .1) (s8 .args .k) (s8 .args .e .0) (s4 .loop .p) _ _ (g .0) (g .1) (omega arith) (c .before .before .place .ensures)
+          (s4 .loop .inv .1),
+    )
 
 returns : tie.Need-returns Inv-loop μ-loop
 unfolding leads
-returns c = let q : c .before .loop .p ≡ leads (c .before .before .before .before .before .args .v .now) (c .before .before .before .before .before .args .e .0) = omega (arith, c .before .loop .inv .0, c .loop-test .left) in c .before .loop .inv .1 ∙ ap (λ (n : ℕ). length (inside (c .before .before .before .before .before .args .t .now) (c .before .before .before .before .before .args .v .now) (c .before .before .before .before .before .args .k) (c .before .before .before .before .before .args .e .0) n)) q
+returns c =
+    let s5 = c .before .before .before .before .before in
+    let q : c .before .loop .p ≡ leads (s5 .args .v .now) (s5 .args .e .0) = omega (arith, c .before .loop .inv .0, c .loop-test .left) in
+    c .before .loop .inv .1 ∙ ap (λ (n : ℕ). length (inside (s5 .args .t .now) (s5 .args .v .now) (s5 .args .k) (s5 .args .e .0) n)) q
 
 pub tally-places-spec : {M : Type 1} → statement M
 tally-places-spec =

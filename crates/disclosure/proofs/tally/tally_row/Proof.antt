@@ -3,15 +3,15 @@ use Prim.Native.Nat.{_*_, _+_, _-_, _≤_}
 use Rattle.disclosure.specs.TallyLaws.{tallied-less, tallied-more}
 use Rattle.disclosure.specs.Tallied.{Tallied}
 use borrow.Author.Needs.{needs}
+use Rattle.model.specs.Tables.Words.{entityCount}
 use Rattle.disclosure.proofs.tally.tally_row.Statement.{statement}
 use Rattle.disclosure.proofs.tally.tally_row.Tie as tie
-use Rattle.disclosure.proofs.tally.tally.Reads as tally-reads
 
 abbrev Inv-loop : tie.InvT-loop
-Inv-loop t v b₀ k i₀ b i = (i ≤ 64) × Tallied t v (k * 64 + i) b
+Inv-loop t v b₀ k i₀ b i = (i ≤ entityCount) × Tallied t v (k * entityCount + i) b
 
 abbrev μ-loop : tie.MeasureT-loop
-μ-loop t v b₀ k i₀ b i = 64 - i
+μ-loop t v b₀ k i₀ b i = entityCount - i
 
 loop-holds : tie.Need-loop-holds Inv-loop μ-loop
 loop-holds c = (omega arith, tallied-less (c .before .args .t .now) (c .before .args .v .now) (c .before .args .b .now) _ _ (omega arith) (c .before .pre .1))
@@ -20,7 +20,15 @@ add-t9 : tie.Need-add-t9 Inv-loop μ-loop
 add-t9 c = omega (arith, c .before .loop-test .taken)
 
 tally-requires : tie.Need-tally-requires Inv-loop μ-loop
-tally-requires c κs = (c .before .before .before .before .pre .0, tallied-less (c .before .before .before .before .args .t .now) (c .before .before .before .before .args .v .now) (c .before .before .loop .b) _ _ (omega arith) (c .before .before .loop .inv .1), c .before .before .before .before .pre .2, omega arith, omega (arith, c .before .loop-test .taken))
+tally-requires c κs =
+    let s4 = c .before .before .before .before in (
+      s4 .pre .0,
+      tallied-less (s4 .args .t .now) (s4 .args .v .now) (c .before .before .loop .b) _ _ (omega arith)
+          (c .before .before .loop .inv .1),
+      s4 .pre .2,
+      omega arith,
+      omega (arith, c .before .loop-test .taken),
+    )
 
 mul-b : tie.Need-mul-b Inv-loop μ-loop
 mul-b c = omega (arith, c .before .before .before .before .before .pre .2, c .before .before .loop-test .taken)
@@ -47,10 +55,18 @@ loop-less : tie.Need-loop-less Inv-loop μ-loop
 loop-less c = omega (arith, c .before .before .before .before .before .pre .2, c .before .before .loop-test .taken)
 
 loop-again : tie.Need-loop-again Inv-loop μ-loop
-loop-again c = (omega (arith, c .before .before .loop-test .taken), tallied-more (c .before .before .before .before .before .args .t .now) (c .before .before .before .before .before .args .v .now) (c .before .before .before .loop .b) (c .before .before .before .before .before .args .k) (c .before .before .before .loop .i) _ (c .before .before .before .before .before .pre .2) (c .before .before .loop-test .taken) (c .before .before .before .loop .inv .1) (c .tally .ensures))
+loop-again c =
+    let s5 = c .before .before .before .before .before in (
+      omega (arith, c .before .before .loop-test .taken),
+      tallied-more (s5 .args .t .now) (s5 .args .v .now) (c .before .before .before .loop .b)
+          (s5 .args .k) (c .before .before .before .loop .i) _ (s5 .pre .2) (c .before .before .loop-test .taken)
+          (c .before .before .before .loop .inv .1) (c .tally .ensures),
+    )
 
 returns : tie.Need-returns Inv-loop μ-loop
-returns c = tallied-less (c .before .before .before .args .t .now) (c .before .before .before .args .v .now) (c .before .loop .b) _ _ (omega (arith, c .before .loop .inv .0, c .loop-test .left)) (c .before .loop .inv .1)
+returns c =
+    tallied-less (c .before .before .before .args .t .now) (c .before .before .before .args .v .now) (c .before .loop .b) _ _
+    (omega (arith, c .before .loop .inv .0, c .loop-test .left)) (c .before .loop .inv .1)
 
 pub tally-row-spec : {M : Type 1} → statement M
 tally-row-spec =

@@ -4,8 +4,6 @@ use Rattle.disclosure.specs.VerdictLaws.{verdict-weighed}
 use borrow.Author.Needs.{needs}
 use Rattle.disclosure.proofs.verdicts.judge.Statement.{statement}
 use Rattle.disclosure.proofs.verdicts.judge.Tie as tie
-use Rattle.disclosure.proofs.verdicts.is_showable.Reads as is-showable-reads
-use Rattle.disclosure.proofs.verdicts.weigh.Reads as weigh-reads
 
 is-bar-requires : tie.Need-is-bar-requires
 is-bar-requires c κs = search needs
@@ -17,10 +15,15 @@ used-requires : tie.Need-used-requires
 used-requires c κs = search needs
 
 weigh-requires : tie.Need-weigh-requires
-weigh-requires c κs = omega (arith, c .used .ensures, c .before .before .before .before .pre .0 .admitted .good .0 .entities (c .before .before .before .before .args .e .0) .filled .packed .room)
+weigh-requires c κs =
+    let s4 = c .before .before .before .before in
+    omega (arith, c .used .ensures, s4 .pre .0 .admitted .good .0 .entities (s4 .args .e .0) .filled .packed .room)
 
 returns : tie.Need-returns
-returns c = c .weigh .ensures ∙ verdict-weighed _ _ _ _ _ _ _ (c .before .before .before .before .before .pre .0 .clearance) (c .before .before .before .is-bar .ensures) (c .before .used .ensures) (c .before .before .is-showable .ensures)
+returns c =
+    let s5 = c .before .before .before .before .before in
+    c .weigh .ensures ∙ verdict-weighed _ _ _ _ _ _ _ (s5 .pre .0 .clearance) (c .before .before .before .is-bar .ensures) (c .before .used .ensures)
+    (c .before .before .is-showable .ensures)
 
 pub judge-spec : {M : Type 1} → statement M
 judge-spec =

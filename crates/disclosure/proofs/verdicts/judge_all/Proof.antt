@@ -6,15 +6,15 @@ use Rattle.disclosure.specs.VerdictLaws.{judged-more}
 use Rattle.model.specs.State.Agree.{device-range}
 use Rattle.model.specs.Tables.Layout.{tablesOf}
 use Rattle.model.specs.Request.Conditions.{levelOf}
+use Rattle.model.specs.Tables.Words.{entityCount}
 use Rattle.disclosure.proofs.verdicts.judge_all.Statement.{statement}
 use Rattle.disclosure.proofs.verdicts.judge_all.Tie as tie
-use Rattle.disclosure.proofs.verdicts.judge.Reads as judge-reads
 
 abbrev Inv-loop : tie.InvT-loop
-Inv-loop t u v₀ clearance screen i₀ v i = (i ≤ 64) × Judged (tablesOf t) (u .0) i v
+Inv-loop t u v₀ clearance screen i₀ v i = (i ≤ entityCount) × Judged (tablesOf t) (u .0) i v
 
 abbrev μ-loop : tie.MeasureT-loop
-μ-loop t u v₀ clearance screen i₀ v i = 64 - i
+μ-loop t u v₀ clearance screen i₀ v i = entityCount - i
 
 clearance-requires : tie.Need-clearance-requires Inv-loop μ-loop
 clearance-requires c κs = (c .before .pre .0 .whole, c .before .pre .0 .low, c .before .pre .0 .high)
@@ -23,7 +23,21 @@ device-requires : tie.Need-device-requires Inv-loop μ-loop
 device-requires c κs = (c .before .before .pre .0 .whole, c .before .before .pre .0 .low, c .before .before .pre .0 .high)
 
 level-requires : tie.Need-level-requires Inv-loop μ-loop
-level-requires c κs = (c .before .before .before .pre .0 .whole, omega (arith, c .device .ensures, device-range _ (c .before .before .before .pre .0 .good .0) _ (c .before .before .before .pre .0 .on)), omega (arith, c .device .ensures, device-range _ (c .before .before .before .pre .0 .good .0) _ (c .before .before .before .pre .0 .on)))
+level-requires c κs = (
+  c .before .before .before .pre .0 .whole,
+  omega (
+    arith,
+    c .device .ensures,
+    device-range _ (c .before .before .before .pre .0 .good .0) _
+        (c .before .before .before .pre .0 .on),
+  ),
+  omega (
+    arith,
+    c .device .ensures,
+    device-range _ (c .before .before .before .pre .0 .good .0) _
+        (c .before .before .before .pre .0 .on),
+  ),
+)
 
 loop-holds : tie.Need-loop-holds Inv-loop μ-loop
 loop-holds c = (omega arith, c .before .before .before .before .pre .1)
@@ -32,7 +46,18 @@ add-t10 : tie.Need-add-t10 Inv-loop μ-loop
 add-t10 c = omega arith
 
 judge-requires : tie.Need-judge-requires Inv-loop μ-loop
-judge-requires c κs = (record { admitted = c .before .before .before .before .before .before .pre .0; clearance = c .before .before .before .before .clearance .ensures; screen = c .before .before .level .ensures ∙ ap (levelOf (tablesOf (c .before .before .before .before .before .before .args .t .now))) (c .before .before .before .device .ensures) }, omega arith, omega arith)
+judge-requires c κs =
+    let s4 = c .before .before .before .before in
+    let s6 = s4 .before .before in (
+      record {
+        admitted = s6 .pre .0;
+        clearance = s4 .clearance .ensures;
+        screen = c .before .before .level .ensures ∙ ap
+            (levelOf (tablesOf (s6 .args .t .now))) (c .before .before .before .device .ensures);
+      },
+      omega arith,
+      omega arith,
+    )
 
 cast-v : tie.Need-cast-v Inv-loop μ-loop
 cast-v c = omega arith
@@ -56,7 +81,10 @@ loop-again : tie.Need-loop-again Inv-loop μ-loop
 loop-again c = (omega arith, judged-more _ _ _ _ _ (c .before .loop-test .taken) (c .before .before .loop .inv .1) (c .judge .ensures))
 
 returns : tie.Need-returns Inv-loop μ-loop
-returns c = let e : c .before .loop .i ≡ 64 = omega arith in subst (λ (n : ℕ). Judged (tablesOf (c .before .before .before .before .before .before .args .t .now)) (c .before .before .before .before .before .before .args .u .0) n (c .before .loop .v)) e (c .before .loop .inv .1)
+returns c =
+    let s6 = c .before .before .before .before .before .before in
+    let e : c .before .loop .i ≡ entityCount = omega arith in
+    subst (λ (n : ℕ). Judged (tablesOf (s6 .args .t .now)) (s6 .args .u .0) n (c .before .loop .v)) e (c .before .loop .inv .1)
 
 pub judge-all-spec : {M : Type 1} → statement M
 judge-all-spec =

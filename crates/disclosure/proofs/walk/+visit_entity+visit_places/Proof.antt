@@ -8,11 +8,24 @@ use Rattle.disclosure.specs.EntryLaws.{padded-more}
 use Rattle.disclosure.specs.TallyLaws.{tally-nothing}
 use Rattle.disclosure.specs.VerdictLaws.{guided-next, guided-place}
 use Rattle.disclosure.specs.Verdicts.{leads, listed}
-use Rattle.disclosure.specs.VisitLaws.{entity-alone, entity-last, entity-more, here-room, places-done, places-none, places-room, places-skip, places-turn, turn-room, visited-length}
+use Rattle.disclosure.specs.VisitLaws.{
+  entity-alone,
+  entity-last,
+  entity-more,
+  here-room,
+  places-done,
+  places-none,
+  places-room,
+  places-skip,
+  places-turn,
+  turn-room,
+  visited-length,
+}
 use Rattle.disclosure.specs.Visited.{Visited, inside}
 use Prim.Native.Nat.{ℕ, _<_}
 use borrow.Fn.Kinds.{In}
 use borrow.Fn.PlainCycle.{Measures, is, falls, and}
+use Rattle.model.specs.Request.Words.{nameCount}
 use Rattle.disclosure.proofs.walk.visit_entity.Reads as visit-entity
 use Rattle.disclosure.proofs.walk.visit_entity.Kinds as visit-entity-kinds
 use Rattle.disclosure.proofs.walk.+visit_entity+visit_places.Lts-visit_entity as visit-entity-lts
@@ -71,123 +84,294 @@ visit-entity-element-copy-out-w t c = omega (arith, c .before .before .before .p
 
 visit-entity-visit-here-requires : (t : ℕ) → visit-entity-lts.Need-visit-here-requires (visit-entity-calls t) (visit-entity-at t) visit-entity.Post
 unfolding listed
-visit-entity-visit-here-requires t c κs = (c .before .before .before .before .before .pre .1 .0 .few, c .before .before .before .before .before .pre .1 .0 .padded, here-room (c .before .before .before .before .before .args .t .now) (c .before .before .before .before .before .args .v .now) (c .before .before .before .before .before .args .left) (c .before .before .before .before .before .args .e .0) _ (c .before .before .before .before .before .args .room .now) _ refl (c .before .before .before .before .before .pre .1 .1))
+visit-entity-visit-here-requires t c κs =
+    let s5 = c .before .before .before .before .before in (
+      s5 .pre .1 .0 .few,
+      s5 .pre .1 .0 .padded,
+      here-room (s5 .args .t .now) (s5 .args .v .now) (s5 .args .left) (s5 .args .e .0) _
+          (s5 .args .room .now) _ refl (s5 .pre .1 .1),
+    )
 
 visit-entity-same-length : (t : ℕ) → visit-entity-lts.Need-same-length (visit-entity-calls t) (visit-entity-at t) visit-entity.Post
 visit-entity-same-length t c = c .before .before .before .visit-here .kept .1 .1 .1 .0
 
 visit-entity-returns : (t : ℕ) → visit-entity-lts.Need-returns (visit-entity-calls t) (visit-entity-at t) visit-entity.Post
 unfolding listed
-visit-entity-returns t c = entity-last _ _ (c .before .before .before .before .before .before .before .before .before .args .left) (c .before .before .before .before .before .before .before .before .before .args .e .0) _ _ _ _ _ _ (c .if1 .taken) refl (c .before .before .before .visit-here .ensures)
+visit-entity-returns t c =
+    let s9 = c .before .before .before .before .before .before .before .before .before in
+    entity-last _ _ (s9 .args .left) (s9 .args .e .0) _ _ _ _ _ _ (c .if1 .taken) refl (c .before .before .before .visit-here .ensures)
 
 visit-entity-visit-places-requires : (t : ℕ) → visit-entity-lts.Need-visit-places-requires (visit-entity-calls t) (visit-entity-at t) visit-entity.Post
 unfolding leads listed
-visit-entity-visit-places-requires t c κs = (omega (arith, c .before .before .before .before .before .before .before .before .before .before .pre .0), (c .before .before .before .before .before .before .before .before .before .before .pre .1 .0, pos-of-ne-zero (c .before .if1 .left), refl, places-room (c .before .before .before .before .before .before .before .before .before .before .args .t .now) (c .before .before .before .before .before .before .before .before .before .before .args .v .now) (c .before .before .before .before .before .before .before .before .before .before .args .left) (c .before .before .before .before .before .before .before .before .before .before .args .e .0) _ _ (c .before .if1 .left) refl refl _ _ _ _ _ (c .before .before .before .before .visit-here .ensures) (c .before .before .before .before .before .before .before .before .before .before .pre .1 .1)))
+visit-entity-visit-places-requires t c κs =
+    let s4 = c .before .before .before .before in
+    let s10 = s4 .before .before .before .before .before .before in (
+      omega (arith, s10 .pre .0),
+      (
+        s10 .pre .1 .0,
+        pos-of-ne-zero (c .before .if1 .left),
+        refl,
+        places-room (s10 .args .t .now)
+            (s10 .args .v .now) (s10 .args .left) (s10 .args .e .0) _ _ (c .before .if1 .left) refl refl _ _ _ _ _ (s4 .visit-here .ensures)
+            (s10 .pre .1 .1),
+      ),
+    )
 
 visit-entity-same-length-2 : (t : ℕ) → visit-entity-lts.Need-same-length-2 (visit-entity-calls t) (visit-entity-at t) visit-entity.Post
-visit-entity-same-length-2 t c = c .before .before .visit-places .kept .1 .1 .1 .1 .1 .1 .1 .0 ∙ c .before .before .before .before .before .before .before .visit-here .kept .1 .1 .1 .0
+visit-entity-same-length-2 t c =
+    let s7 = c .before .before .before .before .before .before .before in
+    c .before .before .visit-places .kept .1 .1 .1 .1 .1 .1 .1 .0 ∙ s7 .visit-here .kept .1 .1 .1 .0
 
 visit-entity-returns-2 : (t : ℕ) → visit-entity-lts.Need-returns-2 (visit-entity-calls t) (visit-entity-at t) visit-entity.Post
 unfolding leads listed
-visit-entity-returns-2 t c = entity-more (c .before .before .before .before .before .before .before .before .before .before .before .before .before .args .t .now) (c .before .before .before .before .before .before .before .before .before .before .before .before .before .args .v .now) (c .before .before .before .before .before .before .before .before .before .before .before .before .before .args .left) (c .before .before .before .before .before .before .before .before .before .before .before .before .before .args .e .0) _ _ (c .before .before .before .before .if1 .left) refl refl _ _ _ _ _ _ _ (c .before .before .before .before .before .before .before .visit-here .ensures) (c .before .before .visit-places .ensures)
+visit-entity-returns-2 t c =
+    let s4 = c .before .before .before .before in
+    let s7 = s4 .before .before .before in
+    let s13 = s7 .before .before .before .before .before .before in
+    entity-more (s13 .args .t .now) (s13 .args .v .now) (s13 .args .left) (s13 .args .e .0) _ _ (s4 .if1 .left) refl refl _ _ _ _ _ _ _
+    (s7 .visit-here .ensures) (c .before .before .visit-places .ensures)
 
 abbrev visit-places-Inv-loop : visit-places-lts.InvT-loop
-visit-places-Inv-loop t v b e n left names room₀ at i₀ p₀ room i p = (p ≤ n) × Visited (take (4 - left) names) room₀ at (inside t v (left - 1) (e .0) p) i room
+visit-places-Inv-loop t v b e n left names room₀ at i₀ p₀ room i p = (p ≤ n) × Visited (take (nameCount - left) names) room₀ at
+    (inside t v (left - 1) (e .0) p) i room
 
 abbrev visit-places-μ-loop : visit-places-lts.MeasureT-loop
 visit-places-μ-loop t v b e n left names room₀ at i₀ p₀ room i p = n - p
 
-visit-places-loop-holds : (t : ℕ) → visit-places-lts.Need-loop-holds (visit-places-calls t) (visit-places-at t) visit-places.Post visit-places-Inv-loop visit-places-μ-loop
-visit-places-loop-holds t c = (omega arith, places-none (c .before .before .args .t .now) (c .before .before .args .v .now) (c .before .before .args .left - 1) (c .before .before .args .e .0) _ _ _)
+visit-places-loop-holds : (t : ℕ) → visit-places-lts.Need-loop-holds (visit-places-calls t) (visit-places-at t) visit-places.Post
+    visit-places-Inv-loop visit-places-μ-loop
+visit-places-loop-holds t c = (
+  omega arith,
+  places-none (c .before .before .args .t .now) (c .before .before .args .v .now) (c .before .before .args .left - 1)
+      (c .before .before .args .e .0) _ _ _,
+)
 
-visit-places-place-requires : (t : ℕ) → visit-places-lts.Need-place-requires (visit-places-calls t) (visit-places-at t) visit-places.Post visit-places-Inv-loop visit-places-μ-loop
-visit-places-place-requires t c κs = ((c .before .before .before .before .pre .1 .0 .guided .whole, c .before .before .before .before .pre .1 .0 .low, c .before .before .before .before .pre .1 .0 .high), guided-place _ _ (c .before .before .before .before .pre .1 .0 .guided) _ _ _ (c .before .before .before .before .pre .1 .2) (c .loop-test .taken))
+visit-places-place-requires : (t : ℕ) → visit-places-lts.Need-place-requires (visit-places-calls t) (visit-places-at t) visit-places.Post
+    visit-places-Inv-loop visit-places-μ-loop
+visit-places-place-requires t c κs =
+    let s4 = c .before .before .before .before in (
+      (s4 .pre .1 .0 .guided .whole, s4 .pre .1 .0 .low, s4 .pre .1 .0 .high),
+      guided-place _ _ (s4 .pre .1 .0 .guided) _ _ _ (s4 .pre .1 .2)
+          (c .loop-test .taken),
+    )
 
-visit-places-sub-if1 : (t : ℕ) → visit-places-lts.Need-sub-if1 (visit-places-calls t) (visit-places-at t) visit-places.Post visit-places-Inv-loop visit-places-μ-loop
+visit-places-sub-if1 : (t : ℕ) → visit-places-lts.Need-sub-if1 (visit-places-calls t) (visit-places-at t) visit-places.Post visit-places-Inv-loop
+    visit-places-μ-loop
 visit-places-sub-if1 t c = omega (arith, c .before .before .before .before .before .pre .1 .1)
 
-visit-places-mul-if1 : (t : ℕ) → visit-places-lts.Need-mul-if1 (visit-places-calls t) (visit-places-at t) visit-places.Post visit-places-Inv-loop visit-places-μ-loop
+visit-places-mul-if1 : (t : ℕ) → visit-places-lts.Need-mul-if1 (visit-places-calls t) (visit-places-at t) visit-places.Post visit-places-Inv-loop
+    visit-places-μ-loop
 visit-places-mul-if1 t c = omega (arith, c .before .before .before .before .before .pre .1 .0 .few)
 
-visit-places-cast-if1 : (t : ℕ) → visit-places-lts.Need-cast-if1 (visit-places-calls t) (visit-places-at t) visit-places.Post visit-places-Inv-loop visit-places-μ-loop
+visit-places-cast-if1 : (t : ℕ) → visit-places-lts.Need-cast-if1 (visit-places-calls t) (visit-places-at t) visit-places.Post
+    visit-places-Inv-loop visit-places-μ-loop
 visit-places-cast-if1 t c = search needs
 
-visit-places-add-if1 : (t : ℕ) → visit-places-lts.Need-add-if1 (visit-places-calls t) (visit-places-at t) visit-places.Post visit-places-Inv-loop visit-places-μ-loop
-visit-places-add-if1 t c = omega (arith, c .before .before .before .before .before .before .pre .1 .0 .few, guided-next _ _ (c .before .before .before .before .before .before .pre .1 .0 .guided) _ _ _ (c .before .before .before .before .before .before .pre .1 .2) (c .before .before .loop-test .taken) _ (c .before .place .ensures))
+visit-places-add-if1 : (t : ℕ) → visit-places-lts.Need-add-if1 (visit-places-calls t) (visit-places-at t) visit-places.Post visit-places-Inv-loop
+    visit-places-μ-loop
+visit-places-add-if1 t c =
+    let s6 = c .before .before .before .before .before .before in
+    omega (
+      arith,
+      s6 .pre .1 .0 .few,
+      guided-next _ _ (s6 .pre .1 .0 .guided) _ _ _ (s6 .pre .1 .2) (c .before .before .loop-test .taken) _
+          (c .before .place .ensures),
+    )
 
-visit-places-mul-if1-2 : (t : ℕ) → visit-places-lts.Need-mul-if1-2 (visit-places-calls t) (visit-places-at t) visit-places.Post visit-places-Inv-loop visit-places-μ-loop
-visit-places-mul-if1-2 t c = omega (arith, c .before .before .before .before .before .before .pre .1 .0 .few, guided-next _ _ (c .before .before .before .before .before .before .pre .1 .0 .guided) _ _ _ (c .before .before .before .before .before .before .pre .1 .2) (c .before .before .loop-test .taken) _ (c .before .place .ensures))
+visit-places-mul-if1-2 : (t : ℕ) → visit-places-lts.Need-mul-if1-2 (visit-places-calls t) (visit-places-at t) visit-places.Post
+    visit-places-Inv-loop visit-places-μ-loop
+visit-places-mul-if1-2 t c =
+    let s6 = c .before .before .before .before .before .before in
+    omega (
+      arith,
+      s6 .pre .1 .0 .few,
+      guided-next _ _ (s6 .pre .1 .0 .guided) _ _ _ (s6 .pre .1 .2) (c .before .before .loop-test .taken) _
+          (c .before .place .ensures),
+    )
 
-visit-places-element-copy-out-if1 : (t : ℕ) → visit-places-lts.Need-element-copy-out-if1 (visit-places-calls t) (visit-places-at t) visit-places.Post visit-places-Inv-loop visit-places-μ-loop
-visit-places-element-copy-out-if1 t c = omega (arith, c .before .before .before .before .before .before .pre .1 .0 .few, guided-next _ _ (c .before .before .before .before .before .before .pre .1 .0 .guided) _ _ _ (c .before .before .before .before .before .before .pre .1 .2) (c .before .before .loop-test .taken) _ (c .before .place .ensures))
+visit-places-element-copy-out-if1 : (t : ℕ) → visit-places-lts.Need-element-copy-out-if1 (visit-places-calls t) (visit-places-at t)
+    visit-places.Post visit-places-Inv-loop visit-places-μ-loop
+visit-places-element-copy-out-if1 t c =
+    let s6 = c .before .before .before .before .before .before in
+    omega (
+      arith,
+      s6 .pre .1 .0 .few,
+      guided-next _ _ (s6 .pre .1 .0 .guided) _ _ _ (s6 .pre .1 .2) (c .before .before .loop-test .taken) _
+          (c .before .place .ensures),
+    )
 
-visit-places-add-p : (t : ℕ) → visit-places-lts.Need-add-p (visit-places-calls t) (visit-places-at t) visit-places.Post visit-places-Inv-loop visit-places-μ-loop
+visit-places-add-p : (t : ℕ) → visit-places-lts.Need-add-p (visit-places-calls t) (visit-places-at t) visit-places.Post visit-places-Inv-loop
+    visit-places-μ-loop
 visit-places-add-p t c = omega (arith, c .before .before .before .before .loop-test .taken)
 
-visit-places-loop-less : (t : ℕ) → visit-places-lts.Need-loop-less (visit-places-calls t) (visit-places-at t) visit-places.Post visit-places-Inv-loop visit-places-μ-loop
+visit-places-loop-less : (t : ℕ) → visit-places-lts.Need-loop-less (visit-places-calls t) (visit-places-at t) visit-places.Post
+    visit-places-Inv-loop visit-places-μ-loop
 visit-places-loop-less t c = omega (arith, c .before .before .before .before .loop-test .taken)
 
-visit-places-loop-again : (t : ℕ) → visit-places-lts.Need-loop-again (visit-places-calls t) (visit-places-at t) visit-places.Post visit-places-Inv-loop visit-places-μ-loop
-visit-places-loop-again t c = let g = guided-next _ _ (c .before .before .before .before .before .before .before .before .pre .1 .0 .guided) _ _ _ (c .before .before .before .before .before .before .before .before .pre .1 .2) (c .before .before .before .before .loop-test .taken) _ (c .before .before .before .place .ensures) in (omega (arith, c .before .before .before .before .loop-test .taken), places-skip (c .before .before .before .before .before .before .before .before .args .t .now) (c .before .before .before .before .before .before .before .before .args .v .now) (c .before .before .before .before .before .before .before .before .args .left - 1) (c .before .before .before .before .before .before .before .before .args .e .0) _ _ (c .before .before .before .place .ensures) _ _ _ _ _ (tally-nothing (c .before .before .before .before .before .before .before .before .args .t .now) (c .before .before .before .before .before .before .before .before .args .v .now) (c .before .before .before .before .before .before .before .before .args .b .now) _ (c .before .before .before .before .before .before .before .before .pre .1 .0 .tallied) (c .before .before .before .before .before .before .before .before .args .left - 1) _ (omega (arith, c .before .before .before .before .before .before .before .before .pre .1 .0 .few)) (omega arith) (g .0) (g .1) (c .if1 .taken)) (c .before .before .before .before .before .loop .inv .1))
+visit-places-loop-again : (t : ℕ) → visit-places-lts.Need-loop-again (visit-places-calls t) (visit-places-at t) visit-places.Post
+    visit-places-Inv-loop visit-places-μ-loop
+visit-places-loop-again t c =
+    let s4 = c .before .before .before .before in
+    let s5 = s4 .before in
+    let s8 = s5 .before .before .before in
+    let g = guided-next _ _ (s8 .pre .1 .0 .guided) _ _ _ (s8 .pre .1 .2) (s4 .loop-test .taken) _ (c .before .before .before .place .ensures)
+    in (
+      omega (arith, s4 .loop-test .taken),
+      places-skip (s8 .args .t .now) (s8 .args .v .now) (s8 .args .left - 1) (s8 .args .e .0) _ _
+          (c .before .before .before .place .ensures) _ _ _ _ _ (tally-nothing (s8 .args .t .now) (s8 .args .v .now) (s8 .args .b .now) _
+          (s8 .pre .1 .0 .tallied) (s8 .args .left - 1) _ (omega (arith, s8 .pre .1 .0 .few)) (omega arith) (g .0) (g .1) (c .if1 .taken))
+          (s5 .loop .inv .1),
+    )
 
-visit-places-add-longer : (t : ℕ) → visit-places-lts.Need-add-longer (visit-places-calls t) (visit-places-at t) visit-places.Post visit-places-Inv-loop visit-places-μ-loop
+visit-places-add-longer : (t : ℕ) → visit-places-lts.Need-add-longer (visit-places-calls t) (visit-places-at t) visit-places.Post
+    visit-places-Inv-loop visit-places-μ-loop
 visit-places-add-longer t c = omega arith
 
-visit-places-sub-longer : (t : ℕ) → visit-places-lts.Need-sub-longer (visit-places-calls t) (visit-places-at t) visit-places.Post visit-places-Inv-loop visit-places-μ-loop
-visit-places-sub-longer t c = omega (arith, c .before .before .before .before .before .before .before .before .pre .1 .0 .few)
+visit-places-sub-longer : (t : ℕ) → visit-places-lts.Need-sub-longer (visit-places-calls t) (visit-places-at t) visit-places.Post
+    visit-places-Inv-loop visit-places-μ-loop
+visit-places-sub-longer t c =
+    let s8 = c .before .before .before .before .before .before .before .before in
+    omega (arith, s8 .pre .1 .0 .few)
 
-visit-places-mul-longer : (t : ℕ) → visit-places-lts.Need-mul-longer (visit-places-calls t) (visit-places-at t) visit-places.Post visit-places-Inv-loop visit-places-μ-loop
+visit-places-mul-longer : (t : ℕ) → visit-places-lts.Need-mul-longer (visit-places-calls t) (visit-places-at t) visit-places.Post
+    visit-places-Inv-loop visit-places-μ-loop
 visit-places-mul-longer t c = omega arith
 
-visit-places-array-write-longer : (t : ℕ) → visit-places-lts.Need-array-write-longer (visit-places-calls t) (visit-places-at t) visit-places.Post visit-places-Inv-loop visit-places-μ-loop
-visit-places-array-write-longer t c = omega (arith, c .before .before .before .before .before .before .before .before .pre .1 .1, c .before .before .before .before .before .before .before .before .pre .1 .0 .few)
+visit-places-array-write-longer : (t : ℕ) → visit-places-lts.Need-array-write-longer (visit-places-calls t) (visit-places-at t) visit-places.Post
+    visit-places-Inv-loop visit-places-μ-loop
+visit-places-array-write-longer t c =
+    let s8 = c .before .before .before .before .before .before .before .before in
+    omega (arith, s8 .pre .1 .1, s8 .pre .1 .0 .few)
 
-visit-places-cast-w : (t : ℕ) → visit-places-lts.Need-cast-w (visit-places-calls t) (visit-places-at t) visit-places.Post visit-places-Inv-loop visit-places-μ-loop
+visit-places-cast-w : (t : ℕ) → visit-places-lts.Need-cast-w (visit-places-calls t) (visit-places-at t) visit-places.Post visit-places-Inv-loop
+    visit-places-μ-loop
 visit-places-cast-w t c = search needs
 
-visit-places-mul-w : (t : ℕ) → visit-places-lts.Need-mul-w (visit-places-calls t) (visit-places-at t) visit-places.Post visit-places-Inv-loop visit-places-μ-loop
+visit-places-mul-w : (t : ℕ) → visit-places-lts.Need-mul-w (visit-places-calls t) (visit-places-at t) visit-places.Post visit-places-Inv-loop
+    visit-places-μ-loop
 visit-places-mul-w t c = search needs
 
-visit-places-element-copy-out-w : (t : ℕ) → visit-places-lts.Need-element-copy-out-w (visit-places-calls t) (visit-places-at t) visit-places.Post visit-places-Inv-loop visit-places-μ-loop
-visit-places-element-copy-out-w t c = omega (arith, guided-next _ _ (c .before .before .before .before .before .before .before .before .before .pre .1 .0 .guided) _ _ _ (c .before .before .before .before .before .before .before .before .before .pre .1 .2) (c .before .before .before .before .before .loop-test .taken) _ (c .before .before .before .before .place .ensures))
+visit-places-element-copy-out-w : (t : ℕ) → visit-places-lts.Need-element-copy-out-w (visit-places-calls t) (visit-places-at t) visit-places.Post
+    visit-places-Inv-loop visit-places-μ-loop
+visit-places-element-copy-out-w t c =
+    let s4 = c .before .before .before .before in
+    let s5 = s4 .before in
+    let s9 = s5 .before .before .before .before in
+    omega (arith, guided-next _ _ (s9 .pre .1 .0 .guided) _ _ _ (s9 .pre .1 .2) (s5 .loop-test .taken) _ (s4 .place .ensures))
 
-visit-places-sub-visit-here : (t : ℕ) → visit-places-lts.Need-sub-visit-here (visit-places-calls t) (visit-places-at t) visit-places.Post visit-places-Inv-loop visit-places-μ-loop
-visit-places-sub-visit-here t c = omega (arith, c .before .before .before .before .before .before .before .before .before .before .before .pre .1 .1)
+visit-places-sub-visit-here : (t : ℕ) → visit-places-lts.Need-sub-visit-here (visit-places-calls t) (visit-places-at t) visit-places.Post
+    visit-places-Inv-loop visit-places-μ-loop
+visit-places-sub-visit-here t c =
+    let s11 = c .before .before .before .before .before .before .before .before .before .before .before in
+    omega (arith, s11 .pre .1 .1)
 
-visit-places-visit-here-requires : (t : ℕ) → visit-places-lts.Need-visit-here-requires (visit-places-calls t) (visit-places-at t) visit-places.Post visit-places-Inv-loop visit-places-μ-loop
+visit-places-visit-here-requires : (t : ℕ) → visit-places-lts.Need-visit-here-requires (visit-places-calls t) (visit-places-at t)
+    visit-places.Post visit-places-Inv-loop visit-places-μ-loop
 unfolding listed
-visit-places-visit-here-requires t c κs = (omega (arith, c .before .before .before .before .before .before .before .before .before .before .before .before .pre .1 .0 .few), padded-more _ _ _ _ (omega (arith, c .before .before .before .before .before .before .before .before .before .before .before .before .pre .1 .1, c .before .before .before .before .before .before .before .before .before .before .before .before .pre .1 .0 .few)) (c .before .before .before .before .before .before .before .before .before .before .before .before .pre .1 .0 .padded), here-room (c .before .before .before .before .before .before .before .before .before .before .before .before .args .t .now) (c .before .before .before .before .before .before .before .before .before .before .before .before .args .v .now) (c .before .before .before .before .before .before .before .before .before .before .before .before .args .left - 1) (c .before .before .before .before .before .before .before .place .result .0) _ (c .before .before .before .before .before .before .before .before .before .loop .room) _ refl (turn-room (c .before .before .before .before .before .before .before .before .before .before .before .before .args .t .now) (c .before .before .before .before .before .before .before .before .before .before .before .before .args .v .now) (c .before .before .before .before .before .before .before .before .before .before .before .before .args .left - 1) (c .before .before .before .before .before .before .before .before .before .before .before .before .args .e .0) _ _ (c .before .before .before .before .before .before .before .place .ensures) _ _ _ _ _ _ (c .before .before .before .before .before .before .before .before .loop-test .taken) (c .before .before .before .before .before .before .before .before .before .loop .inv .1) (c .before .before .before .before .before .before .before .before .before .before .before .before .pre .1 .3)))
+visit-places-visit-here-requires t c κs =
+    let s7 = c .before .before .before .before .before .before .before in
+    let s8 = s7 .before in
+    let s9 = s8 .before in
+    let s12 = s9 .before .before .before in (
+      omega (arith, s12 .pre .1 .0 .few),
+      padded-more _ _ _ _ (omega (arith, s12 .pre .1 .1, s12 .pre .1 .0 .few)) (s12 .pre .1 .0 .padded),
+      here-room (s12 .args .t .now) (s12 .args .v .now) (s12 .args .left - 1) (s7 .place .result .0) _ (s9 .loop .room) _ refl
+          (turn-room (s12 .args .t .now) (s12 .args .v .now) (s12 .args .left - 1) (s12 .args .e .0) _ _ (s7 .place .ensures) _ _ _ _ _ _
+          (s8 .loop-test .taken) (s9 .loop .inv .1) (s12 .pre .1 .3)),
+    )
 
-visit-places-add-p-2 : (t : ℕ) → visit-places-lts.Need-add-p-2 (visit-places-calls t) (visit-places-at t) visit-places.Post visit-places-Inv-loop visit-places-μ-loop
-visit-places-add-p-2 t c = omega (arith, c .before .before .before .before .before .before .before .before .before .before .before .loop-test .taken)
+visit-places-add-p-2 : (t : ℕ) → visit-places-lts.Need-add-p-2 (visit-places-calls t) (visit-places-at t) visit-places.Post visit-places-Inv-loop
+    visit-places-μ-loop
+visit-places-add-p-2 t c =
+    let s11 = c .before .before .before .before .before .before .before .before .before .before .before in
+    omega (arith, s11 .loop-test .taken)
 
-visit-places-loop-less-2 : (t : ℕ) → visit-places-lts.Need-loop-less-2 (visit-places-calls t) (visit-places-at t) visit-places.Post visit-places-Inv-loop visit-places-μ-loop
-visit-places-loop-less-2 t c = omega (arith, c .before .before .before .before .before .before .before .before .before .before .before .loop-test .taken)
+visit-places-loop-less-2 : (t : ℕ) → visit-places-lts.Need-loop-less-2 (visit-places-calls t) (visit-places-at t) visit-places.Post
+    visit-places-Inv-loop visit-places-μ-loop
+visit-places-loop-less-2 t c =
+    let s11 = c .before .before .before .before .before .before .before .before .before .before .before in
+    omega (arith, s11 .loop-test .taken)
 
-visit-places-loop-again-2 : (t : ℕ) → visit-places-lts.Need-loop-again-2 (visit-places-calls t) (visit-places-at t) visit-places.Post visit-places-Inv-loop visit-places-μ-loop
+visit-places-loop-again-2 : (t : ℕ) → visit-places-lts.Need-loop-again-2 (visit-places-calls t) (visit-places-at t) visit-places.Post
+    visit-places-Inv-loop visit-places-μ-loop
 unfolding leads listed
-visit-places-loop-again-2 t c = (omega arith, places-turn (c .before .before .before .before .before .before .before .before .before .before .before .before .before .before .before .args .t .now) (c .before .before .before .before .before .before .before .before .before .before .before .before .before .before .before .args .v .now) (c .before .before .before .before .before .before .before .before .before .before .before .before .before .before .before .args .left - 1) (c .before .before .before .before .before .before .before .before .before .before .before .before .before .before .before .args .e .0) _ _ (c .before .before .before .before .before .before .before .before .before .before .place .ensures) _ _ (4 - (c .before .before .before .before .before .before .before .before .before .before .before .before .before .before .before .args .left - 1)) _ _ _ _ _ _ (c .before .before .before .before .before .before .before .before .before .before .before .before .before .before .before .pre .1 .0 .padded) (omega (arith, c .before .before .before .before .before .before .before .before .before .before .before .before .before .before .before .pre .1 .1, c .before .before .before .before .before .before .before .before .before .before .before .before .before .before .before .pre .1 .0 .few)) (omega (arith, c .before .before .before .before .before .before .before .before .before .before .before .before .before .before .before .pre .1 .1, c .before .before .before .before .before .before .before .before .before .before .before .before .before .before .before .pre .1 .0 .few)) (c .before .before .before .before .before .before .before .before .before .before .before .before .loop .inv .1) (entity-alone (c .before .before .before .before .before .before .before .before .before .before .before .before .before .before .before .args .t .now) (c .before .before .before .before .before .before .before .before .before .before .before .before .before .before .before .args .v .now) (c .before .before .before .before .before .before .before .before .before .before .before .before .before .before .before .args .left - 1) (c .before .before .before .before .before .before .before .before .before .before .place .result .0) _ _ _ _ _ _ (omega (arith, c .before .before .before .before .if2 .taken)) refl (c .before .before .visit-here .ensures)))
+visit-places-loop-again-2 t c =
+    let s4 = c .before .before .before .before in
+    let s10 = s4 .before .before .before .before .before .before in
+    let s12 = s10 .before .before in
+    let s15 = s12 .before .before .before in (
+      omega arith,
+      places-turn (s15 .args .t .now) (s15 .args .v .now) (s15 .args .left - 1) (s15 .args .e .0) _ _ (s10 .place .ensures) _ _
+          (nameCount - (s15 .args .left - 1)) _ _ _ _ _ _ (s15 .pre .1 .0 .padded) (omega (arith, s15 .pre .1 .1, s15 .pre .1 .0 .few))
+          (omega (arith, s15 .pre .1 .1, s15 .pre .1 .0 .few)) (s12 .loop .inv .1) (entity-alone (s15 .args .t .now) (s15 .args .v .now)
+          (s15 .args .left - 1) (s10 .place .result .0) _ _ _ _ _ _ (omega (arith, s4 .if2 .taken)) refl (c .before .before .visit-here .ensures)),
+    )
 
-visit-places-sub-visit-entity : (t : ℕ) → visit-places-lts.Need-sub-visit-entity (visit-places-calls t) (visit-places-at t) visit-places.Post visit-places-Inv-loop visit-places-μ-loop
-visit-places-sub-visit-entity t c = omega (arith, c .before .before .before .before .before .before .before .before .before .before .before .pre .1 .1)
+visit-places-sub-visit-entity : (t : ℕ) → visit-places-lts.Need-sub-visit-entity (visit-places-calls t) (visit-places-at t) visit-places.Post
+    visit-places-Inv-loop visit-places-μ-loop
+visit-places-sub-visit-entity t c =
+    let s11 = c .before .before .before .before .before .before .before .before .before .before .before in
+    omega (arith, s11 .pre .1 .1)
 
-visit-places-visit-entity-requires : (t : ℕ) → visit-places-lts.Need-visit-entity-requires (visit-places-calls t) (visit-places-at t) visit-places.Post visit-places-Inv-loop visit-places-μ-loop
-visit-places-visit-entity-requires t c κs = let g = guided-next _ _ (c .before .before .before .before .before .before .before .before .before .before .before .before .pre .1 .0 .guided) _ _ _ (c .before .before .before .before .before .before .before .before .before .before .before .before .pre .1 .2) (c .before .before .before .before .before .before .before .before .loop-test .taken) _ (c .before .before .before .before .before .before .before .place .ensures) in (omega (arith, c .before .before .before .before .before .before .before .before .before .before .before .before .pre .0, c .before .before .before .before .before .before .before .before .before .before .before .before .pre .1 .1), (record { guided = c .before .before .before .before .before .before .before .before .before .before .before .before .pre .1 .0 .guided; tallied = c .before .before .before .before .before .before .before .before .before .before .before .before .pre .1 .0 .tallied; low = g .0; high = g .1; few = omega (arith, c .before .before .before .before .before .before .before .before .before .before .before .before .pre .1 .0 .few); padded = padded-more _ _ _ _ (omega (arith, c .before .before .before .before .before .before .before .before .before .before .before .before .pre .1 .1, c .before .before .before .before .before .before .before .before .before .before .before .before .pre .1 .0 .few)) (c .before .before .before .before .before .before .before .before .before .before .before .before .pre .1 .0 .padded) }, turn-room (c .before .before .before .before .before .before .before .before .before .before .before .before .args .t .now) (c .before .before .before .before .before .before .before .before .before .before .before .before .args .v .now) (c .before .before .before .before .before .before .before .before .before .before .before .before .args .left - 1) (c .before .before .before .before .before .before .before .before .before .before .before .before .args .e .0) _ _ (c .before .before .before .before .before .before .before .place .ensures) _ _ _ _ _ _ (c .before .before .before .before .before .before .before .before .loop-test .taken) (c .before .before .before .before .before .before .before .before .before .loop .inv .1) (c .before .before .before .before .before .before .before .before .before .before .before .before .pre .1 .3)))
+visit-places-visit-entity-requires : (t : ℕ) → visit-places-lts.Need-visit-entity-requires (visit-places-calls t) (visit-places-at t)
+    visit-places.Post visit-places-Inv-loop visit-places-μ-loop
+visit-places-visit-entity-requires t c κs =
+    let s7 = c .before .before .before .before .before .before .before in
+    let s8 = s7 .before in
+    let s9 = s8 .before in
+    let s12 = s9 .before .before .before in
+    let g = guided-next _ _ (s12 .pre .1 .0 .guided) _ _ _ (s12 .pre .1 .2) (s8 .loop-test .taken) _ (s7 .place .ensures) in (
+      omega (arith, s12 .pre .0, s12 .pre .1 .1),
+      (
+        record {
+          guided = s12 .pre .1 .0 .guided;
+          tallied = s12 .pre .1 .0 .tallied;
+          low = g .0;
+          high
+              = g .1;
+          few = omega (arith, s12 .pre .1 .0 .few);
+          padded = padded-more _ _ _ _ (omega (arith, s12 .pre .1 .1, s12 .pre .1 .0 .few))
+              (s12 .pre .1 .0 .padded);
+        },
+        turn-room (s12 .args .t .now) (s12 .args .v .now) (s12 .args .left - 1) (s12 .args .e .0) _ _
+            (s7 .place .ensures) _ _ _ _ _ _ (s8 .loop-test .taken) (s9 .loop .inv .1) (s12 .pre .1 .3),
+      ),
+    )
 
-visit-places-add-p-3 : (t : ℕ) → visit-places-lts.Need-add-p-3 (visit-places-calls t) (visit-places-at t) visit-places.Post visit-places-Inv-loop visit-places-μ-loop
-visit-places-add-p-3 t c = omega (arith, c .before .before .before .before .before .before .before .before .before .before .before .loop-test .taken)
+visit-places-add-p-3 : (t : ℕ) → visit-places-lts.Need-add-p-3 (visit-places-calls t) (visit-places-at t) visit-places.Post visit-places-Inv-loop
+    visit-places-μ-loop
+visit-places-add-p-3 t c =
+    let s11 = c .before .before .before .before .before .before .before .before .before .before .before in
+    omega (arith, s11 .loop-test .taken)
 
-visit-places-loop-less-3 : (t : ℕ) → visit-places-lts.Need-loop-less-3 (visit-places-calls t) (visit-places-at t) visit-places.Post visit-places-Inv-loop visit-places-μ-loop
-visit-places-loop-less-3 t c = omega (arith, c .before .before .before .before .before .before .before .before .before .before .before .loop-test .taken)
+visit-places-loop-less-3 : (t : ℕ) → visit-places-lts.Need-loop-less-3 (visit-places-calls t) (visit-places-at t) visit-places.Post
+    visit-places-Inv-loop visit-places-μ-loop
+visit-places-loop-less-3 t c =
+    let s11 = c .before .before .before .before .before .before .before .before .before .before .before in
+    omega (arith, s11 .loop-test .taken)
 
-visit-places-loop-again-3 : (t : ℕ) → visit-places-lts.Need-loop-again-3 (visit-places-calls t) (visit-places-at t) visit-places.Post visit-places-Inv-loop visit-places-μ-loop
-visit-places-loop-again-3 t c = (omega arith, places-turn (c .before .before .before .before .before .before .before .before .before .before .before .before .before .before .before .args .t .now) (c .before .before .before .before .before .before .before .before .before .before .before .before .before .before .before .args .v .now) (c .before .before .before .before .before .before .before .before .before .before .before .before .before .before .before .args .left - 1) (c .before .before .before .before .before .before .before .before .before .before .before .before .before .before .before .args .e .0) _ _ (c .before .before .before .before .before .before .before .before .before .before .place .ensures) _ _ (4 - (c .before .before .before .before .before .before .before .before .before .before .before .before .before .before .before .args .left - 1)) _ _ _ _ _ _ (c .before .before .before .before .before .before .before .before .before .before .before .before .before .before .before .pre .1 .0 .padded) (omega (arith, c .before .before .before .before .before .before .before .before .before .before .before .before .before .before .before .pre .1 .1, c .before .before .before .before .before .before .before .before .before .before .before .before .before .before .before .pre .1 .0 .few)) (omega (arith, c .before .before .before .before .before .before .before .before .before .before .before .before .before .before .before .pre .1 .1, c .before .before .before .before .before .before .before .before .before .before .before .before .before .before .before .pre .1 .0 .few)) (c .before .before .before .before .before .before .before .before .before .before .before .before .loop .inv .1) (c .before .before .visit-entity .ensures))
+visit-places-loop-again-3 : (t : ℕ) → visit-places-lts.Need-loop-again-3 (visit-places-calls t) (visit-places-at t) visit-places.Post
+    visit-places-Inv-loop visit-places-μ-loop
+visit-places-loop-again-3 t c =
+    let s10 = c .before .before .before .before .before .before .before .before .before .before in
+    let s12 = s10 .before .before in
+    let s15 = s12 .before .before .before in (
+      omega arith,
+      places-turn (s15 .args .t .now) (s15 .args .v .now) (s15 .args .left - 1) (s15 .args .e .0) _ _ (s10 .place .ensures) _ _
+          (nameCount - (s15 .args .left - 1)) _ _ _ _ _ _ (s15 .pre .1 .0 .padded) (omega (arith, s15 .pre .1 .1, s15 .pre .1 .0 .few))
+          (omega (arith, s15 .pre .1 .1, s15 .pre .1 .0 .few)) (s12 .loop .inv .1) (c .before .before .visit-entity .ensures),
+    )
 
-visit-places-same-length : (t : ℕ) → visit-places-lts.Need-same-length (visit-places-calls t) (visit-places-at t) visit-places.Post visit-places-Inv-loop visit-places-μ-loop
+visit-places-same-length : (t : ℕ) → visit-places-lts.Need-same-length (visit-places-calls t) (visit-places-at t) visit-places.Post
+    visit-places-Inv-loop visit-places-μ-loop
 visit-places-same-length t c = visited-length _ _ _ _ _ _ (c .before .loop .inv .1)
 
-visit-places-returns : (t : ℕ) → visit-places-lts.Need-returns (visit-places-calls t) (visit-places-at t) visit-places.Post visit-places-Inv-loop visit-places-μ-loop
-visit-places-returns t c = places-done (c .before .before .before .before .args .t .now) (c .before .before .before .before .args .v .now) (c .before .before .before .before .args .left - 1) (c .before .before .before .before .args .e .0) _ _ _ _ _ _ _ (omega arith) (c .before .loop .inv .1)
+visit-places-returns : (t : ℕ) → visit-places-lts.Need-returns (visit-places-calls t) (visit-places-at t) visit-places.Post visit-places-Inv-loop
+    visit-places-μ-loop
+visit-places-returns t c =
+    let s4 = c .before .before .before .before in
+    places-done (s4 .args .t .now) (s4 .args .v .now) (s4 .args .left - 1) (s4 .args .e .0) _ _ _ _ _ _ _ (omega arith)
+    (c .before .loop .inv .1)
 
 pub +visit-entity+visit-places-spec : {M : Type 1} → statement M
 +visit-entity+visit-places-spec = close μ-visit-entity μ-visit-places (λ t. visit-entity-lts.spec (visit-entity-calls t)

@@ -3,6 +3,7 @@ use lib.ListN.{length-set}
 use Prim.Native.Nat.{_-_}
 use Rattle.disclosure.specs.EntryLaws.{entry-stored}
 use borrow.Author.Needs.{needs}
+use Rattle.model.specs.Request.Words.{nameCount}
 use Rattle.disclosure.proofs.walk.put_entry.Statement.{statement}
 use Rattle.disclosure.proofs.walk.put_entry.Tie as tie
 
@@ -70,7 +71,7 @@ same-length : tie.Need-same-length
 same-length c = search needs
 
 returns : tie.Need-returns
-returns c = entry-stored (c .args .room .now) (c .args .at) (4 - c .args .left) (c .args .t2) (omega arith) (c .pre .1)
+returns c = entry-stored (c .args .room .now) (c .args .at) (nameCount - c .args .left) (c .args .t2) (omega arith) (c .pre .1)
 
 pub put-entry-spec : {M : Type 1} → statement M
 put-entry-spec =

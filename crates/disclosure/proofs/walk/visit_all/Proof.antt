@@ -7,15 +7,15 @@ use Rattle.disclosure.specs.EntryLaws.{padded-one}
 use Rattle.disclosure.specs.TallyLaws.{last-row}
 use Rattle.disclosure.specs.VisitLaws.{all-done, all-none, all-room, all-skip, all-turn, visited-length}
 use Rattle.disclosure.specs.Visited.{Visited, followed}
+use Rattle.model.specs.Tables.Words.{entityCount}
 use Rattle.disclosure.proofs.walk.visit_all.Statement.{statement}
 use Rattle.disclosure.proofs.walk.visit_all.Tie as tie
-use Rattle.disclosure.proofs.walk.visit_entity.Reads as visit-entity-reads
 
 abbrev Inv-loop : tie.InvT-loop
-Inv-loop t v b room₀ i₀ e₀ room i e = (e ≤ 64) × Visited [] room₀ 0 (followed t v e) i room
+Inv-loop t v b room₀ i₀ e₀ room i e = (e ≤ entityCount) × Visited [] room₀ 0 (followed t v e) i room
 
 abbrev μ-loop : tie.MeasureT-loop
-μ-loop t v b room₀ i₀ e₀ room i e = 64 - e
+μ-loop t v b room₀ i₀ e₀ room i e = entityCount - e
 
 loop-holds : tie.Need-loop-holds Inv-loop μ-loop
 loop-holds c = (omega arith, all-none _ _ _)
@@ -39,7 +39,13 @@ loop-less : tie.Need-loop-less Inv-loop μ-loop
 loop-less c = omega (arith, c .before .before .loop-test .taken)
 
 loop-again : tie.Need-loop-again Inv-loop μ-loop
-loop-again c = (omega (arith, c .before .before .loop-test .taken), all-skip (c .before .before .before .before .before .before .args .t .now) (c .before .before .before .before .before .before .args .v .now) _ _ _ _ (sym (last-row (c .before .before .before .before .before .before .args .t .now) (c .before .before .before .before .before .before .args .v .now) (c .before .before .before .before .before .before .args .b .now) _ (c .before .before .before .before .before .before .pre .1) _ (c .before .before .loop-test .taken) (omega arith)) ∙ c .if1 .taken) (c .before .before .before .loop .inv .1))
+loop-again c =
+    let s6 = c .before .before .before .before .before .before in (
+      omega (arith, c .before .before .loop-test .taken),
+      all-skip (s6 .args .t .now) (s6 .args .v .now) _ _ _ _
+          (sym (last-row (s6 .args .t .now) (s6 .args .v .now) (s6 .args .b .now) _ (s6 .pre .1) _ (c .before .before .loop-test .taken)
+          (omega arith)) ∙ c .if1 .taken) (c .before .before .before .loop .inv .1),
+    )
 
 add-names : tie.Need-add-names Inv-loop μ-loop
 add-names c = omega arith
@@ -51,7 +57,20 @@ add-t14 : tie.Need-add-t14 Inv-loop μ-loop
 add-t14 c = omega (arith, c .before .before .loop-test .taken)
 
 visit-entity-requires : tie.Need-visit-entity-requires Inv-loop μ-loop
-visit-entity-requires c κs = (record { guided = c .before .before .before .before .before .before .before .pre .0; tallied = c .before .before .before .before .before .before .before .pre .1; low = omega arith; high = omega (arith, c .before .before .before .loop-test .taken); few = omega arith; padded = padded-one _ }, all-room _ _ _ _ _ _ _ (c .before .before .before .loop-test .taken) (c .before .before .before .before .loop .inv .1) (c .before .before .before .before .before .before .before .pre .2))
+visit-entity-requires c κs =
+    let s4 = c .before .before .before .before in
+    let s7 = s4 .before .before .before in (
+      record {
+        guided = s7 .pre .0;
+        tallied = s7 .pre .1;
+        low = omega arith;
+        high = omega (arith, c .before .before .before .loop-test .taken);
+        few
+            = omega arith;
+        padded = padded-one _;
+      },
+      all-room _ _ _ _ _ _ _ (c .before .before .before .loop-test .taken) (s4 .loop .inv .1) (s7 .pre .2),
+    )
 
 add-e-2 : tie.Need-add-e-2 Inv-loop μ-loop
 add-e-2 c = omega (arith, c .before .before .before .before .before .before .loop-test .taken)
@@ -60,7 +79,10 @@ loop-less-2 : tie.Need-loop-less-2 Inv-loop μ-loop
 loop-less-2 c = omega (arith, c .before .before .before .before .before .before .loop-test .taken)
 
 loop-again-2 : tie.Need-loop-again-2 Inv-loop μ-loop
-loop-again-2 c = (omega (arith, c .before .before .before .before .before .before .loop-test .taken), all-turn _ _ _ _ _ _ _ _ (c .before .before .before .before .before .before .before .loop .inv .1) (c .before .before .visit-entity .ensures))
+loop-again-2 c =
+    let s6 = c .before .before .before .before .before .before in
+    let s7 = s6 .before in
+    (omega (arith, s6 .loop-test .taken), all-turn _ _ _ _ _ _ _ _ (s7 .loop .inv .1) (c .before .before .visit-entity .ensures))
 
 same-length : tie.Need-same-length Inv-loop μ-loop
 same-length c = visited-length _ _ _ _ _ _ (c .before .loop .inv .1)

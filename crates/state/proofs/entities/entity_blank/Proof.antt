@@ -3,20 +3,19 @@ use Prim.Native.Nat.{_-_, _≤_}
 use native.Mathlib.Omega.{arith}
 use lib.Dec.{eqb}
 use borrow.Author.Needs.{needs}
-use Rattle.model.specs.Tables.Layout.{tablesOf}
+use Rattle.model.specs.Tables.Layout.{entityWidth, tablesOf}
 use Rattle.model.specs.Basics.Tests.{every}
 use Rattle.model.specs.Tables.WordAt.{entityWordAt}
 use Rattle.laws.specs.Loops.{every-gather, every-gathered, every-none}
 use Rattle.state.specs.Passes.{entityBlank}
 use Rattle.state.proofs.entities.entity_blank.Statement.{statement}
 use Rattle.state.proofs.entities.entity_blank.Tie as tie
-use Rattle.state.proofs.entities.word_zero.Reads as word-zero-reads
 
 abbrev Inv-loop : tie.InvT-loop
-Inv-loop t e blank₀ f₀ blank f = (f ≤ 32) × (blank ≡ every f (λ i. eqb (tablesOf t .entity (e .0) (entityWordAt i)) 0))
+Inv-loop t e blank₀ f₀ blank f = (f ≤ entityWidth) × (blank ≡ every f (λ i. eqb (tablesOf t .entity (e .0) (entityWordAt i)) 0))
 
 abbrev μ-loop : tie.MeasureT-loop
-μ-loop t e blank₀ f₀ blank f = 32 - f
+μ-loop t e blank₀ f₀ blank f = entityWidth - f
 
 loop-holds : tie.Need-loop-holds Inv-loop μ-loop
 loop-holds c = (omega arith, sym (every-none _))

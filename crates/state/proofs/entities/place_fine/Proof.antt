@@ -10,13 +10,18 @@ shown-requires : tie.Need-shown-requires
 shown-requires c κs = search needs
 
 returns : tie.Need-returns
-returns c = place-beyond _ _ _ _ _ _ (c .before .before .before .before .pre .1) (c .before .before .place .ensures) (c .before .shown .ensures) (c .if1 .taken)
+returns c =
+    let s4 = c .before .before .before .before in
+    place-beyond _ _ _ _ _ _ (s4 .pre .1 .0) (c .before .before .place .ensures) (c .before .shown .ensures) (c .if1 .taken)
 
 kind-or-zero-requires : tie.Need-kind-or-zero-requires
 kind-or-zero-requires c κs = search needs
 
 returns-2 : tie.Need-returns-2
-returns-2 c = place-within _ _ _ _ _ _ (c .before .before .before .before .before .pre .1) (c .before .before .before .place .ensures) (c .before .before .shown .ensures) (c .before .if1 .left) _ _ (c .kind-or-zero .ensures) (c .before .before .before .before .before .pre .2)
+returns-2 c =
+    let s5 = c .before .before .before .before .before in
+    place-within _ _ _ _ _ _ (s5 .pre .1 .0) (c .before .before .before .place .ensures) (c .before .before .shown .ensures) (c .before .if1 .left) _
+    _ (c .kind-or-zero .ensures) (s5 .pre .1 .1)
 
 pub place-fine-spec : {M : Type 1} → statement M
 place-fine-spec =

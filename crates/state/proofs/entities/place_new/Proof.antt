@@ -12,7 +12,6 @@ use Rattle.model.specs.Tables.Words.{places}
 use Rattle.state.specs.RowLaws.{new-of, new-zero}
 use Rattle.state.proofs.entities.place_new.Statement.{statement}
 use Rattle.state.proofs.entities.place_new.Tie as tie
-use Rattle.state.proofs.entities.place_other.Reads as place-other-reads
 
 abbrev Inv-loop : tie.InvT-loop
 Inv-loop t e i x j₀ j = (j ≤ i) × (every j (λ k. not (eqb (places (tablesOf t) (e .0) k) x)) ≡ true)
@@ -33,7 +32,11 @@ place-other-requires : tie.Need-place-other-requires Inv-loop μ-loop
 place-other-requires c κs = search needs
 
 returns-2 : tie.Need-returns-2 Inv-loop μ-loop
-returns-2 c = new-of _ _ _ (c .before .before .before .before .before .place .ensures) (c .before .before .before .before .if1 .left) _ (every-fails _ _ _ (c .before .before .loop-test .taken) (sym (c .before .place-other .ensures) ∙ not-true _ (c .if2 .taken)))
+returns-2 c =
+    let s4 = c .before .before .before .before in
+    let s5 = s4 .before in
+    new-of _ _ _ (s5 .place .ensures) (s4 .if1 .left) _ (every-fails _ _ _ (c .before .before .loop-test .taken)
+    (sym (c .before .place-other .ensures) ∙ not-true _ (c .if2 .taken)))
 
 add-j : tie.Need-add-j Inv-loop μ-loop
 add-j c = omega arith
@@ -45,7 +48,9 @@ loop-again : tie.Need-loop-again Inv-loop μ-loop
 loop-again c = (omega arith, every-more _ _ (c .before .before .before .loop .inv .1) (sym (c .before .place-other .ensures) ∙ not-false _ (c .if2 .left)))
 
 returns-3 : tie.Need-returns-3 Inv-loop μ-loop
-returns-3 c = new-of _ _ _ (c .before .before .before .place .ensures) (c .before .before .if1 .left) _ (every-done _ _ _ (c .before .loop .inv .1) (c .before .loop .inv .0) (omega arith))
+returns-3 c =
+    new-of _ _ _ (c .before .before .before .place .ensures) (c .before .before .if1 .left) _
+    (every-done _ _ _ (c .before .loop .inv .1) (c .before .loop .inv .0) (omega arith))
 
 pub place-new-spec : {M : Type 1} → statement M
 place-new-spec =

@@ -7,16 +7,16 @@ use Rattle.model.specs.Basics.Tests.{every}
 use Prim.Native.Nat.{_-_, _≤_}
 use Rattle.laws.specs.Loops.{every-done, every-fails, every-more, every-none}
 use Rattle.model.specs.Tables.Layout.{tablesOf}
+use Rattle.model.specs.Tables.Words.{placeCount}
 use Rattle.state.specs.Passes.{placeTest}
 use Rattle.state.proofs.entities.places_fine.Statement.{statement}
 use Rattle.state.proofs.entities.places_fine.Tie as tie
-use Rattle.state.proofs.entities.place_fine.Reads as place-fine-reads
 
 abbrev Inv-loop : tie.InvT-loop
-Inv-loop t e s n i₀ i = (i ≤ 8) × (every i (placeTest (tablesOf t) (e .0)) ≡ true)
+Inv-loop t e shows n i₀ i = (i ≤ placeCount) × (every i (placeTest (tablesOf t) (e .0)) ≡ true)
 
 abbrev μ-loop : tie.MeasureT-loop
-μ-loop t e s n i₀ i = 8 - i
+μ-loop t e shows n i₀ i = placeCount - i
 
 loop-holds : tie.Need-loop-holds Inv-loop μ-loop
 loop-holds c = (omega arith, every-none _)

@@ -6,13 +6,9 @@ use lib.Dec.{eqb}
 use Rattle.model.specs.Tables.LayoutLaws.{bounded}
 use Rattle.state.specs.OwnLaws.{own-count, own-places, own-quiet, own-room, own-shape, own-shown, own-triples, own-unlike}
 use borrow.Author.Needs.{needs}
+use Rattle.model.specs.Tables.Words.{deviceKind}
 use Rattle.state.proofs.entities.present_fine.Statement.{statement}
 use Rattle.state.proofs.entities.present_fine.Tie as tie
-use Rattle.state.proofs.entities.used_fine.Reads as used-fine-reads
-use Rattle.state.proofs.entities.places_fine.Reads as places-fine-reads
-use Rattle.state.proofs.entities.places_new.Reads as places-new-reads
-use Rattle.state.proofs.entities.shape_fine.Reads as shape-fine-reads
-use Rattle.state.proofs.entities.triples_fine.Reads as triples-fine-reads
 
 type-of-requires : tie.Need-type-of-requires
 type-of-requires c κs = search needs
@@ -36,7 +32,15 @@ shape-fine-requires : tie.Need-shape-fine-requires
 shape-fine-requires c κs = search needs
 
 returns : tie.Need-returns
-returns c = own-shape _ (bounded _) _ _ _ _ _ _ _ _ (c .before .before .before .before .before .before .before .before .before .pre .1) (c .before .before .before .before .before .before .before .before .before .pre .2) (c .before .before .before .before .before .before .before .type-of .ensures) (c .before .before .before .before .before .before .level .ensures) (c .before .before .before .before .before .mark .ensures) (c .before .before .before .before .value .ensures) (c .before .before .before .releaser .ensures) (c .before .before .maximum .ensures) _ (c .before .shape-fine .ensures) (not-true _ (c .if1 .taken))
+returns c =
+    let s4 = c .before .before .before .before in
+    let s5 = s4 .before in
+    let s6 = s5 .before in
+    let s7 = s6 .before in
+    let s9 = s7 .before .before in
+    own-shape _ (bounded _) _ _ _ _ _ _ _ _ (s9 .pre .1) (s9 .pre .2) (s7 .type-of .ensures) (s6 .level .ensures) (s5 .mark .ensures)
+    (s4 .value .ensures) (c .before .before .before .releaser .ensures) (c .before .before .maximum .ensures) _ (c .before .shape-fine .ensures)
+    (not-true _ (c .if1 .taken))
 
 used-requires : tie.Need-used-requires
 used-requires c κs = search needs
@@ -45,34 +49,165 @@ used-fine-requires : tie.Need-used-fine-requires
 used-fine-requires c κs = search needs
 
 returns-2 : tie.Need-returns-2
-returns-2 c = own-count _ (bounded _) _ _ _ _ _ _ _ _ (c .before .before .before .before .before .before .before .before .before .before .before .before .pre .1) (c .before .before .before .before .before .before .before .before .before .before .before .before .pre .2) (c .before .before .before .before .before .before .before .before .before .before .type-of .ensures) (c .before .before .before .before .before .before .before .before .before .level .ensures) (c .before .before .before .before .before .before .before .before .mark .ensures) (c .before .before .before .before .before .before .before .value .ensures) (c .before .before .before .before .before .before .releaser .ensures) (c .before .before .before .before .before .maximum .ensures) _ (c .before .before .before .before .shape-fine .ensures) (not-false _ (c .before .before .before .if1 .left)) _ (c .before .before .used .ensures) _ (c .before .used-fine .ensures) (not-true _ (c .if2 .taken))
+returns-2 c =
+    let s4 = c .before .before .before .before in
+    let s5 = s4 .before in
+    let s6 = s5 .before in
+    let s7 = s6 .before in
+    let s8 = s7 .before in
+    let s9 = s8 .before in
+    let s10 = s9 .before in
+    let s12 = s10 .before .before in
+    own-count _ (bounded _) _ _ _ _ _ _ _ _ (s12 .pre .1) (s12 .pre .2) (s10 .type-of .ensures) (s9 .level .ensures) (s8 .mark .ensures)
+    (s7 .value .ensures) (s6 .releaser .ensures) (s5 .maximum .ensures) _ (s4 .shape-fine .ensures)
+    (not-false _ (c .before .before .before .if1 .left)) _ (c .before .before .used .ensures) _ (c .before .used-fine .ensures)
+    (not-true _ (c .if2 .taken))
+
+is-screen-requires : tie.Need-is-screen-requires
+is-screen-requires c κs = search needs
 
 places-fine-requires : tie.Need-places-fine-requires
-places-fine-requires c κs = (c .before .before .before .before .before .before .before .before .before .before .before .before .pre .0, c .before .before .used .ensures, ap (λ (k : ℕ). eqb k 3) (c .before .before .before .before .before .before .before .before .before .before .before .before .pre .1))
+places-fine-requires c κs =
+    let s13 = c .before .before .before .before .before .before .before .before .before .before .before .before .before in
+    (s13 .pre .0, (c .before .before .before .used .ensures, c .is-screen .ensures ∙ ap (λ (k : ℕ). eqb k deviceKind) (s13 .pre .1)))
 
 returns-3 : tie.Need-returns-3
-returns-3 c = own-places _ (bounded _) _ _ _ _ _ _ _ _ (c .before .before .before .before .before .before .before .before .before .before .before .before .before .before .pre .1) (c .before .before .before .before .before .before .before .before .before .before .before .before .before .before .pre .2) (c .before .before .before .before .before .before .before .before .before .before .before .before .type-of .ensures) (c .before .before .before .before .before .before .before .before .before .before .before .level .ensures) (c .before .before .before .before .before .before .before .before .before .before .mark .ensures) (c .before .before .before .before .before .before .before .before .before .value .ensures) (c .before .before .before .before .before .before .before .before .releaser .ensures) (c .before .before .before .before .before .before .before .maximum .ensures) _ (c .before .before .before .before .before .before .shape-fine .ensures) (not-false _ (c .before .before .before .before .before .if1 .left)) _ (c .before .before .before .before .used .ensures) _ (c .before .before .before .used-fine .ensures) (not-false _ (c .before .before .if2 .left)) _ (c .before .places-fine .ensures) (not-true _ (c .if3 .taken))
+returns-3 c =
+    let s4 = c .before .before .before .before in
+    let s5 = s4 .before in
+    let s6 = s5 .before in
+    let s7 = s6 .before in
+    let s8 = s7 .before in
+    let s9 = s8 .before in
+    let s10 = s9 .before in
+    let s11 = s10 .before in
+    let s12 = s11 .before in
+    let s13 = s12 .before in
+    let s15 = s13 .before .before in
+    own-places _ (bounded _) _ _ _ _ _ _ _ _ (s15 .pre .1) (s15 .pre .2) (s13 .type-of .ensures) (s12 .level .ensures) (s11 .mark .ensures)
+    (s10 .value .ensures) (s9 .releaser .ensures) (s8 .maximum .ensures) _ (s7 .shape-fine .ensures) (not-false _ (s6 .if1 .left)) _
+    (s5 .used .ensures) _ (s4 .used-fine .ensures) (not-false _ (c .before .before .before .if2 .left)) _ (c .before .places-fine .ensures)
+    (not-true _ (c .if3 .taken))
 
 places-new-requires : tie.Need-places-new-requires
-places-new-requires c κs = (c .before .before .before .before .before .before .before .before .before .before .before .before .before .before .pre .0, own-room _ (bounded _) _ _ _ _ _ _ _ _ (c .before .before .before .before .before .before .before .before .before .before .before .before .before .before .pre .1) (c .before .before .before .before .before .before .before .before .before .before .before .before .before .before .pre .2) (c .before .before .before .before .before .before .before .before .before .before .before .before .type-of .ensures) (c .before .before .before .before .before .before .before .before .before .before .before .level .ensures) (c .before .before .before .before .before .before .before .before .before .before .mark .ensures) (c .before .before .before .before .before .before .before .before .before .value .ensures) (c .before .before .before .before .before .before .before .before .releaser .ensures) (c .before .before .before .before .before .before .before .maximum .ensures) _ (c .before .before .before .before .before .before .shape-fine .ensures) (not-false _ (c .before .before .before .before .before .if1 .left)) _ (c .before .before .before .before .used .ensures) _ (c .before .before .before .used-fine .ensures) (not-false _ (c .before .before .if2 .left)), c .before .before .before .before .used .ensures, sym (c .before .places-fine .ensures) ∙ not-false _ (c .if3 .left))
+places-new-requires c κs =
+    let s4 = c .before .before .before .before in
+    let s5 = s4 .before in
+    let s6 = s5 .before in
+    let s7 = s6 .before in
+    let s8 = s7 .before in
+    let s9 = s8 .before in
+    let s10 = s9 .before in
+    let s11 = s10 .before in
+    let s12 = s11 .before in
+    let s13 = s12 .before in
+    let s15 = s13 .before .before in (
+      s15 .pre .0,
+      own-room _ (bounded _) _ _ _ _ _ _ _ _ (s15 .pre .1) (s15 .pre .2) (s13 .type-of .ensures) (s12 .level .ensures)
+          (s11 .mark .ensures) (s10 .value .ensures) (s9 .releaser .ensures) (s8 .maximum .ensures) _ (s7 .shape-fine .ensures)
+          (not-false _ (s6 .if1 .left)) _ (s5 .used .ensures) _ (s4 .used-fine .ensures) (not-false _ (c .before .before .before .if2 .left)),
+      s5 .used .ensures,
+      sym (c .before .places-fine .ensures) ∙ not-false _ (c .if3 .left),
+    )
 
 returns-4 : tie.Need-returns-4
-returns-4 c = own-unlike _ (bounded _) _ _ _ _ _ _ _ _ (c .before .before .before .before .before .before .before .before .before .before .before .before .before .before .before .before .pre .1) (c .before .before .before .before .before .before .before .before .before .before .before .before .before .before .before .before .pre .2) (c .before .before .before .before .before .before .before .before .before .before .before .before .before .before .type-of .ensures) (c .before .before .before .before .before .before .before .before .before .before .before .before .before .level .ensures) (c .before .before .before .before .before .before .before .before .before .before .before .before .mark .ensures) (c .before .before .before .before .before .before .before .before .before .before .before .value .ensures) (c .before .before .before .before .before .before .before .before .before .before .releaser .ensures) (c .before .before .before .before .before .before .before .before .before .maximum .ensures) _ (c .before .before .before .before .before .before .before .before .shape-fine .ensures) (not-false _ (c .before .before .before .before .before .before .before .if1 .left)) _ (c .before .before .before .before .before .before .used .ensures) _ (c .before .before .before .before .before .used-fine .ensures) (not-false _ (c .before .before .before .before .if2 .left)) _ (c .before .before .before .places-fine .ensures) (not-false _ (c .before .before .if3 .left)) _ (c .before .places-new .ensures) (not-true _ (c .if4 .taken))
+returns-4 c =
+    let s5 = c .before .before .before .before .before in
+    let s6 = s5 .before in
+    let s7 = s6 .before in
+    let s8 = s7 .before in
+    let s9 = s8 .before in
+    let s10 = s9 .before in
+    let s11 = s10 .before in
+    let s12 = s11 .before in
+    let s13 = s12 .before in
+    let s14 = s13 .before in
+    let s15 = s14 .before in
+    let s17 = s15 .before .before in
+    own-unlike _ (bounded _) _ _ _ _ _ _ _ _ (s17 .pre .1) (s17 .pre .2) (s15 .type-of .ensures) (s14 .level .ensures) (s13 .mark .ensures)
+    (s12 .value .ensures) (s11 .releaser .ensures) (s10 .maximum .ensures) _ (s9 .shape-fine .ensures) (not-false _ (s8 .if1 .left)) _
+    (s7 .used .ensures) _ (s6 .used-fine .ensures) (not-false _ (s5 .if2 .left)) _ (c .before .before .before .places-fine .ensures)
+    (not-false _ (c .before .before .if3 .left)) _ (c .before .places-new .ensures) (not-true _ (c .if4 .taken))
 
 triples-fine-requires : tie.Need-triples-fine-requires
 triples-fine-requires c κs = search needs
 
 returns-5 : tie.Need-returns-5
-returns-5 c = own-triples _ (bounded _) _ _ _ _ _ _ _ _ (c .before .before .before .before .before .before .before .before .before .before .before .before .before .before .before .before .before .before .pre .1) (c .before .before .before .before .before .before .before .before .before .before .before .before .before .before .before .before .before .before .pre .2) (c .before .before .before .before .before .before .before .before .before .before .before .before .before .before .before .before .type-of .ensures) (c .before .before .before .before .before .before .before .before .before .before .before .before .before .before .before .level .ensures) (c .before .before .before .before .before .before .before .before .before .before .before .before .before .before .mark .ensures) (c .before .before .before .before .before .before .before .before .before .before .before .before .before .value .ensures) (c .before .before .before .before .before .before .before .before .before .before .before .before .releaser .ensures) (c .before .before .before .before .before .before .before .before .before .before .before .maximum .ensures) _ (c .before .before .before .before .before .before .before .before .before .before .shape-fine .ensures) (not-false _ (c .before .before .before .before .before .before .before .before .before .if1 .left)) _ (c .before .before .before .before .before .before .before .before .used .ensures) _ (c .before .before .before .before .before .before .before .used-fine .ensures) (not-false _ (c .before .before .before .before .before .before .if2 .left)) _ (c .before .before .before .before .before .places-fine .ensures) (not-false _ (c .before .before .before .before .if3 .left)) _ (c .before .before .before .places-new .ensures) (not-false _ (c .before .before .if4 .left)) _ (c .before .triples-fine .ensures) (not-true _ (c .if5 .taken))
+returns-5 c =
+    let s4 = c .before .before .before .before in
+    let s5 = s4 .before in
+    let s7 = s5 .before .before in
+    let s8 = s7 .before in
+    let s9 = s8 .before in
+    let s10 = s9 .before in
+    let s11 = s10 .before in
+    let s12 = s11 .before in
+    let s13 = s12 .before in
+    let s14 = s13 .before in
+    let s15 = s14 .before in
+    let s16 = s15 .before in
+    let s17 = s16 .before in
+    let s19 = s17 .before .before in
+    own-triples _ (bounded _) _ _ _ _ _ _ _ _ (s19 .pre .1) (s19 .pre .2) (s17 .type-of .ensures) (s16 .level .ensures) (s15 .mark .ensures)
+    (s14 .value .ensures) (s13 .releaser .ensures) (s12 .maximum .ensures) _ (s11 .shape-fine .ensures) (not-false _ (s10 .if1 .left)) _
+    (s9 .used .ensures) _ (s8 .used-fine .ensures) (not-false _ (s7 .if2 .left)) _ (s5 .places-fine .ensures) (not-false _ (s4 .if3 .left)) _
+    (c .before .before .before .places-new .ensures) (not-false _ (c .before .before .if4 .left)) _ (c .before .triples-fine .ensures)
+    (not-true _ (c .if5 .taken))
 
 returns-6 : tie.Need-returns-6
-returns-6 c = own-quiet _ (bounded _) _ _ _ _ _ _ _ _ (c .before .before .before .before .before .before .before .before .before .before .before .before .before .before .before .before .before .before .before .pre .1) (c .before .before .before .before .before .before .before .before .before .before .before .before .before .before .before .before .before .before .before .pre .2) (c .before .before .before .before .before .before .before .before .before .before .before .before .before .before .before .before .before .type-of .ensures) (c .before .before .before .before .before .before .before .before .before .before .before .before .before .before .before .before .level .ensures) (c .before .before .before .before .before .before .before .before .before .before .before .before .before .before .before .mark .ensures) (c .before .before .before .before .before .before .before .before .before .before .before .before .before .before .value .ensures) (c .before .before .before .before .before .before .before .before .before .before .before .before .before .releaser .ensures) (c .before .before .before .before .before .before .before .before .before .before .before .before .maximum .ensures) _ (c .before .before .before .before .before .before .before .before .before .before .before .shape-fine .ensures) (not-false _ (c .before .before .before .before .before .before .before .before .before .before .if1 .left)) _ (c .before .before .before .before .before .before .before .before .before .used .ensures) _ (c .before .before .before .before .before .before .before .before .used-fine .ensures) (not-false _ (c .before .before .before .before .before .before .before .if2 .left)) _ (c .before .before .before .before .before .before .places-fine .ensures) (not-false _ (c .before .before .before .before .before .if3 .left)) _ (c .before .before .before .before .places-new .ensures) (not-false _ (c .before .before .before .if4 .left)) _ (c .before .before .triples-fine .ensures) (not-false _ (c .before .if5 .left)) (c .if6 .taken)
+returns-6 c =
+    let s4 = c .before .before .before .before in
+    let s5 = s4 .before in
+    let s6 = s5 .before in
+    let s7 = s6 .before in
+    let s8 = s7 .before in
+    let s9 = s8 .before in
+    let s10 = s9 .before in
+    let s11 = s10 .before in
+    let s12 = s11 .before in
+    let s13 = s12 .before in
+    let s14 = s13 .before in
+    let s15 = s14 .before in
+    let s16 = s15 .before in
+    let s17 = s16 .before in
+    let s18 = s17 .before in
+    let s20 = s18 .before .before in
+    own-quiet _ (bounded _) _ _ _ _ _ _ _ _ (s20 .pre .1) (s20 .pre .2) (s18 .type-of .ensures) (s17 .level .ensures) (s16 .mark .ensures)
+    (s15 .value .ensures) (s14 .releaser .ensures) (s13 .maximum .ensures) _ (s12 .shape-fine .ensures) (not-false _ (s11 .if1 .left)) _
+    (s10 .used .ensures) _ (s9 .used-fine .ensures) (not-false _ (s8 .if2 .left)) _ (s6 .places-fine .ensures) (not-false _ (s5 .if3 .left)) _
+    (s4 .places-new .ensures) (not-false _ (c .before .before .before .if4 .left)) _ (c .before .before .triples-fine .ensures)
+    (not-false _ (c .before .if5 .left)) _ (s7 .is-screen .ensures) (c .if6 .taken)
 
 nobody-on-requires : tie.Need-nobody-on-requires
-nobody-on-requires c κs = (c .before .before .before .before .before .before .before .before .before .before .before .before .before .before .before .before .before .before .before .pre .0 .0, omega arith)
+nobody-on-requires c κs =
+    let s10 = c .before .before .before .before .before .before .before .before .before .before in
+    let s20 = s10 .before .before .before .before .before .before .before .before .before .before in
+    (s20 .pre .0 .0, omega arith)
 
 returns-7 : tie.Need-returns-7
-returns-7 c = own-shown _ (bounded _) _ _ _ _ _ _ _ _ (c .before .before .before .before .before .before .before .before .before .before .before .before .before .before .before .before .before .before .before .before .pre .1) (c .before .before .before .before .before .before .before .before .before .before .before .before .before .before .before .before .before .before .before .before .pre .2) (c .before .before .before .before .before .before .before .before .before .before .before .before .before .before .before .before .before .before .type-of .ensures) (c .before .before .before .before .before .before .before .before .before .before .before .before .before .before .before .before .before .level .ensures) (c .before .before .before .before .before .before .before .before .before .before .before .before .before .before .before .before .mark .ensures) (c .before .before .before .before .before .before .before .before .before .before .before .before .before .before .before .value .ensures) (c .before .before .before .before .before .before .before .before .before .before .before .before .before .before .releaser .ensures) (c .before .before .before .before .before .before .before .before .before .before .before .before .before .maximum .ensures) _ (c .before .before .before .before .before .before .before .before .before .before .before .before .shape-fine .ensures) (not-false _ (c .before .before .before .before .before .before .before .before .before .before .before .if1 .left)) _ (c .before .before .before .before .before .before .before .before .before .before .used .ensures) _ (c .before .before .before .before .before .before .before .before .before .used-fine .ensures) (not-false _ (c .before .before .before .before .before .before .before .before .if2 .left)) _ (c .before .before .before .before .before .before .before .places-fine .ensures) (not-false _ (c .before .before .before .before .before .before .if3 .left)) _ (c .before .before .before .before .before .places-new .ensures) (not-false _ (c .before .before .before .before .if4 .left)) _ (c .before .before .before .triples-fine .ensures) (not-false _ (c .before .before .if5 .left)) (c .before .if6 .left) _ (c .nobody-on .ensures)
+returns-7 c =
+    let s4 = c .before .before .before .before in
+    let s5 = s4 .before in
+    let s6 = s5 .before in
+    let s7 = s6 .before in
+    let s8 = s7 .before in
+    let s9 = s8 .before in
+    let s10 = s9 .before in
+    let s11 = s10 .before in
+    let s12 = s11 .before in
+    let s13 = s12 .before in
+    let s14 = s13 .before in
+    let s15 = s14 .before in
+    let s16 = s15 .before in
+    let s17 = s16 .before in
+    let s18 = s17 .before in
+    let s19 = s18 .before in
+    let s21 = s19 .before .before in
+    own-shown _ (bounded _) _ _ _ _ _ _ _ _ (s21 .pre .1) (s21 .pre .2) (s19 .type-of .ensures) (s18 .level .ensures) (s17 .mark .ensures)
+    (s16 .value .ensures) (s15 .releaser .ensures) (s14 .maximum .ensures) _ (s13 .shape-fine .ensures) (not-false _ (s12 .if1 .left)) _
+    (s11 .used .ensures) _ (s10 .used-fine .ensures) (not-false _ (s9 .if2 .left)) _ (s7 .places-fine .ensures) (not-false _ (s6 .if3 .left)) _
+    (s5 .places-new .ensures) (not-false _ (s4 .if4 .left)) _ (c .before .before .before .triples-fine .ensures)
+    (not-false _ (c .before .before .if5 .left)) _ (s8 .is-screen .ensures) (c .before .if6 .left) _ (c .nobody-on .ensures)
 
 pub present-fine-spec : {M : Type 1} → statement M
 present-fine-spec =
@@ -89,6 +224,7 @@ present-fine-spec =
     used-requires
     used-fine-requires
     returns-2
+    is-screen-requires
     places-fine-requires
     returns-3
     places-new-requires

@@ -7,17 +7,16 @@ use Rattle.model.specs.Basics.Tests.{every}
 use Prim.Native.Nat.{_-_, _≤_}
 use Rattle.laws.specs.Loops.{every-done, every-fails, every-more, every-none}
 use Rattle.model.specs.Tables.Layout.{tablesOf}
-use Rattle.model.specs.Tables.Words.{triples}
+use Rattle.model.specs.Tables.Words.{placeCount, triples}
 use Rattle.state.specs.Passes.{tripleNew}
 use Rattle.state.proofs.entities.triples_fine.Statement.{statement}
 use Rattle.state.proofs.entities.triples_fine.Tie as tie
-use Rattle.state.proofs.entities.triple_fine.Reads as triple-fine-reads
 
 abbrev Inv-loop : tie.InvT-loop
-Inv-loop t e i₀ i = (i ≤ 8) × (every i (tripleNew (triples (tablesOf t) (e .0))) ≡ true)
+Inv-loop t e i₀ i = (i ≤ placeCount) × (every i (tripleNew (triples (tablesOf t) (e .0))) ≡ true)
 
 abbrev μ-loop : tie.MeasureT-loop
-μ-loop t e i₀ i = 8 - i
+μ-loop t e i₀ i = placeCount - i
 
 loop-holds : tie.Need-loop-holds Inv-loop μ-loop
 loop-holds c = (omega arith, every-none _)

@@ -7,16 +7,16 @@ use Rattle.model.specs.Basics.Tests.{every}
 use Prim.Native.Nat.{_-_, _≤_, suc}
 use Rattle.laws.specs.Loops.{each-fails, each-more, every-done, every-none}
 use Rattle.model.specs.Tables.Layout.{tablesOf}
+use Rattle.model.specs.Tables.Words.{entityCount}
 use Rattle.state.specs.Passes.{entitySecure}
 use Rattle.state.proofs.secure.entities_secure.Statement.{statement}
 use Rattle.state.proofs.secure.entities_secure.Tie as tie
-use Rattle.state.proofs.secure.entity_secure.Reads as entity-secure-reads
 
 abbrev Inv-loop : tie.InvT-loop
-Inv-loop t i₀ i = (i ≤ 64) × (every i (λ k. (entitySecure (tablesOf t)) (suc k)) ≡ true)
+Inv-loop t i₀ i = (i ≤ entityCount) × (every i (λ k. (entitySecure (tablesOf t)) (suc k)) ≡ true)
 
 abbrev μ-loop : tie.MeasureT-loop
-μ-loop t i₀ i = 64 - i
+μ-loop t i₀ i = entityCount - i
 
 loop-holds : tie.Need-loop-holds Inv-loop μ-loop
 loop-holds c = (omega arith, every-none _)
@@ -28,7 +28,10 @@ entity-secure-requires : tie.Need-entity-secure-requires Inv-loop μ-loop
 entity-secure-requires c κs = search needs
 
 returns : tie.Need-returns Inv-loop μ-loop
-returns c = each-fails _ (entitySecure (tablesOf (c .before .before .before .before .before .args .t .now))) _ (c .before .before .loop-test .taken) (sym (c .before .entity-secure .ensures) ∙ not-true _ (c .if1 .taken))
+returns c =
+    let s5 = c .before .before .before .before .before in
+    each-fails _ (entitySecure (tablesOf (s5 .args .t .now))) _ (c .before .before .loop-test .taken)
+    (sym (c .before .entity-secure .ensures) ∙ not-true _ (c .if1 .taken))
 
 add-i : tie.Need-add-i Inv-loop μ-loop
 add-i c = omega arith
@@ -37,7 +40,12 @@ loop-less : tie.Need-loop-less Inv-loop μ-loop
 loop-less c = omega arith
 
 loop-again : tie.Need-loop-again Inv-loop μ-loop
-loop-again c = (omega arith, each-more _ (entitySecure (tablesOf (c .before .before .before .before .before .args .t .now))) (c .before .before .before .loop .inv .1) (sym (c .before .entity-secure .ensures) ∙ not-false _ (c .if1 .left)))
+loop-again c =
+    let s5 = c .before .before .before .before .before in (
+      omega arith,
+      each-more _ (entitySecure (tablesOf (s5 .args .t .now))) (c .before .before .before .loop .inv .1)
+          (sym (c .before .entity-secure .ensures) ∙ not-false _ (c .if1 .left)),
+    )
 
 returns-2 : tie.Need-returns-2 Inv-loop μ-loop
 returns-2 c = every-done _ _ _ (c .before .loop .inv .1) (c .before .loop .inv .0) (omega arith)

@@ -19,7 +19,11 @@ is-labelled-requires : tie.Need-is-labelled-requires
 is-labelled-requires c κs = search needs
 
 returns : tie.Need-returns
-returns c = place-secure _ _ _ _ _ _ _ _ _ _ (c .before .before .before .before .place .ensures) (c .before .before .before .level-or-zero .ensures) (c .before .before .before .before .before .before .pre .1) (c .before .before .at-most .ensures) (c .before .shown .ensures) (c .is-labelled .ensures) (c .before .before .before .before .before .before .pre .2)
+returns c =
+    let s4 = c .before .before .before .before in
+    let s6 = s4 .before .before in
+    place-secure _ _ _ _ _ _ _ _ _ _ (s4 .place .ensures) (c .before .before .before .level-or-zero .ensures) (s6 .pre .1 .0)
+    (c .before .before .at-most .ensures) (c .before .shown .ensures) (c .is-labelled .ensures) (s6 .pre .1 .1)
 
 pub place-secure-spec : {M : Type 1} → statement M
 place-secure-spec =

@@ -11,7 +11,6 @@ use Rattle.model.specs.Level.{atMost}
 use Rattle.model.specs.Tables.Words.{level, places}
 use Rattle.state.proofs.secure.places_below.Statement.{statement}
 use Rattle.state.proofs.secure.places_below.Tie as tie
-use Rattle.state.proofs.secure.place_below.Reads as place-below-reads
 
 abbrev Inv-loop : tie.InvT-loop
 Inv-loop t v c n i₀ i = (i ≤ n) × (every i (λ j. atMost (tablesOf t .entity (places (tablesOf t) (v .0) j) level) (c .0)) ≡ true)

@@ -10,13 +10,12 @@ use Rattle.model.specs.Tables.Layout.{tablesOf}
 use Rattle.state.specs.Passes.{placeSecure}
 use Rattle.state.proofs.secure.places_secure.Statement.{statement}
 use Rattle.state.proofs.secure.places_secure.Tie as tie
-use Rattle.state.proofs.secure.place_secure.Reads as place-secure-reads
 
 abbrev Inv-loop : tie.InvT-loop
-Inv-loop t e l s n i₀ i = (i ≤ n) × (every i (placeSecure (tablesOf t) (e .0)) ≡ true)
+Inv-loop t e l shows n i₀ i = (i ≤ n) × (every i (placeSecure (tablesOf t) (e .0)) ≡ true)
 
 abbrev μ-loop : tie.MeasureT-loop
-μ-loop t e l s n i₀ i = n - i
+μ-loop t e l shows n i₀ i = n - i
 
 loop-holds : tie.Need-loop-holds Inv-loop μ-loop
 loop-holds c = (omega arith, every-none _)

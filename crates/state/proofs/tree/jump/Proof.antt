@@ -1,16 +1,17 @@
 use native.Mathlib.Omega.{arith}
 use Prim.Native.Nat.{_-_, _≤_}
 use borrow.Author.Needs.{needs}
+use Rattle.state.specs.Holders.{entityNumbers}
 use Rattle.state.specs.Jumps.{Jumped}
 use Rattle.state.specs.JumpLaws.{jumped-end, jumped-more, jumped-none}
 use Rattle.state.proofs.tree.jump.Statement.{statement}
 use Rattle.state.proofs.tree.jump.Tie as tie
 
 abbrev Inv-loop : tie.InvT-loop
-Inv-loop a b d₀ none₀ i₀ d none i = (i ≤ 65) × Jumped a b i none d
+Inv-loop a b d₀ none₀ i₀ d none i = (i ≤ entityNumbers) × Jumped a b i none d
 
 abbrev μ-loop : tie.MeasureT-loop
-μ-loop a b d₀ none₀ i₀ d none i = 65 - i
+μ-loop a b d₀ none₀ i₀ d none i = entityNumbers - i
 
 loop-holds : tie.Need-loop-holds Inv-loop μ-loop
 loop-holds c = (omega arith, jumped-none _ _ _ (c .pre .2))

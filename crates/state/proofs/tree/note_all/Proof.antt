@@ -2,17 +2,17 @@ use native.Mathlib.Omega.{arith}
 use borrow.Author.Tests.{not-false, not-true}
 use Rattle.model.specs.Tables.Layout.{tablesOf}
 use Prim.Native.Nat.{_*_, _-_, _≤_}
+use Rattle.model.specs.Tables.Words.{entityCount, placeCount}
 use Rattle.state.specs.Holders.{Filled}
 use Rattle.state.specs.HolderLaws.{filled-end, filled-next, stopped-in, went-on}
 use Rattle.state.proofs.tree.note_all.Statement.{statement}
 use Rattle.state.proofs.tree.note_all.Tie as tie
-use Rattle.state.proofs.tree.note_row.Reads as note-row-reads
 
 abbrev Inv-loop : tie.InvT-loop
-Inv-loop t h₀ i₀ h i = (i ≤ 64) × Filled (tablesOf t) (i * 8) h
+Inv-loop t h₀ i₀ h i = (i ≤ entityCount) × Filled (tablesOf t) (i * placeCount) h
 
 abbrev μ-loop : tie.MeasureT-loop
-μ-loop t h₀ i₀ h i = 64 - i
+μ-loop t h₀ i₀ h i = entityCount - i
 
 loop-holds : tie.Need-loop-holds Inv-loop μ-loop
 loop-holds c = (omega arith, c .before .pre .2)
@@ -21,7 +21,9 @@ add-t6 : tie.Need-add-t6 Inv-loop μ-loop
 add-t6 c = omega arith
 
 note-row-requires : tie.Need-note-row-requires Inv-loop μ-loop
-note-row-requires c κs = ((c .before .before .before .before .pre .0, omega arith, omega arith), c .before .before .before .before .pre .1, filled-next _ _ _ (c .before .before .loop .inv .1))
+note-row-requires c κs =
+    let s4 = c .before .before .before .before in
+    ((s4 .pre .0, omega arith, omega arith), s4 .pre .1, filled-next _ _ _ (c .before .before .loop .inv .1))
 
 returns : tie.Need-returns Inv-loop μ-loop
 returns c = stopped-in (tablesOf _) _ _ _ _ _ (c .before .note-row .ensures) (not-true _ (c .if1 .taken))

@@ -6,17 +6,16 @@ use borrow.Author.Needs.{needs}
 use Rattle.model.specs.Tables.Layout.{tablesOf}
 use Rattle.model.specs.Basics.Tests.{every}
 use Rattle.laws.specs.Loops.{every-gather, every-gathered, every-none}
-use Rattle.model.specs.Tables.Words.{spare}
+use Rattle.model.specs.Tables.Words.{spare, spareCount}
 use Rattle.state.specs.UserLaws.{spare-zero}
 use Rattle.state.proofs.users.spares_zero.Statement.{statement}
 use Rattle.state.proofs.users.spares_zero.Tie as tie
-use Rattle.state.proofs.users.word_zero.Reads as word-zero-reads
 
 abbrev Inv-loop : tie.InvT-loop
-Inv-loop t u blank₀ f₀ blank f = (f ≤ 8) × (blank ≡ every f (λ i. eqb (tablesOf t .user (u .0) (spare i)) 0))
+Inv-loop t u blank₀ f₀ blank f = (f ≤ spareCount) × (blank ≡ every f (λ i. eqb (tablesOf t .user (u .0) (spare i)) 0))
 
 abbrev μ-loop : tie.MeasureT-loop
-μ-loop t u blank₀ f₀ blank f = 8 - f
+μ-loop t u blank₀ f₀ blank f = spareCount - f
 
 loop-holds : tie.Need-loop-holds Inv-loop μ-loop
 loop-holds c = (omega arith, sym (every-none _))
@@ -34,7 +33,12 @@ loop-less : tie.Need-loop-less Inv-loop μ-loop
 loop-less c = omega arith
 
 loop-again : tie.Need-loop-again Inv-loop μ-loop
-loop-again c = (omega arith, every-gather _ _ _ _ (c .word-zero .ensures ∙ spare-zero (tablesOf (c .before .before .before .before .args .t .now)) (c .before .before .before .before .args .u .0) (c .before .before .loop .f)) (c .before .before .loop .inv .1))
+loop-again c =
+    let s4 = c .before .before .before .before in (
+      omega arith,
+      every-gather _ _ _ _ (c .word-zero .ensures ∙ spare-zero (tablesOf (s4 .args .t .now)) (s4 .args .u .0)
+          (c .before .before .loop .f)) (c .before .before .loop .inv .1),
+    )
 
 returns : tie.Need-returns Inv-loop μ-loop
 returns c = every-gathered _ _ _ _ (c .before .loop .inv .1) (c .before .loop .inv .0) (omega arith)

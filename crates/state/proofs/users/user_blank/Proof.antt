@@ -3,20 +3,19 @@ use Prim.Native.Nat.{_-_, _≤_}
 use native.Mathlib.Omega.{arith}
 use lib.Dec.{eqb}
 use borrow.Author.Needs.{needs}
-use Rattle.model.specs.Tables.Layout.{tablesOf}
+use Rattle.model.specs.Tables.Layout.{tablesOf, userWidth}
 use Rattle.model.specs.Basics.Tests.{every}
 use Rattle.laws.specs.Loops.{every-gather, every-gathered, every-none}
 use Rattle.model.specs.Tables.WordAt.{userWordAt}
 use Rattle.state.specs.Passes.{userBlank}
 use Rattle.state.proofs.users.user_blank.Statement.{statement}
 use Rattle.state.proofs.users.user_blank.Tie as tie
-use Rattle.state.proofs.users.word_zero.Reads as word-zero-reads
 
 abbrev Inv-loop : tie.InvT-loop
-Inv-loop t u blank₀ f₀ blank f = (f ≤ 16) × (blank ≡ every f (λ i. eqb (tablesOf t .user (u .0) (userWordAt i)) 0))
+Inv-loop t u blank₀ f₀ blank f = (f ≤ userWidth) × (blank ≡ every f (λ i. eqb (tablesOf t .user (u .0) (userWordAt i)) 0))
 
 abbrev μ-loop : tie.MeasureT-loop
-μ-loop t u blank₀ f₀ blank f = 16 - f
+μ-loop t u blank₀ f₀ blank f = userWidth - f
 
 loop-holds : tie.Need-loop-holds Inv-loop μ-loop
 loop-holds c = (omega arith, sym (every-none _))

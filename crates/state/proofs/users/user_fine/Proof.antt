@@ -6,10 +6,6 @@ use Rattle.state.specs.UserLaws.{user-absent, user-head-fails, user-noti
 use borrow.Author.Needs.{needs}
 use Rattle.state.proofs.users.user_fine.Statement.{statement}
 use Rattle.state.proofs.users.user_fine.Tie as tie
-use Rattle.state.proofs.users.notice_fine.Reads as notice-fine-reads
-use Rattle.state.proofs.users.spares_zero.Reads as spares-zero-reads
-use Rattle.state.proofs.users.user_blank.Reads as user-blank-reads
-use Rattle.state.proofs.users.user_head.Reads as user-head-reads
 
 present-requires : tie.Need-present-requires
 present-requires c κs = search needs
@@ -36,7 +32,15 @@ user-head-requires : tie.Need-user-head-requires
 user-head-requires c κs = search needs
 
 returns-2 : tie.Need-returns-2
-returns-2 c = user-head-fails (tablesOf (c .before .before .before .before .before .before .before .before .before .args .t .now) .user (c .before .before .before .before .before .before .before .before .before .args .u .0)) _ _ _ _ _ (c .before .before .before .before .before .before .before .present .ensures) (c .before .before .before .before .before .clearance .ensures) (c .before .before .before .before .authorised .ensures) (c .before .before .before .current .ensures) (c .before .before .device .ensures) (c .before .before .before .before .before .before .if1 .left) _ (c .before .user-head .ensures) (not-true _ (c .if2 .taken))
+returns-2 c =
+    let s4 = c .before .before .before .before in
+    let s5 = s4 .before in
+    let s6 = s5 .before in
+    let s7 = s6 .before in
+    let s9 = s7 .before .before in
+    user-head-fails (tablesOf (s9 .args .t .now) .user (s9 .args .u .0)) _ _ _ _ _ (s7 .present .ensures) (s5 .clearance .ensures)
+    (s4 .authorised .ensures) (c .before .before .before .current .ensures) (c .before .before .device .ensures) (s6 .if1 .left) _
+    (c .before .user-head .ensures) (not-true _ (c .if2 .taken))
 
 held-requires : tie.Need-held-requires
 held-requires c κs = search needs
@@ -51,13 +55,42 @@ notice-fine-requires : tie.Need-notice-fine-requires
 notice-fine-requires c κs = search needs
 
 returns-3 : tie.Need-returns-3
-returns-3 c = user-notice-fails (tablesOf (c .before .before .before .before .before .before .before .before .before .before .before .before .before .before .args .t .now) .user (c .before .before .before .before .before .before .before .before .before .before .before .before .before .before .args .u .0)) _ _ _ _ _ (c .before .before .before .before .before .before .before .before .before .before .before .before .present .ensures) (c .before .before .before .before .before .before .before .before .before .before .clearance .ensures) (c .before .before .before .before .before .before .before .before .before .authorised .ensures) (c .before .before .before .before .before .before .before .before .current .ensures) (c .before .before .before .before .before .before .before .device .ensures) (c .before .before .before .before .before .before .before .before .before .before .before .if1 .left) _ (c .before .before .before .before .before .before .user-head .ensures) (not-false _ (c .before .before .before .before .before .if2 .left)) _ _ _ (c .before .before .before .before .held .ensures) (c .before .before .before .held-op .ensures) (c .before .before .missed .ensures) _ (c .before .notice-fine .ensures) (not-true _ (c .if3 .taken))
+returns-3 c =
+    let s4 = c .before .before .before .before in
+    let s5 = s4 .before in
+    let s6 = s5 .before in
+    let s7 = s6 .before in
+    let s8 = s7 .before in
+    let s9 = s8 .before in
+    let s10 = s9 .before in
+    let s11 = s10 .before in
+    let s12 = s11 .before in
+    let s14 = s12 .before .before in
+    user-notice-fails (tablesOf (s14 .args .t .now) .user (s14 .args .u .0)) _ _ _ _ _ (s12 .present .ensures) (s10 .clearance .ensures)
+    (s9 .authorised .ensures) (s8 .current .ensures) (s7 .device .ensures) (s11 .if1 .left) _ (s6 .user-head .ensures) (not-false _ (s5 .if2 .left)) _
+    _ _ (s4 .held .ensures) (c .before .before .before .held-op .ensures) (c .before .before .missed .ensures) _ (c .before .notice-fine .ensures)
+    (not-true _ (c .if3 .taken))
 
 spares-zero-requires : tie.Need-spares-zero-requires
 spares-zero-requires c κs = search needs
 
 returns-4 : tie.Need-returns-4
-returns-4 c = user-spares (tablesOf (c .before .before .before .before .before .before .before .before .before .before .before .before .before .before .before .args .t .now) .user (c .before .before .before .before .before .before .before .before .before .before .before .before .before .before .before .args .u .0)) _ _ _ _ _ (c .before .before .before .before .before .before .before .before .before .before .before .before .before .present .ensures) (c .before .before .before .before .before .before .before .before .before .before .before .clearance .ensures) (c .before .before .before .before .before .before .before .before .before .before .authorised .ensures) (c .before .before .before .before .before .before .before .before .before .current .ensures) (c .before .before .before .before .before .before .before .before .device .ensures) (c .before .before .before .before .before .before .before .before .before .before .before .before .if1 .left) _ (c .before .before .before .before .before .before .before .user-head .ensures) (not-false _ (c .before .before .before .before .before .before .if2 .left)) _ _ _ (c .before .before .before .before .before .held .ensures) (c .before .before .before .before .held-op .ensures) (c .before .before .before .missed .ensures) _ (c .before .before .notice-fine .ensures) (not-false _ (c .before .if3 .left)) _ (c .spares-zero .ensures)
+returns-4 c =
+    let s4 = c .before .before .before .before in
+    let s5 = s4 .before in
+    let s6 = s5 .before in
+    let s7 = s6 .before in
+    let s8 = s7 .before in
+    let s9 = s8 .before in
+    let s10 = s9 .before in
+    let s11 = s10 .before in
+    let s12 = s11 .before in
+    let s13 = s12 .before in
+    let s15 = s13 .before .before in
+    user-spares (tablesOf (s15 .args .t .now) .user (s15 .args .u .0)) _ _ _ _ _ (s13 .present .ensures) (s11 .clearance .ensures)
+    (s10 .authorised .ensures) (s9 .current .ensures) (s8 .device .ensures) (s12 .if1 .left) _ (s7 .user-head .ensures) (not-false _ (s6 .if2 .left))
+    _ _ _ (s5 .held .ensures) (s4 .held-op .ensures) (c .before .before .before .missed .ensures) _ (c .before .before .notice-fine .ensures)
+    (not-false _ (c .before .if3 .left)) _ (c .spares-zero .ensures)
 
 pub user-fine-spec : {M : Type 1} → statement M
 user-fine-spec =

@@ -1,0 +1,15 @@
+// How long the lists of the walk are, and where their parts begin.
+use names::size;
+
+// A reference has so many names at most, and so many of them follow the first.
+pub const NAMES: usize = size::NAMES as usize;
+
+pub const FURTHER: usize = NAMES - 1;
+
+// The tallies: a word for no entity, then a row for each number of further names, with a word for each entity.
+pub const ROW: usize = size::ENTITIES as usize;
+
+pub const TALLIES: usize = NAMES * ROW + 1;
+
+// Where the word of the first entity stands in the last row.
+pub const LAST_ROW: usize = FURTHER * ROW + 1;
