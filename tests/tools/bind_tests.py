@@ -5,6 +5,7 @@ import unittest
 
 from parts.binding import bound_text, stations, undone_text
 from parts.clauses import clauses
+from parts.long_lines import broken
 from samples import FAR, ROUND, WITH_OMEGA, clause, path, proof
 
 
@@ -52,6 +53,12 @@ class Written(unittest.TestCase):
         self.assertGreater(max(map(len, proof(*ROUND).split("\n"))), 300)
         self.assertLessEqual(max(map(len, text.split("\n"))), 160)
         self.assertEqual(text.count(" open"), 20)
+
+    def test_a_comment_after_long_code_stays_a_comment(self):
+        text = broken("  law x = " + "(far x) " * 15 + "-- why it is far, and " + "again " * 12 + "far")
+        self.assertEqual(text.count("\n"), 1)
+        self.assertTrue(text.startswith("  -- why it is far, and again"))
+        self.assertTrue(text.endswith("\n  law x = " + " ".join(["(far x)"] * 15)))
 
     def test_a_short_answer_stays_on_its_line(self):
         part = clause("short", path(6, " .pre"))

@@ -13,11 +13,15 @@ def broken(text):
 
 
 def parts(line):
-    """The lines that one line becomes: a comment goes on as a comment, all else four columns further in."""
+    """The lines that one line becomes: a comment goes on as a comment, and before the code that it followed; all else
+    goes on four columns further in."""
     if len(line) <= LONGEST:
         return [line]
     indent = re.match(r" *", line).group(0)
     if line.startswith(indent + "-- "):
         return [indent + "-- " + more.strip() for more in wrapped(line[len(indent) + 3:], indent + "   ", False)]
+    if " -- " in line:
+        code, comment = line.split(" -- ", 1)
+        return parts(indent + "-- " + comment) + parts(code.rstrip())
     first, *rest = wrapped(line[len(indent):], indent + "    ")
     return [indent + first.strip()] + rest
