@@ -51,8 +51,7 @@ returns-2 c =
     let s10 = s6 .before .before .before .before in (
       omega arith,
       search needs,
-      take-put (s10 .args .len) (length (s10 .args .window .now) - s10 .args .len) (s10 .args .window .now)
-          (s6 .read .last .1 .0) (s10 .pre .0),
+      take-put (s10 .args .len) (length (s10 .args .window .now) - s10 .args .len) (s10 .args .window .now) (s6 .read .last .1 .0) (s10 .pre .0),
     )
 
 pub fetch-spec : {M : Type 1} → statement M

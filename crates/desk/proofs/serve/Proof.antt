@@ -11,9 +11,9 @@ use Rattle.desk.proofs.serve.Statement.{statement}
 use Rattle.desk.proofs.serve.Tie as tie
 
 abbrev Inv-loop : tie.InvT-loop
-Inv-loop tables₀ window₀ out₀ turns₀ len₀ wanted₀ last₀ tables window out turns len wanted last = (len ≤ length window) ×
-    (wanted ≡ true → len < length window) × (length tables ≡ length tables₀) × (length window ≡ length window₀) × (length out ≡ length out₀) ×
-    (turns ≤ 18446744073709551615)
+Inv-loop tables₀ window₀ out₀ turns₀ len₀ wanted₀ last₀ tables window out turns len wanted last =
+    (len ≤ length window) × (wanted ≡ true → len < length window)
+    × (length tables ≡ length tables₀) × (length window ≡ length window₀) × (length out ≡ length out₀) × (turns ≤ 18446744073709551615)
 
 abbrev μ-loop : tie.MeasureT-loop
 μ-loop tables₀ window₀ out₀ turns₀ len₀ wanted₀ last₀ tables window out turns len wanted last = turns
@@ -122,8 +122,7 @@ loop-again c =
       omega (arith, c .before .before .keep .ensures .0, c .before .before .keep .kept .0, s21 .fetch .ensures .1, s21 .fetch .kept .0),
       (λ e. omega (
         arith,
-        wanted-short (s15 .run .ensures) _ _ _ _ (s6 .is-over .ensures) (s5 .if2 .left) (s15 .run .kept .1 .1 .1 .0)
-            (s4 .had-room .ensures) e,
+        wanted-short (s15 .run .ensures) _ _ _ _ (s6 .is-over .ensures) (s5 .if2 .left) (s15 .run .kept .1 .1 .1 .0) (s4 .had-room .ensures) e,
         length-take-le (s21 .fetch .result) (s21 .fetch .last .0) f,
         c .before .before .keep .ensures .0,
         c .before .before .keep .kept .0,
@@ -134,8 +133,7 @@ loop-again c =
       s15 .run .kept .0 ∙ s24 .loop .inv .2,
       c .before .before .keep .kept .0 ∙ s21 .fetch .kept .0 ∙ s24 .loop .inv .3,
       s15 .run .kept .1 .1 .1 .0 ∙ s24 .loop .inv .4,
-      omega
-          (arith, s24 .loop .inv .5),
+      omega (arith, s24 .loop .inv .5),
     )
 
 same-length-7 : tie.Need-same-length-7 Inv-loop μ-loop

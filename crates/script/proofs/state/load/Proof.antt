@@ -42,8 +42,7 @@ loop-again c = (
   omega arith,
   rw (length-set) (c .before .before .loop .inv .1),
   c .before .before .loop .inv .2,
-  filled-more _ _ _ _
-      (omega (arith, c .before .before .loop .inv .1)) (c .before .before .loop .inv .3) (c .word-in .ensures),
+  filled-more _ _ _ _ (omega (arith, c .before .before .loop .inv .1)) (c .before .before .loop .inv .3) (c .word-in .ensures),
 )
 
 same-length : tie.Need-same-length Inv-loop μ-loop
