@@ -106,7 +106,7 @@ enum mms_size {
     MMS_TEXT_MOST = 166, /* bytes of the longest text */
     MMS_LEVEL_MOST = 1023,
     MMS_ROLES_MOST = 255,
-    MMS_COUNT_MOST = 65535
+    MMS_MISSED_MOST = 65535
 };
 
 /* ---- answers (7) ---- */
@@ -167,7 +167,7 @@ enum mms_operation {
     MMS_MAXIMUM = 17,          /* device; a level */
     MMS_DEVICE_LEVEL = 18,     /* device; a level */
     MMS_RELEASE = 19,          /* draft */
-    MMS_ACKNOWLEDGE = 20       /* a held refusal, b count */
+    MMS_ACKNOWLEDGE = 20       /* a held refusal, b missed */
 };
 
 /* What MMS_CREATE makes. */
@@ -183,7 +183,7 @@ enum mms_user_word {
     MMS_USER_DEVICE = 4,         /* 0 is logged off */
     MMS_USER_HELD = 5,           /* the refusal held, 0 for none */
     MMS_USER_HELD_OPERATION = 6, /* its operation */
-    MMS_USER_COUNT = 7,          /* refusals since the last acknowledgement */
+    MMS_USER_MISSED = 7,         /* refusals since the last acknowledgement */
     MMS_USER_SPARE = 8           /* 8 to 15 are 0 */
 };
 

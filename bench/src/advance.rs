@@ -7,7 +7,7 @@ extern "C" {
     fn bench_advance(tables: *mut u32, tables_len: usize, request: *const u32, request_len: usize) -> u32;
 }
 
-/// One request on tables that the check has passed. Only a load's tables come here: none leaves `Contest::load` unchecked, and a request
+/// One request on tables that the check has passed. Only a load's tables come here: none leaves `Contest::checked` without, and a request
 /// takes tables that pass to tables that pass.
 pub fn advance(tables: &mut [u32], request: &[u32]) -> u32 {
     assert!(tables.len() == TABLE_WORDS && request.len() == REQUEST_WORDS);

@@ -3,11 +3,11 @@ use crate::sides::PROVED;
 use bench::load::{Call, Load};
 use bench::requests::Wanted;
 use bench::{requests, tables, texts};
-use generate::layout::OPERATIONS;
+use generate::layout::OPERATION_MOST;
 use generate::{dice_for, full, Dice};
 
 /// The operations by their numbers from 1.
-const OPERATION_NAMES: [&str; OPERATIONS as usize] = [
+const OPERATION_NAMES: [&str; OPERATION_MOST as usize] = [
     "create",
     "delete",
     "move",
@@ -70,7 +70,7 @@ impl Kind {
             Kind::Short => 6,
             Kind::Longest => 7,
         };
-        dice_for(seed, u64::from(OPERATIONS) + behind_operations)
+        dice_for(seed, u64::from(OPERATION_MOST) + behind_operations)
     }
 }
 
@@ -88,7 +88,7 @@ pub const MIX: Contest = Contest { call: Call::Advance, kind: Kind::Mixed };
 pub fn all() -> Vec<Contest> {
     let tables = [Kind::S1, Kind::Middle, Kind::Full, Kind::Fullest];
     let texts = [Kind::Short, Kind::Longest, Kind::Mixed];
-    let operations: Vec<Kind> = (1..=OPERATIONS).map(Kind::Operation).collect();
+    let operations: Vec<Kind> = (1..=OPERATION_MOST).map(Kind::Operation).collect();
     let of = |call: Call, kinds: &[Kind]| kinds.iter().map(|&kind| Contest { call, kind }).collect::<Vec<_>>();
     [
         of(Call::Check, &tables),
@@ -123,6 +123,11 @@ impl Contest {
             Call::Step | Call::Advance => self.request_load(&mut dice, tables),
             Call::Read | Call::Write => self.text_load(&mut dice, tables),
         };
+        self.checked(load)
+    }
+
+    /// A load whose tables have all passed the check; else what is wrong.
+    pub fn checked(&self, load: Load) -> Result<Load, String> {
         match load.tables.iter().all(|tables| (PROVED.check)(tables) == 0) {
             true => Ok(load),
             false => Err(format!("{}: tables that are meant to be good are not", self.name())),
@@ -153,7 +158,7 @@ impl Contest {
     fn request_load(&self, dice: &mut Dice, tables: usize) -> Load {
         let wanted = match self.kind {
             Kind::Operation(number) => Wanted { operations: number..=number, of_each: 4, open: 0 },
-            _ => Wanted { operations: 1..=OPERATIONS, of_each: 3, open: 6 },
+            _ => Wanted { operations: 1..=OPERATION_MOST, of_each: 3, open: 6 },
         };
         requests::prepare(dice, tables, wanted)
     }

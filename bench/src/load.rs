@@ -1,10 +1,10 @@
 //! What calls are made on: tables, and for each call the number of its tables and what else it takes.
 use crate::side::{Outcome, Side};
-use generate::full::MOST_ENTRIES;
+use generate::full::ENTRIES_MOST;
 use generate::layout::{ENTRY_WORDS, REQUEST_WORDS};
 
 /// The bytes of the longest text.
-pub const LONGEST_TEXT: usize = 166;
+pub const TEXT_MOST: usize = 166;
 
 /// The words of a request.
 pub type Request = [u32; REQUEST_WORDS];
@@ -45,13 +45,13 @@ pub struct Rooms {
 impl Rooms {
     /// Rooms with nothing in them.
     pub fn new() -> Rooms {
-        let entries = vec![0; MOST_ENTRIES as usize * ENTRY_WORDS];
-        Rooms { entries, text: vec![0; LONGEST_TEXT], request: [0; REQUEST_WORDS] }
+        let entries = vec![0; ENTRIES_MOST as usize * ENTRY_WORDS];
+        Rooms { entries, text: vec![0; TEXT_MOST], request: [0; REQUEST_WORDS] }
     }
 }
 
 /// A pass makes the calls one after the other, each on its tables as those before have left them. What a call does not take is not there.
-#[derive(Clone, Default)]
+#[derive(Clone, Debug, Default, PartialEq, Eq)]
 pub struct Load {
     /// As a pass finds them.
     pub tables: Vec<Vec<u32>>,

@@ -9,12 +9,13 @@ mod print;
 mod sides;
 mod timing;
 
+use std::path::Path;
 use std::{env, process};
 
 const USAGE: &str = "usage:
   bench time SEED REPETITIONS               both sides timed on the same loads, as a table
-  bench contests [SEED]                     the calls, their loads, and how many calls there are to count
-  bench count CALL LOAD SIDE CALLS [SEED]   so many calls of one side (proved or ordinary) and nothing else";
+  bench keep FOLDER [SEED]                  the loads to count with, kept in FOLDER: prints call, load, number of calls and file of each
+  bench count CALL LOAD SIDE CALLS FILE     so many calls of one side (proved or ordinary) on the load in FILE, and nothing else";
 /// The seed where none is given.
 const SEED: u64 = 1;
 /// The status of a run that found something wrong, and of one that was not asked for anything that there is.
@@ -52,20 +53,27 @@ fn time(seed: u64, repetitions: u32) -> Result<(), Stop> {
     Ok(())
 }
 
-/// One line for each contest: call, load and the calls of a pass when they are counted.
-fn contests(seed: u64) -> Result<(), Stop> {
+/// One line for each contest, whose load is kept in a file of the folder.
+fn keep(folder: &str, seed: u64) -> Result<(), Stop> {
     for contest in contest::all() {
-        println!("{} {}", contest.name(), contest.load(seed, count::TABLES)?.calls(contest.call));
+        let file = Path::new(folder).join(format!("{}.load", contest.name().replace(' ', "-")));
+        println!("{} {} {}", contest.name(), count::keep(&contest, seed, &file)?, file.display());
     }
     Ok(())
 }
 
+/// A sum in sixteen digits of base 16: to write one takes as many instructions as to write any other, so that a run without calls and one with
+/// them differ by the calls alone.
+fn digits(sum: u64) -> String {
+    (0..16).rev().map(|place| char::from(b"0123456789abcdef"[(sum >> (4 * place)) as usize & 15])).collect()
+}
+
 /// Makes so many calls of one side alone, and prints a sum that needs them all.
-fn count(words: [&str; 4], seed: u64) -> Result<(), Stop> {
-    let [call, load, side, calls] = words;
+fn count(words: [&str; 5]) -> Result<(), Stop> {
+    let [call, load, side, calls, file] = words;
     let contest = contest::find(call, load).ok_or(Stop::Usage)?;
     let side = sides::SIDES.iter().find(|known| known.name == side).ok_or(Stop::Usage)?;
-    println!("sum of the outcomes: {}", count::count(&contest, side, number(calls)?, seed)?);
+    println!("sum of the outcomes: {}", digits(count::count(&contest, side, number(calls)?, Path::new(file))?));
     Ok(())
 }
 
@@ -76,10 +84,9 @@ fn run(words: &[&str]) -> Result<(), Stop> {
             0 => Err(Stop::Usage),
             repetitions => time(number(seed)?, repetitions),
         },
-        ["contests"] => contests(SEED),
-        ["contests", seed] => contests(number(seed)?),
-        ["count", call, load, side, calls] => count([call, load, side, calls], SEED),
-        ["count", call, load, side, calls, seed] => count([call, load, side, calls], number(seed)?),
+        ["keep", folder] => keep(folder, SEED),
+        ["keep", folder, seed] => keep(folder, number(seed)?),
+        ["count", call, load, side, calls, file] => count([call, load, side, calls, file]),
         _ => Err(Stop::Usage),
     }
 }

@@ -1,7 +1,7 @@
 //! Requests for the step: of each operation half are meant to be accepted, half to be refused. They are chosen by carrying them out with the
 //! ordinary desk, so that a pass meets, at each request, the tables that it was chosen for.
 use crate::load::{Load, Request};
-use generate::layout::answer::ACCEPTED;
+use generate::layout::refusal::ACCEPTED;
 use generate::Dice;
 use ordinary::Right;
 use std::ops::RangeInclusive;

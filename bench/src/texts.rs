@@ -1,7 +1,7 @@
 //! Requests to write and their texts to read.
-use crate::load::{Load, Request, LONGEST_TEXT};
-use generate::layout::answer::ACCEPTED;
-use generate::layout::{asked, operation, shown, NAMES, REQUEST_WORDS};
+use crate::load::{Load, Request, TEXT_MOST};
+use generate::layout::refusal::ACCEPTED;
+use generate::layout::{op, request, NAMES, REQUEST_WORDS, SUM_MOST};
 use generate::Dice;
 use ordinary::Right;
 
@@ -13,29 +13,29 @@ const TEN_DIGITS: u32 = 1_000_000_000;
 /// A request to show something in a place of something, all numbers but the operation of one digit.
 fn short(dice: &mut Dice) -> Request {
     let mut request = [0; REQUEST_WORDS];
-    request[asked::USER] = dice.between(1, 9);
-    request[asked::OPERATION] = operation::SHOW;
-    request[asked::FIRST] = 2;
-    request[asked::FIRST + 1] = dice.between(1, 9);
-    request[asked::FIRST + 2] = dice.between(1, 8);
-    request[asked::A] = dice.between(1, shown::ALL);
+    request[request::USER] = dice.between(1, 9);
+    request[request::OPERATION] = op::SHOW;
+    request[request::FIRST] = 2;
+    request[request::FIRST + 1] = dice.between(1, 9);
+    request[request::FIRST + 2] = dice.between(1, 8);
+    request[request::A] = dice.between(1, SUM_MOST);
     request
 }
 
 /// Two references of four names, and ten digits everywhere.
 fn longest(dice: &mut Dice) -> Request {
     let mut request = [0; REQUEST_WORDS];
-    for word in &mut request[..asked::SPARE] {
+    for word in &mut request[..request::SPARE] {
         *word = dice.between(TEN_DIGITS, u32::MAX);
     }
-    request[asked::FIRST] = NAMES;
-    request[asked::SECOND] = NAMES;
+    request[request::FIRST] = NAMES;
+    request[request::SECOND] = NAMES;
     request
 }
 
 /// The text of a request, if it has one.
 fn text(request: &Request) -> Option<Vec<u8>> {
-    let mut room = vec![0; LONGEST_TEXT];
+    let mut room = vec![0; TEXT_MOST];
     let reply = ordinary::write::<Right>(request, &mut room);
     room.truncate(reply.number as usize);
     Some(room).filter(|_| reply.answer == ACCEPTED)
@@ -77,6 +77,6 @@ mod tests {
         let (short, longest) = (prepare_short(&mut dice, 2), prepare_longest(&mut dice, 2));
         assert_eq!((short.texts.len(), longest.texts.len()), (2 * TEXTS_OF_EACH, 2 * TEXTS_OF_EACH));
         assert!(short.texts.iter().all(|text| text.len() == 39));
-        assert!(longest.texts.iter().all(|text| text.len() == LONGEST_TEXT));
+        assert!(longest.texts.iter().all(|text| text.len() == TEXT_MOST));
     }
 }

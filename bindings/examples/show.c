@@ -54,8 +54,8 @@ static void show(uint32_t *tables, const uint32_t *reference)
     answer = mms_answer(mms_step(tables, MMS_TABLE_WORDS, request, MMS_REQUEST_WORDS));
     printf("show ");
     print_reference(reference);
-    printf(": answer %" PRIu32 "; held %" PRIu32 " of operation %" PRIu32 ", count %" PRIu32 "\n", answer,
-           user[MMS_USER_HELD], user[MMS_USER_HELD_OPERATION], user[MMS_USER_COUNT]);
+    printf(": answer %" PRIu32 "; held %" PRIu32 " of operation %" PRIu32 ", missed %" PRIu32 "\n", answer,
+           user[MMS_USER_HELD], user[MMS_USER_HELD_OPERATION], user[MMS_USER_MISSED]);
 }
 
 /* Prints all that the user could be shown; false where the list is refused or there is no memory for it. */

@@ -9,11 +9,11 @@ use std::{env, error::Error, fs};
 fn show(tables: &mut Tables, user: User, reference: &Reference) {
     let asked = tables.step(&Request::show(user, reference, Shown::VALUE_AND_LABEL));
     let answer = asked.map_or_else(Refusal::number, |()| 0);
-    let (held, operation, count) = match tables.notice(user) {
-        Some(notice) => (notice.held.number(), notice.operation.map_or(0, Operation::number), notice.count),
+    let (held, operation, missed) = match tables.notice(user) {
+        Some(notice) => (notice.held.number(), notice.operation.map_or(0, Operation::number), notice.missed),
         None => (0, 0, 0),
     };
-    println!("show {}: answer {}; held {} of operation {}, count {}", reference, answer, held, operation, count);
+    println!("show {}: answer {}; held {} of operation {}, missed {}", reference, answer, held, operation, missed);
 }
 
 fn main() -> Result<(), Box<dyn Error>> {

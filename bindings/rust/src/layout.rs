@@ -25,8 +25,8 @@ pub(crate) const NAMES: usize = 4;
 pub(crate) const ROW: usize = 8;
 /// Bytes of a word.
 pub(crate) const WORD_BYTES: usize = 4;
-/// The count of a notice goes no higher [rule 3.21].
-pub(crate) const COUNT_MOST: u32 = 65_535;
+/// The number of a notice goes no higher [rule 3.21].
+pub(crate) const MISSED_MOST: u32 = 65_535;
 
 /// A user's words [rule 2.2].
 pub(crate) mod user {
@@ -37,7 +37,7 @@ pub(crate) mod user {
     pub const DEVICE: usize = 4;
     pub const HELD: usize = 5;
     pub const HELD_OPERATION: usize = 6;
-    pub const COUNT: usize = 7;
+    pub const MISSED: usize = 7;
 }
 
 /// An entity's words [rule 2.3].

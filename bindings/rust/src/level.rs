@@ -59,13 +59,13 @@ numbered! {
 
 /// What a step of the rank adds to a level's number; below it stand the compartments.
 const RANK: u32 = 256;
-const HIGHEST_RANK: u32 = 3;
+const RANK_MOST: u32 = 3;
 
 impl Level {
     /// Rank 0 and no compartment, which is at most every level.
     pub const LOWEST: Level = Level(0);
     /// Rank 3 and all compartments, which every level is at most.
-    pub const HIGHEST: Level = Level(HIGHEST_RANK * RANK + RANK - 1);
+    pub const HIGHEST: Level = Level(RANK_MOST * RANK + RANK - 1);
 
     /// The level of this rank, with these compartments; `None` if the rank is above 3.
     ///
@@ -80,7 +80,7 @@ impl Level {
     /// }
     /// ```
     pub const fn new(rank: u32, compartments: u8) -> Option<Level> {
-        if rank <= HIGHEST_RANK {
+        if rank <= RANK_MOST {
             Some(Level(rank * RANK + compartments as u32))
         } else {
             None

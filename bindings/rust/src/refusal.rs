@@ -136,7 +136,7 @@ impl Refusal {
             Refusal::LevelOrRoles => "a level or a set of roles stands in the way",
             Refusal::NoRoom => "there is no room",
             Refusal::Arrangement => "the arrangement does not allow it",
-            Refusal::NotAcknowledged => "this is not the refusal that is held, or not its count",
+            Refusal::NotAcknowledged => "this is not the refusal that is held, or not how many were missed",
             Refusal::TooShort { .. } => "the room for the output is too short",
             Refusal::NotARequest(_) => "the text is no request",
         }

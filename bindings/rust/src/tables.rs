@@ -129,7 +129,7 @@ impl Tables {
     ///
     /// # Errors
     ///
-    /// The lowest of refusals 2 to 16 that applies. With 5 to 16 it is counted in the requester's [notice](Notice), and
+    /// The lowest of refusals 2 to 16 that applies. With 5 to 16 it is added to the requester's [notice](Notice), and
     /// held there if none was; with 2 to 4 everything stays as it was.
     pub fn step(&mut self, request: &Request) -> Result<(), Refusal> {
         words::step(&mut self.words[..], request.as_words()).result().map(drop)

@@ -78,7 +78,7 @@ fn numbers_of_the_rules() -> Vec<(&'static str, u32)> {
         ("MMS_SHOWN_ID", Shown::ID.number()),
         ("MMS_LEVEL_MOST", Level::HIGHEST.number()),
         ("MMS_ROLES_MOST", Roles::all().last().map_or(0, Roles::number)),
-        ("MMS_COUNT_MOST", layout::COUNT_MOST),
+        ("MMS_MISSED_MOST", layout::MISSED_MOST),
     ]
 }
 
@@ -113,8 +113,8 @@ fn positions() -> Vec<(&'static str, usize)> {
         ("MMS_USER_DEVICE", user::DEVICE),
         ("MMS_USER_HELD", user::HELD),
         ("MMS_USER_HELD_OPERATION", user::HELD_OPERATION),
-        ("MMS_USER_COUNT", user::COUNT),
-        ("MMS_USER_SPARE", user::COUNT + 1),
+        ("MMS_USER_MISSED", user::MISSED),
+        ("MMS_USER_SPARE", user::MISSED + 1),
         ("MMS_ENTITY_KIND", entity::KIND),
         ("MMS_ENTITY_TYPE", entity::TYPE),
         ("MMS_ENTITY_LEVEL", entity::LEVEL),

@@ -8,7 +8,7 @@ use mms::{Entity, Level, Notice, Operation, Position, Refusal, Roles, Shown, Tab
 const USER: usize = 0;
 const HELD: usize = USER + 5;
 const HELD_OPERATION: usize = USER + 6;
-const COUNT: usize = USER + 7;
+const MISSED: usize = USER + 7;
 const ENTITY: usize = 256;
 const USED: usize = ENTITY + 7;
 const CONTENTS: usize = ENTITY + 8;
@@ -63,21 +63,21 @@ fn absent_records_have_no_words() {
 }
 
 /// Tables in which user 1, present or not, has these three words of a notice.
-fn noticed(present: u32, held: u32, operation: u32, count: u32) -> Option<Notice> {
+fn noticed(present: u32, held: u32, operation: u32, missed: u32) -> Option<Notice> {
     let mut tables = Tables::empty();
     let words = tables.as_words_mut();
     words[USER] = present;
     words[HELD] = held;
     words[HELD_OPERATION] = operation;
-    words[COUNT] = count;
+    words[MISSED] = missed;
     tables.notice(user(1))
 }
 
 #[test]
 fn a_notice_is_that_of_a_present_user() {
-    let notice = Notice { held: Refusal::Marked, operation: Some(Operation::Show), count: 2 };
+    let notice = Notice { held: Refusal::Marked, operation: Some(Operation::Show), missed: 2 };
     assert_eq!(noticed(1, 9, 10, 2), Some(notice));
-    assert_eq!(noticed(1, 5, 0, 2), Some(Notice { held: Refusal::BadRequest, operation: None, count: 2 }));
+    assert_eq!(noticed(1, 5, 0, 2), Some(Notice { held: Refusal::BadRequest, operation: None, missed: 2 }));
     for present in [0, 2, u32::MAX] {
         assert_eq!(noticed(present, 9, 10, 2), None);
     }
@@ -88,7 +88,7 @@ fn a_notice_has_words_in_their_range() {
     for number in (0..=30).chain([65_535, 65_536, u32::MAX]) {
         assert_eq!(noticed(1, number, 10, 2).is_some(), (5..=16).contains(&number), "held {}", number);
         assert_eq!(noticed(1, 9, number, 2).is_some(), (0..=20).contains(&number), "operation {}", number);
-        assert_eq!(noticed(1, 9, 10, number).is_some(), (1..=65_535).contains(&number), "count {}", number);
+        assert_eq!(noticed(1, 9, 10, number).is_some(), (1..=65_535).contains(&number), "missed {}", number);
     }
 }
 

@@ -98,5 +98,5 @@ fn a_notice_without_an_operation_says_so() {
     nonsense[..2].copy_from_slice(&[2, 21]);
     assert_eq!(tables.step(&Request::from_words(nonsense)), Err(Refusal::BadRequest));
     let notice = tables.notice(user(2)).expect("a notice");
-    assert_eq!((notice.held, notice.operation, notice.count), (Refusal::BadRequest, None, 1));
+    assert_eq!((notice.held, notice.operation, notice.missed), (Refusal::BadRequest, None, 1));
 }

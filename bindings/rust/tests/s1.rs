@@ -88,9 +88,9 @@ fn the_first_refusal_is_held_until_it_is_acknowledged() {
     assert_eq!(tables.step(&show(2, "4.1")), Err(Refusal::Marked));
     let value_alone = Request::show(user(2), &reference("5"), Shown::VALUE);
     assert_eq!(tables.step(&value_alone), Err(Refusal::Arrangement));
-    let held = |count| Some(Notice { held: Refusal::Marked, operation: Some(Operation::Show), count });
+    let held = |missed| Some(Notice { held: Refusal::Marked, operation: Some(Operation::Show), missed });
     assert_eq!(tables.notice(user(2)), held(2));
-    let acknowledge = |count| Request::acknowledge(user(2), Refusal::Marked, count);
+    let acknowledge = |missed| Request::acknowledge(user(2), Refusal::Marked, missed);
     assert_eq!(tables.step(&acknowledge(1)), Err(Refusal::NotAcknowledged));
     assert_eq!(tables.notice(user(2)), held(3));
     assert_eq!(tables.step(&acknowledge(3)), Ok(()));
@@ -126,7 +126,7 @@ fn the_script_of_the_case_has_its_reports() {
     let reports = script.map(|request| {
         let answer = tables.step(&request).map_or_else(Refusal::number, |()| 0);
         let notice = tables.notice(user(2)).expect("the first request is refused");
-        (answer, notice.held.number(), notice.count)
+        (answer, notice.held.number(), notice.missed)
     });
     assert_eq!(reports, [(9, 9, 1), (0, 9, 1)]);
 }

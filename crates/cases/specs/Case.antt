@@ -23,8 +23,4 @@ pub mod S3Holds
 pub mod S4
 pub mod S4List
 pub mod Forms
-pub mod Malformed1to5
-pub mod Malformed6to10
-pub mod Malformed11to15
-pub mod Malformed16to20
 pub mod FormsHold

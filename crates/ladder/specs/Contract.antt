@@ -3,16 +3,17 @@ use mathlib.Core.Bool.{false}
 use mathlib.Core.List.{List}
 use mathlib.Core.Option.{some}
 use mathlib.Core.Path.{_≡_}
-use Prim.Native.Nat.{_≤_, ℕ}
+use Prim.Native.Nat.{_≤_, suc, zero, ℕ}
 use lib.ListN.{length}
-use Rattle.model.specs.Request.After.{after, noticedOp}
+use Rattle.model.specs.Request.After.{after, effect}
 use Rattle.model.specs.Request.Asked.{asked}
 use Rattle.model.specs.Request.Ladder.{answer, applies}
 use Rattle.model.specs.Request.Operations.{Op, opOf}
 use Rattle.model.specs.Request.Words.{Request, requestOf, requestWords}
+use Rattle.model.specs.Request.Refusals as refusal
 use Rattle.model.specs.State.Secure.{Good}
 use Rattle.model.specs.Tables.Layout.{tablesOf, wordCount}
-use Rattle.model.specs.Tables.Words.{Tables, entityCount, firstNoticed, userCount}
+use Rattle.model.specs.Tables.Words.{Tables, entityCount, userCount}
 
 -- whole tables that are well-formed and secure, and the sixteen words of a request
 pub record Ready (t q : List ℕ) : Type 0 where
@@ -20,7 +21,18 @@ pub record Ready (t q : List ℕ) : Type 0 where
   pub request : length q ≡ requestWords
   pub good : Good (tablesOf t)
 
--- Rules 7 and 8: the answer is the model's, and the tables afterwards are the model's.
+-- Rules 6 and 7: the effect of a request that is accepted; a refusal has none.
+abbrev pub acted : ℕ → Tables → Request → Tables
+acted zero d q = effect d q
+acted (suc r) d q = d
+
+-- Rules 6 and 7: an operation judges and acts. The answer is the model's, and the tables have the effect, or are as they were: the notice of a
+-- refusal is the step's.
+pub record Judged (t q : List ℕ) (r : ℕ) (n : List ℕ) : Type 0 where
+  pub answer : r ≡ answer (tablesOf t) (requestOf q)
+  pub tables : tablesOf n ≡ acted r (tablesOf t) (requestOf q)
+
+-- Rules 7 and 8: the answer is the model's, and the tables afterwards are the model's, with the notice.
 pub record Stepped (t q : List ℕ) (r : ℕ) (n : List ℕ) : Type 0 where
   pub answer : r ≡ answer (tablesOf t) (requestOf q)
   pub tables : tablesOf n ≡ after (tablesOf t) (requestOf q)
@@ -37,16 +49,19 @@ pub record Climbed (n : ℕ) (t q : List ℕ) (u : ℕ) : Type 0 where
   pub high : u ≤ userCount
   pub passed : Passed n (tablesOf t) (requestOf q)
 
--- the answer is n, a refusal that leaves a notice of operation op
-pub record Refusing (t q : List ℕ) (u op n : ℕ) : Type 0 where
-  pub climbed : Climbed 4 t q u
-  pub operation : op ≡ noticedOp (requestOf q)
-  pub noticed : firstNoticed ≤ n
-  pub answer : n ≡ answer (tablesOf t) (requestOf q)
+-- the requester is there; is logged on where the operation wants it; and every operand is found, permitted and reached by an open way
+abbrev pub PastRequester : List ℕ → List ℕ → ℕ → Type 0
+PastRequester t q u = Climbed refusal.unknownRequester t q u
+
+abbrev pub PastLogon : List ℕ → List ℕ → ℕ → Type 0
+PastLogon t q u = Climbed refusal.notLoggedOn t q u
+
+abbrev pub PastMarks : List ℕ → List ℕ → ℕ → Type 0
+PastMarks t q u = Climbed refusal.marked t q u
 
 -- the request is for the operation o, and passes up to rung 9
 pub record Taking (o : Op) (t q : List ℕ) (u : ℕ) : Type 0 where
-  pub climbed : Climbed 9 t q u
+  pub climbed : PastMarks t q u
   pub named : opOf (requestOf q .operation) ≡ some o
 
 -- e is the request's first operand

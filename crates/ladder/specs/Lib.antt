@@ -4,9 +4,13 @@ pub mod Shape
 pub mod Path
 pub mod ClimbLaws
 pub mod ShapeLaws
-pub mod NoticeLaws
+pub mod DispatchLaws
 pub mod PathLaws
 pub mod OperandLaws
 pub mod NameLaws
-pub mod OwnLaws
+pub mod JudgeLaws
 pub mod ArgumentLaws
+pub mod Rungs
+pub mod RungLaws
+pub mod Trial
+pub mod TrialLaws

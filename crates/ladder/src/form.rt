@@ -1,29 +1,23 @@
 // Rung 5: the form of a request. The number of its operation chooses how many operands it takes and which arguments.
+use names::op;
+use names::range;
+use names::size;
+use names::word;
 ghost use mathlib.Core.Path.{_≡_};
-ghost use mathlib.Core.Bool.{_&&_};
-ghost use lib.Dec.{eqb, leb, ltb};
-ghost use lib.ListN.{getD, length};
-ghost use Rattle.ladder.specs.Shape.{noneForm, oneForm, padded, spareForm, twoForm};
+ghost use lib.ListN.{length};
+ghost use Rattle.ladder.specs.Shape.{noneForm, oneForm, spareForm, twoForm};
 ghost use Rattle.model.specs.Request.Ladder.{fits, ofOp};
 ghost use Rattle.model.specs.Request.Operations.{toAcknowledge, toClear, toClearance, toCopy, toCreate, toCurrent, toDelete, toEdit, toGrant};
 ghost use Rattle.model.specs.Request.Operations.{toLevel, toMark, toShow};
 ghost use Rattle.model.specs.Request.Words.{requestOf, requestWords};
 
-// Whether the name words behind the first n are zero.
-fn names_fit(n: u32, a: u32, b: u32, c: u32, d: u32) -> bool
-    ensures { λ r. ⌜ r ≡ padded n a b c d ⌝ }
-{
-    (!(n <= 3) | (d == 0))
-        & ((!(n <= 2) | (c == 0)) & ((!(n <= 1) | (b == 0)) & (!(n <= 0) | (a == 0))))
-}
-
-// Whether the name words behind both references, and word 15, are zero.
+// Whether the name words past both references, and the spare word, are zero.
 fn spares_fit(q: &[u32]) -> bool
     requires { ⌜ length (now q) ≡ requestWords ⌝ }
     ensures { λ r. ⌜ r ≡ spareForm (requestOf (now (q .entry))) ⌝ }
 {
-    names_fit(q[2], q[3], q[4], q[5], q[6])
-        & (names_fit(q[7], q[8], q[9], q[10], q[11]) & (q[15] == 0))
+    request::names_fit(q, word::FIRST)
+        & (request::names_fit(q, word::SECOND) & (request::spare(q) == 0))
 }
 
 // Whether the request has the form of one without operands, but for its arguments.
@@ -31,7 +25,7 @@ fn takes_none(q: &[u32]) -> bool
     requires { ⌜ length (now q) ≡ requestWords ⌝ }
     ensures { λ r. ⌜ r ≡ noneForm (requestOf (now (q .entry))) ⌝ }
 {
-    (q[2] == 0) & ((q[7] == 0) & spares_fit(q))
+    (request::first_length(q) == 0) & ((request::second_length(q) == 0) & spares_fit(q))
 }
 
 // Whether the request has the form of one with one operand, but for its arguments.
@@ -39,7 +33,8 @@ fn takes_one(q: &[u32]) -> bool
     requires { ⌜ length (now q) ≡ requestWords ⌝ }
     ensures { λ r. ⌜ r ≡ oneForm (requestOf (now (q .entry))) ⌝ }
 {
-    ((1 <= q[2]) & (q[2] <= 4)) & ((q[7] == 0) & spares_fit(q))
+    let n = request::first_length(q);
+    ((1 <= n) & (n <= size::NAMES)) & ((request::second_length(q) == 0) & spares_fit(q))
 }
 
 // Whether the request has the form of one with two operands, but for its arguments.
@@ -47,7 +42,9 @@ fn takes_two(q: &[u32]) -> bool
     requires { ⌜ length (now q) ≡ requestWords ⌝ }
     ensures { λ r. ⌜ r ≡ twoForm (requestOf (now (q .entry))) ⌝ }
 {
-    ((1 <= q[2]) & (q[2] <= 4)) & (((1 <= q[7]) & (q[7] <= 4)) & spares_fit(q))
+    let n = request::first_length(q);
+    let m = request::second_length(q);
+    ((1 <= n) & (n <= size::NAMES)) & (((1 <= m) & (m <= size::NAMES)) & spares_fit(q))
 }
 
 // The form of create: a sort and a level.
@@ -55,7 +52,10 @@ fn fits_create(q: &[u32]) -> bool
     requires { ⌜ length (now q) ≡ requestWords ⌝ }
     ensures { λ r. ⌜ r ≡ fits toCreate (requestOf (now (q .entry))) ⌝ }
 {
-    takes_one(q) & (((1 <= q[12]) & (q[12] <= 3)) & ((q[13] < 1024) & (q[14] == 0)))
+    let a = request::a(q);
+    takes_one(q)
+        & (((1 <= a) & (a <= range::SORT_MOST))
+            & ((request::b(q) < range::LEVELS) & (request::c(q) == 0)))
 }
 
 // The form of delete, login and release: no arguments.
@@ -63,7 +63,7 @@ fn fits_entity(q: &[u32]) -> bool
     requires { ⌜ length (now q) ≡ requestWords ⌝ }
     ensures { λ r. ⌜ r ≡ fits toDelete (requestOf (now (q .entry))) ⌝ }
 {
-    takes_one(q) & ((q[12] == 0) & ((q[13] == 0) & (q[14] == 0)))
+    takes_one(q) & ((request::a(q) == 0) & ((request::b(q) == 0) & (request::c(q) == 0)))
 }
 
 // The form of move and copy: two operands, no arguments.
@@ -71,7 +71,7 @@ fn fits_pair(q: &[u32]) -> bool
     requires { ⌜ length (now q) ≡ requestWords ⌝ }
     ensures { λ r. ⌜ r ≡ fits toCopy (requestOf (now (q .entry))) ⌝ }
 {
-    takes_two(q) & ((q[12] == 0) & ((q[13] == 0) & (q[14] == 0)))
+    takes_two(q) & ((request::a(q) == 0) & ((request::b(q) == 0) & (request::c(q) == 0)))
 }
 
 // The form of edit: a free value.
@@ -79,7 +79,7 @@ fn fits_value(q: &[u32]) -> bool
     requires { ⌜ length (now q) ≡ requestWords ⌝ }
     ensures { λ r. ⌜ r ≡ fits toEdit (requestOf (now (q .entry))) ⌝ }
 {
-    takes_one(q) & ((q[13] == 0) & (q[14] == 0))
+    takes_one(q) & ((request::b(q) == 0) & (request::c(q) == 0))
 }
 
 // The form of level, maximum and device level: a level.
@@ -87,7 +87,7 @@ fn fits_level(q: &[u32]) -> bool
     requires { ⌜ length (now q) ≡ requestWords ⌝ }
     ensures { λ r. ⌜ r ≡ fits toLevel (requestOf (now (q .entry))) ⌝ }
 {
-    takes_one(q) & ((q[12] < 1024) & ((q[13] == 0) & (q[14] == 0)))
+    takes_one(q) & ((request::a(q) < range::LEVELS) & ((request::b(q) == 0) & (request::c(q) == 0)))
 }
 
 // The form of mark: 0 or 1.
@@ -95,7 +95,8 @@ fn fits_mark(q: &[u32]) -> bool
     requires { ⌜ length (now q) ≡ requestWords ⌝ }
     ensures { λ r. ⌜ r ≡ fits toMark (requestOf (now (q .entry))) ⌝ }
 {
-    takes_one(q) & ((q[12] <= 1) & ((q[13] == 0) & (q[14] == 0)))
+    takes_one(q)
+        & ((request::a(q) <= range::MARK_MOST) & ((request::b(q) == 0) & (request::c(q) == 0)))
 }
 
 // The form of grant and revoke: who, operation, position.
@@ -103,9 +104,13 @@ fn fits_triple(q: &[u32]) -> bool
     requires { ⌜ length (now q) ≡ requestWords ⌝ }
     ensures { λ r. ⌜ r ≡ fits toGrant (requestOf (now (q .entry))) ⌝ }
 {
+    let a = request::a(q);
+    let b = request::b(q);
+    let c = request::c(q);
     takes_one(q)
-        & (((1 <= q[12]) & (q[12] <= 24))
-            & (((1 <= q[13]) & (q[13] <= 20)) & ((1 <= q[14]) & (q[14] <= 2))))
+        & (((1 <= a) & (a <= range::WHO_MOST))
+            & (((1 <= b) & (b <= range::OPERATION_MOST))
+                & ((1 <= c) & (c <= range::POSITION_MOST))))
 }
 
 // The form of show: a sum.
@@ -113,7 +118,9 @@ fn fits_show(q: &[u32]) -> bool
     requires { ⌜ length (now q) ≡ requestWords ⌝ }
     ensures { λ r. ⌜ r ≡ fits toShow (requestOf (now (q .entry))) ⌝ }
 {
-    takes_one(q) & (((1 <= q[12]) & (q[12] <= 7)) & ((q[13] == 0) & (q[14] == 0)))
+    let a = request::a(q);
+    takes_one(q)
+        & (((1 <= a) & (a <= range::SUM_MOST)) & ((request::b(q) == 0) & (request::c(q) == 0)))
 }
 
 // The form of clear and logout: nothing at all.
@@ -121,7 +128,7 @@ fn fits_nothing(q: &[u32]) -> bool
     requires { ⌜ length (now q) ≡ requestWords ⌝ }
     ensures { λ r. ⌜ r ≡ fits toClear (requestOf (now (q .entry))) ⌝ }
 {
-    takes_none(q) & ((q[12] == 0) & ((q[13] == 0) & (q[14] == 0)))
+    takes_none(q) & ((request::a(q) == 0) & ((request::b(q) == 0) & (request::c(q) == 0)))
 }
 
 // The form of current and authorised roles: a user and roles.
@@ -129,7 +136,10 @@ fn fits_roles(q: &[u32]) -> bool
     requires { ⌜ length (now q) ≡ requestWords ⌝ }
     ensures { λ r. ⌜ r ≡ fits toCurrent (requestOf (now (q .entry))) ⌝ }
 {
-    takes_none(q) & (((1 <= q[12]) & (q[12] <= 16)) & ((q[13] < 256) & (q[14] == 0)))
+    let a = request::a(q);
+    takes_none(q)
+        & (((1 <= a) & (a <= size::USERS))
+            & ((request::b(q) < range::ROLE_SETS) & (request::c(q) == 0)))
 }
 
 // The form of clearance: a user and a level.
@@ -137,7 +147,10 @@ fn fits_clearance(q: &[u32]) -> bool
     requires { ⌜ length (now q) ≡ requestWords ⌝ }
     ensures { λ r. ⌜ r ≡ fits toClearance (requestOf (now (q .entry))) ⌝ }
 {
-    takes_none(q) & (((1 <= q[12]) & (q[12] <= 16)) & ((q[13] < 1024) & (q[14] == 0)))
+    let a = request::a(q);
+    takes_none(q)
+        & (((1 <= a) & (a <= size::USERS))
+            & ((request::b(q) < range::LEVELS) & (request::c(q) == 0)))
 }
 
 // The form of acknowledge: two free numbers.
@@ -145,35 +158,36 @@ fn fits_acknowledge(q: &[u32]) -> bool
     requires { ⌜ length (now q) ≡ requestWords ⌝ }
     ensures { λ r. ⌜ r ≡ fits toAcknowledge (requestOf (now (q .entry))) ⌝ }
 {
-    takes_none(q) & (q[14] == 0)
+    takes_none(q) & (request::c(q) == 0)
 }
 
 // Whether the request has the form that its operation asks.
-pub fn well_made(q: &[u32], op: u32) -> bool
-    requires { ⌜ (length (now q) ≡ requestWords) × (requestOf (now q) .operation ≡ op) ⌝ }
-    ensures { λ r. ⌜ r ≡ ofOp (requestOf (now (q .entry))) (λ o. fits o (requestOf (now (q .entry)))) ⌝ }
+pub fn well_made(q: &[u32], o: u32) -> bool
+    requires { ⌜ (length (now q) ≡ requestWords) × (requestOf (now q) .operation ≡ o) ⌝ }
+    ensures { λ r. ⌜ r ≡ ofOp (requestOf (now (q .entry))) (λ p. fits p (requestOf (now (q .entry)))) ⌝ }
 {
-    match op {
-        1 => fits_create(q),
-        2 => fits_entity(q),
-        3 => fits_pair(q),
-        4 => fits_value(q),
-        5 => fits_pair(q),
-        6 => fits_level(q),
-        7 => fits_mark(q),
-        8 => fits_triple(q),
-        9 => fits_triple(q),
-        10 => fits_show(q),
-        11 => fits_nothing(q),
-        12 => fits_entity(q),
-        13 => fits_nothing(q),
-        14 => fits_roles(q),
-        15 => fits_clearance(q),
-        16 => fits_roles(q),
-        17 => fits_level(q),
-        18 => fits_level(q),
-        19 => fits_entity(q),
-        20 => fits_acknowledge(q),
+    match o {
+        op::CREATE => fits_create(q),
+        op::DELETE => fits_entity(q),
+        op::MOVE => fits_pair(q),
+        op::EDIT => fits_value(q),
+        op::COPY => fits_pair(q),
+        op::SET_LEVEL => fits_level(q),
+        op::SET_MARK => fits_mark(q),
+        op::GRANT => fits_triple(q),
+        op::REVOKE => fits_triple(q),
+        op::SHOW => fits_show(q),
+        op::CLEAR => fits_nothing(q),
+        op::LOGIN => fits_entity(q),
+        op::LOGOUT => fits_nothing(q),
+        op::CURRENT_ROLES => fits_roles(q),
+        op::CLEARANCE => fits_clearance(q),
+        op::AUTHORISED_ROLES => fits_roles(q),
+        op::MAXIMUM => fits_level(q),
+        op::DEVICE_LEVEL => fits_level(q),
+        op::RELEASE => fits_entity(q),
+        op::ACKNOWLEDGE => fits_acknowledge(q),
+        // no operation has this number
         _ => false,
     }
 }

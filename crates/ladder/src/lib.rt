@@ -2,4 +2,3 @@
 pub mod form;
 pub mod kinds;
 pub mod operands;
-pub mod refusal;

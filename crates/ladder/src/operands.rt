@@ -1,4 +1,6 @@
 // Rungs 7 to 9: where the references lead, whether the operands' triples permit the request, and whether the ways are open.
+use names::op;
+use names::refusal;
 use reference::Found;
 use tables::Entity;
 use tables::User;
@@ -21,45 +23,43 @@ pub enum Pair {
 }
 
 // The operand that a request of one operand names, or the refusal 7, 8 or 9: the reference is read once.
-pub fn one_operand(t: &[u32], q: &[u32], u: User, op: u32) -> Operand
-    requires { ⌜ Climbed 6 (now t) (now q) (u .0) × (requestOf (now q) .operation ≡ op) × (arityOf (requestOf (now q)) ≡ 1) ⌝ }
+pub fn one_operand(t: &[u32], q: &[u32], u: User, o: u32) -> Operand
+    requires { ⌜ Climbed 6 (now t) (now q) (u .0) × (requestOf (now q) .operation ≡ o) × (arityOf (requestOf (now q)) ≡ 1) ⌝ }
     ensures { λ r. ⌜ r ≡ oneRead (tablesOf (now (t .entry))) (requestOf (now (q .entry))) ⌝ }
 {
-    let end = 3 + q[2] as usize;
-    let Found::At(e, clear) = reference::resolve(t, tables::clearance(t, u), &q[3..end]) else {
-        return Operand::No(7);
+    let l = tables::clearance(t, u);
+    let Found::At(e, clear) = reference::resolve(t, l, request::first_names(q)) else {
+        return Operand::No(refusal::NO_SUCH_NAME);
     };
-    if !reference::is_permitted(t, e, u, op, 1) {
-        return Operand::No(8);
+    if !reference::is_permitted(t, e, u, o, op::FIRST) {
+        return Operand::No(refusal::NO_ACCESS);
     }
     if !clear {
-        return Operand::No(9);
+        return Operand::No(refusal::MARKED);
     }
     Operand::Fine(e)
 }
 
 // The operands that a request of two operands names, or the refusal 7, 8 or 9: each reference is read once.
-pub fn two_operands(t: &[u32], q: &[u32], u: User, op: u32) -> Pair
-    requires { ⌜ Climbed 6 (now t) (now q) (u .0) × (requestOf (now q) .operation ≡ op) × (arityOf (requestOf (now q)) ≡ 2) ⌝ }
+pub fn two_operands(t: &[u32], q: &[u32], u: User, o: u32) -> Pair
+    requires { ⌜ Climbed 6 (now t) (now q) (u .0) × (requestOf (now q) .operation ≡ o) × (arityOf (requestOf (now q)) ≡ 2) ⌝ }
     ensures { λ r. ⌜ r ≡ twoRead (tablesOf (now (t .entry))) (requestOf (now (q .entry))) ⌝ }
 {
     let l = tables::clearance(t, u);
-    let end = 3 + q[2] as usize;
-    let Found::At(e, clear) = reference::resolve(t, l, &q[3..end]) else {
-        return Pair::Neither(7);
+    let Found::At(e, clear) = reference::resolve(t, l, request::first_names(q)) else {
+        return Pair::Neither(refusal::NO_SUCH_NAME);
     };
-    let stop = 8 + q[7] as usize;
-    let Found::At(c, free) = reference::resolve(t, l, &q[8..stop]) else {
-        return Pair::Neither(7);
+    let Found::At(c, free) = reference::resolve(t, l, request::second_names(q)) else {
+        return Pair::Neither(refusal::NO_SUCH_NAME);
     };
-    if !reference::is_permitted(t, e, u, op, 1) {
-        return Pair::Neither(8);
+    if !reference::is_permitted(t, e, u, o, op::FIRST) {
+        return Pair::Neither(refusal::NO_ACCESS);
     }
-    if !reference::is_permitted(t, c, u, op, 2) {
-        return Pair::Neither(8);
+    if !reference::is_permitted(t, c, u, o, op::SECOND) {
+        return Pair::Neither(refusal::NO_ACCESS);
     }
     if !(clear & free) {
-        return Pair::Neither(9);
+        return Pair::Neither(refusal::MARKED);
     }
     Pair::Both(e, c)
 }

@@ -94,8 +94,8 @@ pub atMost-highest : (a : ℕ) → a < levelCount → AtMost a (levelCount - 1)
 unfolding atMost
 atMost-highest a h = atMostOver-highest compartmentCount rankCount a h
 
--- 256 has the higher rank, and 1 has a compartment that 256 lacks
-pub incomparable : (AtMost 256 1 → ⊥) × (AtMost 1 256 → ⊥)
+-- 256 is of a higher rank, and 1 has a compartment that 256 lacks
+pub incomparable : (AtMost (2 ^ compartmentCount) 1 → ⊥) × (AtMost 1 (2 ^ compartmentCount) → ⊥)
 unfolding atMost atMostOver rank subset every imp bit
 incomparable = (λ t. t, λ t. t)
 

@@ -1,4 +1,5 @@
--- Document 01 as definitions, and what is proved of them. A room uses only itself and the rooms above it.
+-- Document 01 as definitions, and what is proved of them. A room uses only itself and the rooms above it;
+-- but the names of the answers, Request/Refusals, which use nothing, are used by all.
 pub mod Basics
 pub mod Level
 pub mod BitLaws

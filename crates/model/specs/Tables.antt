@@ -1,5 +1,7 @@
 -- The tables: words by name, edits, rows, and the 2,304 words that they stand in.
 pub mod Words
+pub mod Kinds
+pub mod KindLaws
 pub mod Edits
 pub mod EditLaws
 pub mod Rows

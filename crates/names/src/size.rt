@@ -4,6 +4,9 @@ pub const USERS: u32 = 16;
 
 pub const ENTITIES: u32 = 64;
 
+// The first number that is no entity's.
+pub const PAST_ENTITIES: u32 = 65;
+
 // A row of an entity: places, what is shown of each, and triples are eight each.
 pub const PLACES: u32 = 8;
 

@@ -35,12 +35,13 @@ use crate::types;
 use crate::weight;
 use crate::word;
 
-fn counts_are() -> [u32; 7]
-    ensures { λ r. ⌜ r ≡ userCount ∷ entityCount ∷ placeCount ∷ placeCount ∷ nameCount ∷ compartmentCount ∷ roleCount ∷ [] ⌝ }
+fn counts_are() -> [u32; 8]
+    ensures { λ r. ⌜ r ≡ userCount ∷ entityCount ∷ suc entityCount ∷ placeCount ∷ placeCount ∷ nameCount ∷ compartmentCount ∷ roleCount ∷ [] ⌝ }
 {
     [
         size::USERS,
         size::ENTITIES,
+        size::PAST_ENTITIES,
         size::PLACES,
         size::TRIPLES,
         size::NAMES,

@@ -1,5 +1,10 @@
 // What the three operations store: places that are left or filled, and records that appear or go.
 use levels::Level;
+use names::kind;
+use names::refusal;
+use names::size;
+use names::sort;
+use names::types;
 use tables::Entity;
 ghost use mathlib.Core.Path.{_≡_};
 ghost use Prim.Native.Nat.{_<_, ℕ};
@@ -41,7 +46,7 @@ fn copy_triples(t: &mut [u32], e: Entity, c: Entity)
     ensures { λ _. ⌜ tablesOf (now (t .exit)) ≡ onEntity (e .0) (row triple (triples (tablesOf (now (t .entry))) (c .0))) (tablesOf (now (t .entry))) ⌝ }
 {
     let mut i: u32 = 0;
-    while i < 8 {
+    while i < size::TRIPLES {
         let x = tables::triple(t, c, i);
         tables::set_triple(t, e, i, x);
         i += 1;
@@ -52,10 +57,10 @@ fn copy_triples(t: &mut [u32], e: Entity, c: Entity)
 fn sort_kind(s: u32) -> u32
     ensures { λ r. ⌜ r ≡ sortKind s ⌝ }
 {
-    if s == 1 {
-        return 1;
+    if s == sort::OBJECT {
+        return kind::OBJECT;
     }
-    2
+    kind::CONTAINER
 }
 
 // The type of a sort: a draft, or plain.
@@ -65,7 +70,7 @@ fn sort_type(s: u32) -> u32
     if s == 3 {
         return 1;
     }
-    0
+    refusal::ACCEPTED
 }
 
 // Entity e is there now, of sort s and level l, with the triples of c.
@@ -85,7 +90,7 @@ pub fn erase(t: &mut [u32], e: Entity)
     ensures { λ _. ⌜ tablesOf (now (t .exit)) ≡ erase (e .0) (tablesOf (now (t .entry))) ⌝ }
 {
     let mut f: usize = 0;
-    while f < 32 {
+    while f < size::ENTITY_WORDS {
         tables::set_entity_at(t, e, f, 0);
         f += 1;
     }

@@ -1,4 +1,6 @@
 // What stands where: the container that it is in, the screens that show it, and what lies in what.
+use names::kind;
+use names::size;
 use tables::Entity;
 ghost use mathlib.Core.Path.{_≡_};
 ghost use Prim.Native.Nat.{_≤_, suc};
@@ -30,8 +32,8 @@ pub fn holder(t: &[u32], e: Entity) -> Entity
     ensures { λ r. ⌜ r .0 ≡ parentIn (tablesOf (now (t .entry))) (e .0) ⌝ }
 {
     let mut i: u32 = 0;
-    while i < 64 {
-        if stands_in(t, names::kind::CONTAINER, Entity(i + 1), e) {
+    while i < size::ENTITIES {
+        if stands_in(t, kind::CONTAINER, Entity(i + 1), e) {
             return Entity(i + 1);
         }
         i += 1;
@@ -45,8 +47,8 @@ pub fn on_screen(t: &[u32], e: Entity) -> bool
     ensures { λ r. ⌜ r ≡ onScreen (tablesOf (now (t .entry))) (e .0) ⌝ }
 {
     let mut i: u32 = 0;
-    while i < 64 {
-        if stands_in(t, names::kind::DEVICE, Entity(i + 1), e) {
+    while i < size::ENTITIES {
+        if stands_in(t, kind::DEVICE, Entity(i + 1), e) {
             return true;
         }
         i += 1;
@@ -60,13 +62,13 @@ pub fn vacant(t: &[u32]) -> u32
     ensures { λ r. ⌜ r ≡ vacant (tablesOf (now (t .entry))) ⌝ }
 {
     let mut i: u32 = 0;
-    while i < 64 {
-        if tables::kind(t, Entity(i + 1)) == 0 {
+    while i < size::ENTITIES {
+        if tables::kind(t, Entity(i + 1)) == kind::ABSENT {
             return i + 1;
         }
         i += 1;
     }
-    65
+    size::PAST_ENTITIES
 }
 
 // Whether c is e or lies in it, by going up from c.
@@ -76,7 +78,7 @@ fn inside(t: &[u32], c: Entity, e: Entity) -> bool
 {
     let mut y = c;
     let mut i: u32 = 0;
-    while i < 65 {
+    while i < size::PAST_ENTITIES {
         if y.0 == e.0 {
             return true;
         }

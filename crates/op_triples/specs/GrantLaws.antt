@@ -6,8 +6,8 @@ use Prim.Native.Nat.{_<_, _≤_, ℕ}
 use native.Mathlib.Omega.{arith}
 use lib.Dec.{leb}
 use borrow.Author.Tests.{le-leb, le-ltb, lt-leb, lt-ltb}
-use Rattle.ladder.specs.Contract.{First, Passed, Refusing, Stepped, Taking}
-use Rattle.ladder.specs.OwnLaws.{accepted, askedOf, free, kind-right, kind-wrong, pass, skip, stop}
+use Rattle.ladder.specs.Contract.{First, Judged, Passed, Taking}
+use Rattle.ladder.specs.JudgeLaws.{accepted, askedOf, free, kind-right, kind-wrong, pass, skip, stop}
 use Rattle.model.specs.Basics.Choice.{pick}
 use Rattle.model.specs.Basics.Tests.{every}
 use Rattle.model.specs.Effect.Triples.{grant, granted}
@@ -23,6 +23,7 @@ use Rattle.model.specs.Tables.Words.{Tables, placeCount, triple, triples}
 use Rattle.op_triples.specs.Named.{tripleIn}
 use Rattle.rows.specs.EditLaws.{row-idle, row-one}
 use Rattle.rows.specs.NameLaws.{triple-row}
+use Rattle.model.specs.Request.Refusals as refusal
 
 -- the effect on a row that has the triple, and on one that has not
 there-same : (d : Tables) (e x : ℕ) → seek x (triples d e) placeCount < placeCount → d ≡ grant e x d
@@ -35,42 +36,42 @@ new-last d e x h = row-one triple triple-row e d (seek 0 (triples d e) placeCoun
     ∙ ap (λ (b : Bool). onEntity e (row triple (pick b (triples d e) (replace (seek 0 (triples d e) placeCount) x (triples d e)))) d) (sym (le-ltb _ _ h))
 
 module _ (t q : List ℕ) (u e : ℕ) (k : Taking toGrant t q u × First t q e) (b : Bool) (hb : b ≡ isAny (tablesOf t) e) where
-  pub grant-wrong : b ≡ false → Refusing t q u 8 10
-  grant-wrong = kind-wrong toGrant t q u (k .0) e (k .1) isAny refl b hb
+  pub grant-wrong : b ≡ false → Judged t q refusal.wrongKind t
+  grant-wrong = kind-wrong (k .0) e (k .1) isAny refl b hb
 
   module _ (yes : b ≡ true) (x p : ℕ) (hx : x ≡ tripleIn q) (hp : p ≡ seek x (triples (tablesOf t) e) placeCount) where
-    up : Passed 13 (tablesOf t) (requestOf q)
+    up : Passed refusal.levelOrRoles (tablesOf t) (requestOf q)
     unfolding every free
-    up = skip toGrant t q u (k .0) 3 10 (omega arith) (omega arith) (kind-right toGrant t q u (k .0) e (k .1) isAny refl b hb yes) tt
+    up = skip (k .0) 3 refusal.wrongKind (omega arith) (omega arith) (kind-right (k .0) e (k .1) isAny refl b hb yes) tt
 
     -- what is asked, as it was read
     first-is : askedOf t q .first ≡ e
     first-is = k .1 .is
 
     triple-is : namedTriple (askedOf t q) ≡ x
-    unfolding asked requestOf
+    unfolding asked
     triple-is = sym hx
 
     room-is : grantNoRoom (tablesOf t) (askedOf t q) ≡ (leb placeCount p && leb placeCount (seek 0 (triples (tablesOf t) e) placeCount))
     unfolding grantNoRoom
     room-is = rw (first-is, triple-is, hp)
 
-    done : (n : List ℕ) → Passed 14 (tablesOf t) (requestOf q) → tablesOf n ≡ grant e x (tablesOf t) → Stepped t q 0 n
+    done : (n : List ℕ) → Passed refusal.noRoom (tablesOf t) (requestOf q) → tablesOf n ≡ grant e x (tablesOf t) → Judged t q refusal.accepted n
     unfolding every free
-    done n w z = accepted toGrant t q u (k .0) n (skip toGrant t q u (k .0) 2 14 (omega arith) (omega arith) w tt) (z ∙ rw (first-is, triple-is))
+    done n w z = accepted (k .0) n (skip (k .0) 2 refusal.noRoom (omega arith) (omega arith) w tt) (z ∙ rw (first-is, triple-is))
 
     -- the triple is there
-    pub grant-there : p < 8 → Stepped t q 0 t
+    pub grant-there : p < placeCount → Judged t q refusal.accepted t
     unfolding refused
-    grant-there h = done t (pass toGrant t q u (k .0) 13 (omega arith) (omega arith) up (room-is ∙ rw (lt-leb placeCount p h)))
+    grant-there h = done t (pass (k .0) refusal.levelOrRoles (omega arith) (omega arith) up (room-is ∙ rw (lt-leb placeCount p h)))
         (there-same (tablesOf t) e x (omega arith))
 
-    module _ (new : 8 ≤ p) (n : ℕ) (hn : n ≡ seek 0 (triples (tablesOf t) e) placeCount) where
-      pub grant-full : 8 ≤ n → Refusing t q u 8 14
+    module _ (new : placeCount ≤ p) (n : ℕ) (hn : n ≡ seek 0 (triples (tablesOf t) e) placeCount) where
+      pub grant-full : placeCount ≤ n → Judged t q refusal.noRoom t
       unfolding refused
-      grant-full h = stop toGrant t q u (k .0) 13 (omega arith) (omega arith) up (room-is ∙ rw (le-leb placeCount p new, ← hn, le-leb placeCount n h))
+      grant-full h = stop (k .0) refusal.levelOrRoles (omega arith) (omega arith) up (room-is ∙ rw (le-leb placeCount p new, ← hn, le-leb placeCount n h))
 
-      pub grant-new : (s : List ℕ) → n < 8 → tablesOf s ≡ onEntity e (word (triple n) x) (tablesOf t) → Stepped t q 0 s
+      pub grant-new : (s : List ℕ) → n < placeCount → tablesOf s ≡ onEntity e (word (triple n) x) (tablesOf t) → Judged t q refusal.accepted s
       unfolding refused
-      grant-new s h z = done s (pass toGrant t q u (k .0) 13 (omega arith) (omega arith) up (room-is ∙ rw (le-leb placeCount p new, ← hn, lt-leb placeCount n h)))
+      grant-new s h z = done s (pass (k .0) refusal.levelOrRoles (omega arith) (omega arith) up (room-is ∙ rw (le-leb placeCount p new, ← hn, lt-leb placeCount n h)))
           (z ∙ rw hn (new-last (tablesOf t) e x (omega arith)))

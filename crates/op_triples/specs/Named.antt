@@ -2,17 +2,17 @@
 use mathlib.Core.List.{List}
 use mathlib.Core.Path.{_≡_}
 use Prim.Native.Nat.{_≤_, ℕ}
-use lib.ListN.{getD, length}
-use Rattle.model.specs.Request.Words.{requestWords}
+use lib.ListN.{length}
+use Rattle.model.specs.Request.Words.{requestOf, requestWords}
 use Rattle.model.specs.Tables.Words.{operationCount, positionCount, tripleOf, whoMost}
 
 -- its three arguments are no larger than the parts of a triple
 pub record Named (q : List ℕ) : Type 0 where
   pub whole : length q ≡ requestWords
-  pub who : getD q 12 0 ≤ whoMost
-  pub operation : getD q 13 0 ≤ operationCount
-  pub position : getD q 14 0 ≤ positionCount
+  pub who : requestOf q .a ≤ whoMost
+  pub operation : requestOf q .b ≤ operationCount
+  pub position : requestOf q .c ≤ positionCount
 
 -- the triple that they are
 abbrev pub tripleIn : List ℕ → ℕ
-tripleIn q = tripleOf (getD q 12 0) (getD q 13 0) (getD q 14 0)
+tripleIn q = tripleOf (requestOf q .a) (requestOf q .b) (requestOf q .c)

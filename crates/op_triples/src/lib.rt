@@ -1,8 +1,10 @@
 // The operations on access triples: 8 grant and 9 revoke.
+use names::refusal;
+use names::size;
 use tables::Entity;
 use tables::User;
 ghost use mathlib.Core.Path.{_≡_};
-ghost use Rattle.ladder.specs.Contract.{First, Stepped, Taking};
+ghost use Rattle.ladder.specs.Contract.{First, Judged, Taking};
 ghost use Rattle.model.specs.Request.Operations.{toGrant, toRevoke};
 ghost use Rattle.op_triples.specs.Named.{Named, tripleIn};
 
@@ -11,41 +13,41 @@ fn named_triple(q: &[u32]) -> u32
     requires { ⌜ Named (now q) ⌝ }
     ensures { λ r. ⌜ r ≡ tripleIn (now (q .entry)) ⌝ }
 {
-    q[12] * 65536 + q[13] * 256 + q[14]
+    tables::triples::triple_of(request::a(q), request::b(q), request::c(q))
 }
 
 // Operation 8, from rung 10 on: entity e has the triple that the request names, last if it is new.
 pub fn grant(t: &mut [u32], q: &[u32], u: User, e: Entity) -> u32
     requires { ⌜ Taking toGrant (now t) (now q) (u .0) × First (now t) (now q) (e .0) ⌝ }
-    ensures { λ r. ⌜ Stepped (now (t .entry)) (now (q .entry)) r (now (t .exit)) ⌝ }
+    ensures { λ r. ⌜ Judged (now (t .entry)) (now (q .entry)) r (now (t .exit)) ⌝ }
 {
     if !ladder::kinds::is_any(t, e) {
-        return ladder::refusal::refuse(t, q, u, 8, 10);
+        return refusal::WRONG_KIND;
     }
     let x = named_triple(q);
-    if rows::triple_place(t, e, x) < 8 {
-        return 0;
+    if rows::triple_place(t, e, x) < size::TRIPLES {
+        return refusal::ACCEPTED;
     }
     let n = rows::triple_place(t, e, 0);
-    if 8 <= n {
-        return ladder::refusal::refuse(t, q, u, 8, 14);
+    if size::TRIPLES <= n {
+        return refusal::NO_ROOM;
     }
     tables::set_triple(t, e, n, x);
-    0
+    refusal::ACCEPTED
 }
 
 // Operation 9, from rung 10 on: entity e has the triple that the request names no more, and later ones close up.
 pub fn revoke(t: &mut [u32], q: &[u32], u: User, e: Entity) -> u32
     requires { ⌜ Taking toRevoke (now t) (now q) (u .0) × First (now t) (now q) (e .0) ⌝ }
-    ensures { λ r. ⌜ Stepped (now (t .entry)) (now (q .entry)) r (now (t .exit)) ⌝ }
+    ensures { λ r. ⌜ Judged (now (t .entry)) (now (q .entry)) r (now (t .exit)) ⌝ }
 {
     if !ladder::kinds::is_any(t, e) {
-        return ladder::refusal::refuse(t, q, u, 9, 10);
+        return refusal::WRONG_KIND;
     }
     let k = rows::triple_place(t, e, named_triple(q));
-    if 8 <= k {
-        return 0;
+    if size::TRIPLES <= k {
+        return refusal::ACCEPTED;
     }
     rows::close_triples(t, e, k);
-    0
+    refusal::ACCEPTED
 }

@@ -16,6 +16,7 @@ use Rattle.model.specs.Level.{atMost}
 use Rattle.model.specs.Request.Ladder.{bars}
 use Rattle.model.specs.Request.Reference.{Present, basis, follow, passed, placeTest, presentTest, resolve, standing}
 use Rattle.model.specs.Request.ReferenceLaws.{place-agrees, present-agrees}
+use Rattle.model.specs.Request.Refusals as refusal
 use Rattle.model.specs.State.WellFormed.{WellFormed}
 use Rattle.model.specs.Tables.Words.{Tables, usedPlaces, entityCount, level, mark, places}
 use Rattle.reference.specs.Ways.{Ranged, bar, found, leading, onward, refusalOf}
@@ -114,10 +115,10 @@ module _ (d : Tables) (l : ℕ) where
       let z : length (take (length ns - 1) (drop 1 ns)) ≡ 0 = rw n in
       follow-end e true (take (length ns - 1) (drop 1 ns)) (h .low) z ∙ resolve-on (e .0) ns q (omega arith) h
 
-  -- Rule 7.7: the resolver's answer means refusal 7 exactly where the reference leads nowhere.
-  pub found-refusal : (ns : List ℕ) → refusalOf (found d l ns) ≡ pick (eqb (resolve d ns) 0) 7 0
+  -- Rule 7.7: the resolver's answer means that there is no such name exactly where the reference leads nowhere.
+  pub found-refusal : (ns : List ℕ) → refusalOf (found d l ns) ≡ pick (eqb (resolve d ns) 0) refusal.noSuchName refusal.accepted
   found-refusal ns = go (resolve d ns) (not (bars d l (basis d ns)))
     where
-      go : (x : ℕ) (o : Bool) → refusalOf (leading x o) ≡ pick (eqb x 0) 7 0
+      go : (x : ℕ) (o : Bool) → refusalOf (leading x o) ≡ pick (eqb x 0) refusal.noSuchName refusal.accepted
       go zero o = refl
       go (suc x) o = rw (eqb·suc-zero x)

@@ -6,11 +6,12 @@ use lib.Dec.{eqb, leb}
 use Rattle.model.specs.Level.{atMost, bit}
 use Rattle.model.specs.Request.Ladder.{bars}
 use Rattle.model.specs.Request.Reference.{basis, follow, passed, resolve}
+use Rattle.model.specs.Request.Refusals as refusal
 use Rattle.model.specs.Tables.Words.{Tables, usedPlaces, entityCount, level, mark, placeCount, places, whoMost, whoOf, whoRole, whoWeight}
 use Rattle.reference.specs.declared.Found.{Found}
 use Rattle.reference.specs.declared.Found.the-variants.{At, Nowhere}
 
--- Tables in which every used place is one of eight and holds the number of an entity, as in well-formed ones.
+-- Tables in which every used place is one of its row and holds the number of an entity, as in well-formed ones.
 pub record Ranged (d : Tables) : Type 0 where
   pub room : (e : ℕ) → usedPlaces d e ≤ placeCount
   pub low : (e i : ℕ) → i < usedPlaces d e → 1 ≤ places d e i
@@ -21,10 +22,10 @@ abbrev pub leading : ℕ → Bool → Found
 leading zero o = Nowhere
 leading (suc e) o = At (record { 0 = suc e }) o
 
--- Rule 7.7: the refusal that each answer of the resolver means; 0 is none.
+-- Rule 7.7: the refusal that each answer of the resolver means, or none.
 abbrev pub refusalOf : Found → ℕ
-refusalOf (At e o) = 0
-refusalOf Nowhere = 7
+refusalOf (At e o) = refusal.accepted
+refusalOf Nowhere = refusal.noSuchName
 
 -- Rule 7.9: e is marked, and the level l is not at least its level.
 unfoldable pub bar : Tables → ℕ → ℕ → Bool

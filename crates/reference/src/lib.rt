@@ -1,10 +1,14 @@
 // Where a reference leads, whether the way there is open, and whether an entity's triples permit a request.
 use levels::Level;
+use names::range;
+use names::size;
+use names::weight;
 use tables::Entity;
 use tables::User;
+use tables::triples;
 ghost use mathlib.Core.Path.{_≡_};
 ghost use mathlib.Core.Bool.{not};
-ghost use Prim.Native.Nat.{_*_, _+_, _<_, _≤_};
+ghost use Prim.Native.Nat.{_<_, _≤_};
 ghost use lib.ListN.{length};
 ghost use Rattle.model.specs.Basics.Tests.{every};
 ghost use Rattle.model.specs.Request.Ladder.{permits};
@@ -30,7 +34,7 @@ pub fn is_bar(t: &[u32], l: Level, e: Entity) -> bool
     !levels::at_most(tables::level(t, e), l)
 }
 
-// From entity e by the names that are left; `clear` says whether the way so far is.
+// Where the names that are left lead from entity e. `clear` says whether the way so far is open.
 fn follow(t: &[u32], l: Level, e: Entity, clear: bool, names: &[u32]) -> Found
     requires { ⌜ EntityIn (now t) (e .0) × Ranged (tablesOf (now t)) ⌝ }
     ensures { λ r. ⌜ r ≡ onward (tablesOf (now (t .entry))) (l .0) (e .0) clear (now (names .entry)) ⌝ }
@@ -46,8 +50,8 @@ fn follow(t: &[u32], l: Level, e: Entity, clear: bool, names: &[u32]) -> Found
         return Found::Nowhere;
     }
     let c = tables::place(t, e, p - 1);
-    let o = clear & !is_bar(t, l, e);
-    follow(t, l, c, o, &names[1..])
+    let open = clear & !is_bar(t, l, e);
+    follow(t, l, c, open, &names[1..])
 }
 
 // Where names lead, for a requester of clearance l.
@@ -59,7 +63,7 @@ pub fn resolve(t: &[u32], l: Level, names: &[u32]) -> Found
     if n < 1 {
         return Found::Nowhere;
     }
-    if 64 < n {
+    if size::ENTITIES < n {
         return Found::Nowhere;
     }
     let e = Entity(n);
@@ -72,24 +76,24 @@ pub fn resolve(t: &[u32], l: Level, names: &[u32]) -> Found
     follow(t, l, e, true, &names[1..])
 }
 
-// Whether the triple x has this key, an operation and a position, and names user u or one of the roles.
+// Whether the triple x has this key and names user u or one of the roles. A key is an operation and a position.
 fn is_admitted(x: u32, u: User, roles: u32, key: u32) -> bool
     ensures { λ r. ⌜ r ≡ admits (u .0) roles key x ⌝ }
 {
-    if x % 65536 != key {
+    if triples::key(x) != key {
         return false;
     }
-    let w = x / 65536;
-    if w == u.0 {
+    let who = triples::who(x);
+    if who == u.0 {
         return true;
     }
-    if w < 17 {
+    if who < weight::FIRST_ROLE {
         return false;
     }
-    if 24 < w {
+    if range::WHO_MOST < who {
         return false;
     }
-    levels::has_bit(w - 17, roles)
+    levels::has_bit(who - weight::FIRST_ROLE, roles)
 }
 
 // Whether triple i of entity e does not admit user u, who acts with these roles.
@@ -106,7 +110,7 @@ fn all_shut(t: &[u32], e: Entity, u: User, roles: u32, key: u32) -> bool
     ensures { λ r. ⌜ r ≡ every placeCount (λ i. not (admits (u .0) roles key (triples (tablesOf (now (t .entry))) (e .0) i))) ⌝ }
 {
     let mut i: u32 = 0;
-    while i < 8 {
+    while i < size::TRIPLES {
         if !shuts(t, e, u, roles, key, i) {
             return false;
         }
@@ -120,5 +124,11 @@ pub fn is_permitted(t: &[u32], e: Entity, u: User, op: u32, position: u32) -> bo
     requires { ⌜ EntityIn (now t) (e .0) × UserIn (now t) (u .0) × (op ≤ operationCount) × (position ≤ positionCount) ⌝ }
     ensures { λ r. ⌜ r ≡ permits (tablesOf (now (t .entry))) (u .0) op position (e .0) ⌝ }
 {
-    !all_shut(t, e, u, tables::current(t, u), op * 256 + position)
+    !all_shut(
+        t,
+        e,
+        u,
+        tables::current(t, u),
+        triples::key_of(op, position),
+    )
 }

@@ -3,9 +3,9 @@ use mathlib.Core.List.{List, [], _∷_}
 use mathlib.Core.Path.{_∙_, _≡_, ap, refl}
 use Prim.Native.Nat.{_+_, _-_, _≤_, suc, zero, ℕ}
 use native.Mathlib.Omega.{arith}
-use lib.ListN.{drop, getD, length, take}
+use lib.ListN.{drop, getD, length, length-take, take}
 use lib.Seq.{drop-cons}
-use Rattle.model.specs.Request.Words.{nameCount, names, referenceAt, requestOf, requestWords}
+use Rattle.model.specs.Request.Words.{Reference, nameCount, names, referenceAt, requestOf, requestWords}
 
 -- the first four of a longer list
 take-four : (n a b c d : ℕ) (l : List ℕ) → n ≤ 4 → take n (a ∷ b ∷ c ∷ d ∷ l) ≡ take n (a ∷ b ∷ c ∷ d ∷ [])
@@ -40,3 +40,8 @@ pub second-part : (q : List ℕ) → length q ≡ requestWords → requestOf q .
     → take (8 + getD q 7 0 - 8) (drop 8 q) ≡ names (requestOf q .second)
 unfolding requestOf referenceAt
 second-part q l h = part-names q 7 8 (8 + getD q 7 0 - 8) refl (omega arith) (omega arith) (omega arith)
+
+-- a reference of one name or more has a name
+pub names-some : (r : Reference) → 1 ≤ r .length → r .length ≤ nameCount → 1 ≤ length (names r)
+unfolding names
+names-some r l h = simp length-take (omega arith)

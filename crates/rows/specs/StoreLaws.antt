@@ -25,7 +25,7 @@ up-more new old i v q = fun-ext λ j. go j (eqb j i) (ltb j i) (ltb j (i + 1)) (
     go j false false true (other z) (over h) (under l) = absurd (omega arith)
     go j false false false z s w = refl
 
--- rows that agree behind the place
+-- rows that agree after the place
 up-whole : (new old : ℕ → ℕ) (i : ℕ) → ((j : ℕ) → i ≤ j → new j ≡ old j) → upTo i new old ≡ new
 up-whole new old i q = fun-ext λ j. go j (ltb j i) (below j i)
   where
@@ -41,9 +41,9 @@ up-none new old i q = fun-ext λ j. go j (ltb j i) (below j i)
     go j true (under l) = q j l
     go j false s = refl
 
--- a word behind the place is the old one
-up-behind : (new old : ℕ → ℕ) (i j : ℕ) → i ≤ j → upTo i new old j ≡ old j
-up-behind new old i j l = go (ltb j i) (below j i)
+-- a word after the place is the old one
+up-after : (new old : ℕ → ℕ) (i j : ℕ) → i ≤ j → upTo i new old j ≡ old j
+up-after new old i j l = go (ltb j i) (below j i)
   where
     go : (b : Bool) → Below j i b → pick b (new j) (old j) ≡ old j
     go true (under h) = absurd (omega arith)
@@ -67,4 +67,4 @@ module _ (f : ℕ → EntityWord) (n : RowName f) (e : ℕ) (new : ℕ → ℕ) 
   -- in any entity, a word of the row that is still to be stored is as it was
   pub stored-read : (i c j : ℕ) → i ≤ j → storedTo f e new d i .entity c (f j) ≡ d .entity c (f j)
   stored-read i c j l = row-read f n e d (upTo i new (rowIn f d e)) c j (d .entity c (f j))
-      (λ q. up-behind new (rowIn f d e) i j l ∙ ap (λ (x : ℕ). d .entity x (f j)) (sym q)) (λ q. refl)
+      (λ q. up-after new (rowIn f d e) i j l ∙ ap (λ (x : ℕ). d .entity x (f j)) (sym q)) (λ q. refl)

@@ -11,3 +11,4 @@ pub mod PassLaws
 pub mod HolderLaws
 pub mod JumpLaws
 pub mod SecureLaws
+pub mod ReachLaws

@@ -34,7 +34,7 @@ A seed is a number below 2^64, and everything follows from it. The status is 1 i
 clear what is wanted. With wrong=NAME the desk written by hand is one of these:";
 
 /// Differences after which a run of tables is given up.
-const MOST_DIFFERENCES: u64 = 5;
+const DIFFERENCES_MOST: u64 = 5;
 
 /// What is not understood.
 struct Unclear;
@@ -101,7 +101,7 @@ fn run_tables(seed: &str, steps: &str, rest: &[&str]) -> Result<Outcome, Unclear
         stepping: options.desk(),
         listing: options.desk(),
         options: options.words(),
-        most_differences: MOST_DIFFERENCES,
+        most_differences: DIFFERENCES_MOST,
     };
     Ok(tables::run(&what, Out::LOUD))
 }

@@ -1,7 +1,7 @@
 //! Tables as `state.words` has them, then a script of requests to them, on standard output: for a program that reads both [rules 12.1, 12.2].
 use crate::tables::s1::show;
 use crate::texts::cases;
-use generate::layout::{answer, REQUEST_WORDS};
+use generate::layout::{refusal, REQUEST_WORDS};
 use generate::{dice_for, s1};
 use ordinary::Right;
 use std::io::{self, Write};
@@ -23,7 +23,7 @@ fn text(request: &[u32; REQUEST_WORDS]) -> Option<Vec<u8>> {
     let mut room = vec![0; ROOM];
     let reply = ordinary::write::<Right>(request, &mut room);
     room.truncate(reply.number as usize);
-    Some(room).filter(|_| reply.answer == answer::ACCEPTED)
+    Some(room).filter(|_| reply.answer == refusal::ACCEPTED)
 }
 
 /// Tables, and a script of so many requests to them, each made with the tables in view that those before it leave. A request that has no text

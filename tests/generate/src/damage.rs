@@ -1,7 +1,7 @@
 //! Tables with something amiss: a few words changed, by chance or with a rule in view. They may stay good.
 use crate::layout::{
-    entity, entity_base, kind, shown, triple, user, user_base, ENTITIES, ENTITY_WORDS, FIRST_ENTITY_WORD, LAST_WHO,
-    MAX_LEVEL, MAX_ROLES, OPERATIONS, PLACES, TRIPLES, USERS, USER_WORDS,
+    entity, entity_base, kind, triple, user, user_base, ENTITIES, ENTITY_WORDS, FIRST_ENTITY_WORD, KIND_MOST,
+    LEVEL_MOST, OPERATION_MOST, PLACES, ROLES_MOST, SUM_MOST, TRIPLES, USERS, USER_WORDS, WHO_MOST,
 };
 use crate::view::{entity_record, present_entity, present_user, user_record, Holders};
 use crate::{levels, Dice};
@@ -31,7 +31,7 @@ fn put_last(dice: &mut Dice, tables: &mut [u32], holder: u32, content: u32) {
     record[entity::CONTENTS + used] = content;
     record[entity::USED] += 1;
     if record[entity::KIND] == kind::DEVICE {
-        record[entity::SHOWN + used] = dice.between(1, shown::ALL);
+        record[entity::SHOWN + used] = dice.between(1, SUM_MOST);
     }
 }
 
@@ -60,7 +60,7 @@ fn change_user(dice: &mut Dice, tables: &mut [u32]) {
     match dice.below(5) {
         0 | 1 => record[user::DEVICE] = device,
         2 => record[user::CURRENT..=user::DEVICE].fill(0),
-        3 => record[user::CURRENT] = dice.between(0, MAX_ROLES),
+        3 => record[user::CURRENT] = dice.between(0, ROLES_MOST),
         _ => record[user::HELD + dice.below(3) as usize] = dice.below(22),
     }
 }
@@ -71,18 +71,18 @@ fn change_entity(dice: &mut Dice, tables: &mut [u32]) {
     let record = &mut tables[base..];
     let place = dice.below(PLACES) as usize;
     match dice.below(6) {
-        0 => record[entity::SHOWN + place] = dice.between(0, shown::ALL + 1),
+        0 => record[entity::SHOWN + place] = dice.between(0, SUM_MOST + 1),
         1 => record[entity::USED] = dice.between(0, PLACES + 1),
         2 => record[entity::TRIPLES + place] = record[entity::TRIPLES + dice.below(TRIPLES) as usize],
         3 => {
             record[entity::TRIPLES + place] =
-                triple(dice.below(LAST_WHO + 2), dice.below(OPERATIONS + 2), dice.below(4))
+                triple(dice.below(WHO_MOST + 2), dice.below(OPERATION_MOST + 2), dice.below(4))
         }
         4 => {
             record[entity::TYPE] = dice.below(3);
             record[entity::RELEASER] = dice.between(0, USERS + 1);
         }
-        _ => record[entity::KIND] = dice.between(0, kind::DEVICE),
+        _ => record[entity::KIND] = dice.between(0, KIND_MOST),
     }
 }
 
@@ -95,10 +95,10 @@ fn change_security(dice: &mut Dice, tables: &mut [u32]) {
     let near = |dice: &mut Dice, word: &mut u32| *word = levels::near(dice, *word);
     match dice.below(5) {
         0 => near(dice, &mut tables[of_user + user::CLEARANCE]),
-        1 => tables[of_user + user::AUTHORISED] = dice.between(0, MAX_ROLES),
+        1 => tables[of_user + user::AUTHORISED] = dice.between(0, ROLES_MOST),
         2 if is_device => near(dice, &mut tables[of_entity + entity::MAXIMUM]),
         3 if is_device && used > 0 => {
-            tables[of_entity + entity::SHOWN + dice.below(used) as usize] = dice.between(1, shown::ALL);
+            tables[of_entity + entity::SHOWN + dice.below(used) as usize] = dice.between(1, SUM_MOST);
         }
         _ => near(dice, &mut tables[of_entity + entity::LEVEL]),
     }
@@ -125,7 +125,7 @@ fn changed(dice: &mut Dice, tables: &[u32], index: usize) -> u32 {
         2 => 0,
         3 => dice.below(10),
         4 => dice.between(0, ENTITIES + 1),
-        5 => dice.between(0, MAX_LEVEL + 1),
+        5 => dice.between(0, LEVEL_MOST + 1),
         6 => word ^ 1 << dice.below(32),
         7 => elsewhere(dice, tables, index),
         _ => dice.word(),

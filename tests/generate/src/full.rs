@@ -1,8 +1,8 @@
 //! Full tables: all 64 entities present, containers in containers to a depth of five and more, sixteen users on sixteen devices, eight shown
 //! on each, eight triples everywhere.
 use crate::layout::{
-    at_most, entity, entity_base, kind, operation, role, shown, triple, user, user_base, COMPARTMENT_BITS, ENTITIES,
-    FIRST_ROLE, LAST_WHO, MAX_LEVEL, MAX_ROLES, PLACES, TABLE_WORDS, TRIPLES, USERS,
+    at_most, entity, entity_base, kind, op, role, shown, triple, user, user_base, COMPARTMENT_BITS, ENTITIES,
+    FIRST_ROLE, LEVEL_MOST, PLACES, ROLES_MOST, TABLE_WORDS, TRIPLES, USERS, WHO_MOST,
 };
 use crate::view::entity_record;
 use crate::{levels, Dice};
@@ -12,7 +12,7 @@ use crate::{levels, Dice};
 /// above it, one with two. That makes N + (N - 1) + (N - 2) + (N - 3) entries. A device shows eight at most, an entity is in one of these at
 /// most, and in something in one of these at most: 8 + (N - 1) + (N - 2) entries more for each device. The sum grows with D up to sixteen, and
 /// no more devices than there are users show anything.
-pub const MOST_ENTRIES: u32 = 16 * (8 + 47 + 46) + 48 + 47 + 46 + 45;
+pub const ENTRIES_MOST: u32 = 16 * (8 + 47 + 46) + 48 + 47 + 46 + 45;
 
 /// The first few each stand in the one before.
 const CHAIN: usize = 5;
@@ -77,16 +77,16 @@ impl<'a> Full<'a> {
         let record = self.entity(device);
         record[entity::KIND] = kind::DEVICE;
         record[entity::LEVEL] = level;
-        record[entity::MAXIMUM] = MAX_LEVEL;
+        record[entity::MAXIMUM] = LEVEL_MOST;
         device
     }
 
     /// A level of rank 2 or 3.
     fn high_level(&mut self) -> u32 {
         if self.dice.chance(50) {
-            MAX_LEVEL
+            LEVEL_MOST
         } else {
-            RANK_2 | (self.dice.word() & MAX_LEVEL)
+            RANK_2 | (self.dice.word() & LEVEL_MOST)
         }
     }
 
@@ -106,7 +106,7 @@ impl<'a> Full<'a> {
         let number = self.inner[made];
         let is_container = made < CHAIN || self.dice.chance(50);
         let marked = is_container && self.dice.chance(25);
-        let mut level = MAX_LEVEL;
+        let mut level = LEVEL_MOST;
         if let Some(holder) = self.choose_holder(made) {
             level = entity_record(&self.tables, holder)[entity::LEVEL];
             self.put_into(holder, number);
@@ -124,7 +124,7 @@ impl<'a> Full<'a> {
     /// Logs a user on and fills the screen.
     fn make_user(&mut self, number: u32) {
         let (clearance, screen) = (self.high_level(), self.high_level());
-        let roles = self.dice.word() & MAX_ROLES;
+        let roles = self.dice.word() & ROLES_MOST;
         let device = self.log_on(number, clearance, roles, screen);
         let mut order = self.inner.clone();
         self.dice.shuffle(&mut order);
@@ -139,10 +139,10 @@ impl<'a> Full<'a> {
 
     /// Eight triples, each for somebody else, and most of them to show.
     fn make_triples(&mut self, number: u32) {
-        let mut who: Vec<u32> = (1..=LAST_WHO).collect();
+        let mut who: Vec<u32> = (1..=WHO_MOST).collect();
         self.dice.shuffle(&mut who);
         for (i, &who) in who.iter().take(TRIPLES as usize).enumerate() {
-            let operation = if self.dice.chance(70) { operation::SHOW } else { operation::EDIT };
+            let operation = if self.dice.chance(70) { op::SHOW } else { op::EDIT };
             self.entity(number)[entity::TRIPLES + i] = triple(who, operation, 1);
         }
     }
@@ -164,7 +164,7 @@ impl<'a> Full<'a> {
         let record = self.entity(number);
         record[entity::KIND] = if holds { kind::CONTAINER } else { kind::OBJECT };
         record[entity::MARK] = u32::from(holds);
-        record[entity::LEVEL] = MAX_LEVEL;
+        record[entity::LEVEL] = LEVEL_MOST;
         if let Some(holder) = self.holder_in_fullest(made) {
             self.put_into(holder, number);
         }
@@ -172,7 +172,7 @@ impl<'a> Full<'a> {
 
     /// In the fullest tables, logs a user on and shows every holder.
     fn make_user_of_fullest(&mut self, number: u32) {
-        let device = self.log_on(number, MAX_LEVEL, role::OFFICER, MAX_LEVEL);
+        let device = self.log_on(number, LEVEL_MOST, role::OFFICER, LEVEL_MOST);
         for i in 0..HOLDERS {
             self.put_on_screen(device, self.inner[i]);
         }
@@ -180,8 +180,8 @@ impl<'a> Full<'a> {
 
     /// In the fullest tables, seven triples that are of no use to a list, and then the one that counts.
     fn make_triples_of_fullest(&mut self, number: u32) {
-        let mut triples: Vec<u32> = (1..TRIPLES).map(|who| triple(who, operation::EDIT, 1)).collect();
-        triples.push(triple(FIRST_ROLE, operation::SHOW, 1));
+        let mut triples: Vec<u32> = (1..TRIPLES).map(|who| triple(who, op::EDIT, 1)).collect();
+        triples.push(triple(FIRST_ROLE, op::SHOW, 1));
         self.entity(number)[entity::TRIPLES..][..triples.len()].copy_from_slice(&triples);
     }
 }
@@ -195,7 +195,7 @@ pub fn full(dice: &mut Dice) -> Vec<u32> {
     full.tables
 }
 
-/// The list of every user has `MOST_ENTRIES` entries: eight hold something, and they are on every screen, so every bound is met that the number
+/// The list of every user has `ENTRIES_MOST` entries: eight hold something, and they are on every screen, so every bound is met that the number
 /// is counted with. All containers are marked, and nobody's clearance is too low for that. The triple that counts comes last.
 pub fn fullest(dice: &mut Dice) -> Vec<u32> {
     let mut full = Full::new(dice);

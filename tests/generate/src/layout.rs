@@ -13,22 +13,26 @@ pub const TRIPLES: u32 = 8;
 pub const NAMES: u32 = 4;
 /// A reference: its length, then its names.
 pub const ENTRY_WORDS: usize = 1 + NAMES as usize;
-pub const OPERATIONS: u32 = 20;
-pub const MAX_LEVEL: u32 = 1023;
+pub const OPERATION_MOST: u32 = 20;
+pub const KIND_MOST: u32 = kind::DEVICE;
+pub const LEVEL_MOST: u32 = 1023;
 /// The bits of a level's compartments; its rank stands above them.
 pub const COMPARTMENT_BITS: u32 = 8;
 pub const COMPARTMENTS: u32 = (1 << COMPARTMENT_BITS) - 1;
-pub const MAX_ROLES: u32 = 255;
-pub const MAX_COUNT: u32 = 65_535;
+pub const ROLES_MOST: u32 = 255;
+/// The number of a notice goes no higher.
+pub const MISSED_MOST: u32 = 65_535;
+/// What is shown of an entity is a sum, of all three at most.
+pub const SUM_MOST: u32 = shown::VALUE + shown::LABEL + shown::ID;
 /// The first "who" of a triple that is a role.
 pub const FIRST_ROLE: u32 = USERS + 1;
-pub const LAST_WHO: u32 = USERS + 8;
+pub const WHO_MOST: u32 = USERS + 8;
 /// In the word of a triple, how far up its "who" and its operation stand.
 const WHO_SHIFT: u32 = 16;
 const OPERATION_SHIFT: u32 = 8;
 
 /// The words of a user's notice, from what is held on.
-pub const NOTICE_WORDS: usize = user::COUNT + 1 - user::HELD;
+pub const NOTICE_WORDS: usize = user::MISSED + 1 - user::HELD;
 
 /// The words of a user.
 pub mod user {
@@ -39,7 +43,7 @@ pub mod user {
     pub const DEVICE: usize = 4;
     pub const HELD: usize = 5;
     pub const HELD_OPERATION: usize = 6;
-    pub const COUNT: usize = 7;
+    pub const MISSED: usize = 7;
     pub const SPARE: usize = 8;
 }
 
@@ -59,7 +63,7 @@ pub mod entity {
 }
 
 /// The words of a request; each reference is its length, then its names.
-pub mod asked {
+pub mod request {
     pub const USER: usize = 0;
     pub const OPERATION: usize = 1;
     pub const FIRST: usize = 2;
@@ -71,15 +75,23 @@ pub mod asked {
 }
 
 pub mod kind {
+    pub const ABSENT: u32 = 0;
     pub const OBJECT: u32 = 1;
     pub const CONTAINER: u32 = 2;
     pub const DEVICE: u32 = 3;
 }
 
-pub mod type_of {
+pub mod types {
     pub const PLAIN: u32 = 0;
     pub const DRAFT: u32 = 1;
     pub const RELEASED: u32 = 2;
+}
+
+/// What a create makes.
+pub mod sort {
+    pub const OBJECT: u32 = 1;
+    pub const CONTAINER: u32 = 2;
+    pub const DRAFT: u32 = 3;
 }
 
 pub mod role {
@@ -92,10 +104,9 @@ pub mod shown {
     pub const VALUE: u32 = 1;
     pub const LABEL: u32 = 2;
     pub const ID: u32 = 4;
-    pub const ALL: u32 = VALUE + LABEL + ID;
 }
 
-pub mod operation {
+pub mod op {
     pub const CREATE: u32 = 1;
     pub const DELETE: u32 = 2;
     pub const MOVE: u32 = 3;
@@ -109,27 +120,27 @@ pub mod operation {
     pub const CLEAR: u32 = 11;
     pub const LOGIN: u32 = 12;
     pub const LOGOUT: u32 = 13;
-    pub const SET_CURRENT: u32 = 14;
-    pub const SET_CLEARANCE: u32 = 15;
-    pub const SET_AUTHORISED: u32 = 16;
-    pub const SET_MAXIMUM: u32 = 17;
-    pub const SET_DEVICE_LEVEL: u32 = 18;
+    pub const CURRENT_ROLES: u32 = 14;
+    pub const CLEARANCE: u32 = 15;
+    pub const AUTHORISED_ROLES: u32 = 16;
+    pub const MAXIMUM: u32 = 17;
+    pub const DEVICE_LEVEL: u32 = 18;
     pub const RELEASE: u32 = 19;
     pub const ACKNOWLEDGE: u32 = 20;
 }
 
-/// The answers by their numbers.
-pub mod answer {
+/// The refusals by their numbers, and 0 for none.
+pub mod refusal {
     pub const ACCEPTED: u32 = 0;
     pub const BAD_LENGTH: u32 = 1;
     pub const NOT_WELL_FORMED: u32 = 2;
     pub const NOT_SECURE: u32 = 3;
-    pub const UNKNOWN_USER: u32 = 4;
+    pub const UNKNOWN_REQUESTER: u32 = 4;
     pub const BAD_REQUEST: u32 = 5;
     pub const NOT_LOGGED_ON: u32 = 6;
     pub const NO_SUCH_NAME: u32 = 7;
     pub const NO_ACCESS: u32 = 8;
-    pub const MARKED_PATH: u32 = 9;
+    pub const MARKED: u32 = 9;
     pub const WRONG_KIND: u32 = 10;
     pub const NO_SUCH_USER: u32 = 11;
     pub const ROLE_MISSING: u32 = 12;
@@ -137,11 +148,12 @@ pub mod answer {
     pub const NO_ROOM: u32 = 14;
     pub const ARRANGEMENT: u32 = 15;
     pub const NOT_ACKNOWLEDGED: u32 = 16;
-    /// The last that a step gives.
-    pub const LAST_OF_STEP: u32 = NOT_ACKNOWLEDGED;
-    pub const ROOM_TOO_SHORT: u32 = 17;
-    pub const NO_REQUEST: u32 = 18;
+    pub const TOO_SHORT: u32 = 17;
+    pub const NOT_A_REQUEST: u32 = 18;
 }
+
+/// The last refusal that a step gives.
+pub const STEP_MOST: u32 = refusal::NOT_ACKNOWLEDGED;
 
 /// The first word of a user, who is numbered from 1.
 pub const fn user_base(number: u32) -> usize {

@@ -1,5 +1,5 @@
 //! Levels that stand in some relation to a given one.
-use crate::layout::{COMPARTMENTS, COMPARTMENT_BITS, MAX_LEVEL};
+use crate::layout::{COMPARTMENTS, COMPARTMENT_BITS, LEVEL_MOST};
 use crate::Dice;
 
 /// Bits of a level: those of the compartments, and two for the rank above them.
@@ -26,6 +26,6 @@ pub fn near(dice: &mut Dice, level: u32) -> u32 {
         0 => lower(dice, level),
         1 => higher(dice, level),
         2 => level ^ 1 << dice.below(LEVEL_BITS),
-        _ => dice.between(0, MAX_LEVEL),
+        _ => dice.between(0, LEVEL_MOST),
     }
 }

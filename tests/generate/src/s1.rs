@@ -1,5 +1,5 @@
 //! Case state S1, the small tables that document 01 gives its examples for.
-use crate::layout::{entity, entity_base, kind, operation, triple, type_of, user, user_base, TABLE_WORDS};
+use crate::layout::{entity, entity_base, kind, op, triple, types, user, user_base, TABLE_WORDS};
 
 /// The container that S1 marks, with entity 5 in its first place.
 pub const MARKED: u32 = 4;
@@ -22,7 +22,7 @@ fn put_entity<'a>(tables: &'a mut [u32], number: u32, kind: u32, level: u32, tri
 
 /// The tables of case state S1.
 pub fn s1() -> Vec<u32> {
-    use operation::{COPY, CREATE, LOGIN, RELEASE, SET_LEVEL, SHOW};
+    use op::{COPY, CREATE, LOGIN, RELEASE, SET_LEVEL, SHOW};
     let mut tables = vec![0; TABLE_WORDS];
     let t = &mut tables[..];
     put_user(t, 1, [1023, 7, 1, 1]);
@@ -37,7 +37,7 @@ pub fn s1() -> Vec<u32> {
     marked[entity::CONTENTS..entity::CONTENTS + 2].copy_from_slice(&[5, 6]);
     put_entity(t, 5, kind::OBJECT, 256, &[triple(2, SHOW, 1), triple(2, COPY, 1)])[entity::VALUE] = 40;
     let draft = put_entity(t, 6, kind::CONTAINER, 513, &[triple(1, RELEASE, 1)]);
-    draft[entity::TYPE] = type_of::DRAFT;
+    draft[entity::TYPE] = types::DRAFT;
     draft[entity::VALUE] = 41;
     put_entity(t, 7, kind::CONTAINER, 256, &[triple(2, COPY, 2), triple(2, CREATE, 1), triple(1, SET_LEVEL, 1)]);
     tables

@@ -23,8 +23,8 @@ pub fn contents(record: &[u32]) -> &[u32] {
 /// The triples of an entity, without the zeros behind them.
 pub fn triples(record: &[u32]) -> &[u32] {
     let all = &record[entity::TRIPLES..][..TRIPLES as usize];
-    let used = all.iter().position(|&triple| triple == 0).unwrap_or(all.len());
-    &all[..used]
+    let end = all.iter().position(|&triple| triple == 0).unwrap_or(all.len());
+    &all[..end]
 }
 
 /// The place, from 1, at which a record holds an entity.
@@ -96,7 +96,8 @@ pub fn allows(tables: &[u32], number: u32, user: u32, operation: u32, position: 
 
 /// Any present entity; 1 where there is none.
 pub fn present_entity(dice: &mut Dice, tables: &[u32]) -> u32 {
-    let present: Vec<u32> = (1..=ENTITIES).filter(|&number| entity_record(tables, number)[entity::KIND] != 0).collect();
+    let present: Vec<u32> =
+        (1..=ENTITIES).filter(|&number| entity_record(tables, number)[entity::KIND] != kind::ABSENT).collect();
     any_of(dice, &present).unwrap_or(1)
 }
 

@@ -1,6 +1,7 @@
 //! What each operation takes, and whether a request has that form: rung 5 [rules 5.4, 7.5].
 
 use crate::refusal::Refusal;
+use crate::tables::{is_screen, is_terminal};
 use crate::words::*;
 
 /// What an operand must be [rule 5.5].
@@ -11,7 +12,8 @@ pub enum Operand {
     Entity,
     Container,
     Draft,
-    Device,
+    Screen,
+    Terminal,
 }
 
 impl Operand {
@@ -23,8 +25,9 @@ impl Operand {
             Operand::Any => true,
             Operand::Entity => kind == kind::OBJECT || kind == kind::CONTAINER,
             Operand::Container => kind == kind::CONTAINER,
-            Operand::Draft => kind == kind::CONTAINER && words[entity::TYPE] == sort::DRAFT,
-            Operand::Device => kind == kind::DEVICE,
+            Operand::Draft => kind == kind::CONTAINER && words[entity::TYPE] == types::DRAFT,
+            Operand::Screen => is_screen(kind),
+            Operand::Terminal => is_terminal(kind),
         }
     }
 }
@@ -41,18 +44,18 @@ pub struct Form {
 
 const UNUSED: Span = Span(0, 0);
 const FREE: Span = Span(0, u32::MAX);
-const SORT: Span = Span(1, 3);
-const LEVEL: Span = Span(0, HIGHEST_LEVEL);
+const SORT: Span = Span(sort::OBJECT, sort::DRAFT);
+const LEVEL: Span = Span(0, LEVEL_MOST);
 const FLAG: Span = Span(0, 1);
-const WHO: Span = Span(1, WHOS);
-const OPERATION: Span = Span(1, OPERATIONS);
-const POSITION: Span = Span(1, POSITIONS);
-const SUM: Span = Span(1, shown::ALL);
+const WHO: Span = Span(1, WHO_MOST);
+const OPERATION: Span = Span(1, OPERATION_MOST);
+const POSITION: Span = Span(1, POSITION_MOST);
+const SUM: Span = Span(1, SUM_MOST);
 const USER: Span = Span(1, USERS);
-const ROLE_SET: Span = Span(0, ALL_ROLES);
+const ROLE_SET: Span = Span(0, ROLES_MOST);
 
 /// The forms of operations 1 to 20 in their order.
-static FORMS: [Form; OPERATIONS as usize] = [
+static FORMS: [Form; OPERATION_MOST as usize] = [
     one(Operand::Container, [SORT, LEVEL, UNUSED]),  // create
     one(Operand::Entity, [UNUSED; 3]),               // delete
     two(Operand::Entity, Operand::Container),        // move
@@ -64,13 +67,13 @@ static FORMS: [Form; OPERATIONS as usize] = [
     one(Operand::Any, [WHO, OPERATION, POSITION]),   // revoke
     one(Operand::Entity, [SUM, UNUSED, UNUSED]),     // show
     none([UNUSED; 3]),                               // clear
-    one(Operand::Device, [UNUSED; 3]),               // login
+    one(Operand::Terminal, [UNUSED; 3]),             // login
     none([UNUSED; 3]),                               // logout
     none([USER, ROLE_SET, UNUSED]),                  // current roles
     none([USER, LEVEL, UNUSED]),                     // clearance
     none([USER, ROLE_SET, UNUSED]),                  // authorised roles
-    one(Operand::Device, [LEVEL, UNUSED, UNUSED]),   // maximum
-    one(Operand::Device, [LEVEL, UNUSED, UNUSED]),   // device level
+    one(Operand::Screen, [LEVEL, UNUSED, UNUSED]),   // maximum
+    one(Operand::Screen, [LEVEL, UNUSED, UNUSED]),   // device level
     one(Operand::Draft, [UNUSED; 3]),                // release
     none([FREE, FREE, UNUSED]),                      // acknowledge
 ];
@@ -94,8 +97,8 @@ const fn two(first: Operand, second: Operand) -> Form {
 pub fn of(request: &Request) -> Result<&'static Form, Refusal> {
     // 0 wraps to a number far beyond the last operation.
     let row = request[request::OPERATION].wrapping_sub(1) as usize;
-    let form = FORMS.get(row).ok_or(Refusal::Form)?;
-    Refusal::Form.unless(form.fits(request))?;
+    let form = FORMS.get(row).ok_or(Refusal::BadRequest)?;
+    Refusal::BadRequest.unless(form.fits(request))?;
     Ok(form)
 }
 

@@ -13,7 +13,7 @@ use crate::Rules;
 pub fn advance<R: Rules>(tables: &mut Tables, request: &Request) -> u32 {
     let requester = match User::present(tables, request[request::USER]) {
         Some(requester) => requester,
-        None => return Refusal::NoRequester as u32,
+        None => return Refusal::UnknownRequester as u32,
     };
     match judge::<R>(tables, requester, request) {
         Ok(()) => 0,
@@ -29,7 +29,7 @@ fn judge<R: Rules>(tables: &mut Tables, requester: User, request: &Request) -> R
     let form = form::of(request)?;
     let operation = request[request::OPERATION];
     let while_off = matches!(operation, op::LOGIN | op::ACKNOWLEDGE);
-    Refusal::LoggedOff.unless(while_off || device_of(tables, requester).is_some())?;
+    Refusal::NotLoggedOn.unless(while_off || device_of(tables, requester).is_some())?;
 
     let clearance = clearance_of(tables, requester);
     let find = |operand: usize| -> Result<Option<Found>, Refusal> {
@@ -41,7 +41,7 @@ fn judge<R: Rules>(tables: &mut Tables, requester: User, request: &Request) -> R
     let whos = Whos::of::<R>(tables, requester);
     let allowed =
         |(found, position): (&Found, u32)| whos.allowed(entity_words(tables, found.entity), operation, position);
-    Refusal::NoTriple.unless(found.iter().flatten().zip(1..).all(allowed))?;
+    Refusal::NoAccess.unless(found.iter().flatten().zip(1..).all(allowed))?;
     Refusal::Marked.unless(!found.iter().flatten().any(|found| found.barred))?;
     let fits = |(found, operand): (&Found, &Operand)| operand.accepts(entity_words(tables, found.entity));
     Refusal::WrongKind.unless(found.iter().flatten().zip(form.operands.iter().flatten()).all(fits))?;
@@ -50,11 +50,11 @@ fn judge<R: Rules>(tables: &mut Tables, requester: User, request: &Request) -> R
     effects::carry_out::<R>(&mut Turn { tables, requester, request }, first, second)
 }
 
-/// Holds the refusal if none is held, and counts it. The count stops at its most [rule 8.2].
+/// Holds the refusal if none is held, and adds it to those missed, which stop at their most [rule 8.2].
 fn leave_notice<R: Rules>(words: &mut UserWords, refusal: u32, operation: u32) {
     if words[user::HELD] == 0 || R::NOTICE {
         words[user::HELD] = refusal;
-        words[user::HELD_OPERATION] = if operation <= OPERATIONS { operation } else { 0 };
+        words[user::HELD_OPERATION] = if operation <= OPERATION_MOST { operation } else { 0 };
     }
-    words[user::COUNT] = (words[user::COUNT] + 1).min(MOST_COUNTED);
+    words[user::MISSED] = (words[user::MISSED] + 1).min(MISSED_MOST);
 }

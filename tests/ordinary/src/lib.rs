@@ -51,8 +51,8 @@ pub fn advance<R: Rules>(tables: &mut [u32], request: &[u32]) -> u32 {
 /// Writes every reference that the user could show into the room, as entries of five words, and answers their count.
 pub fn list<R: Rules>(tables: &[u32], user: u32, room: &mut [u32]) -> Reply {
     let admitted = checked::<R>(tables).and_then(|tables| {
-        let user = User::present(tables, user).ok_or(Refusal::NoRequester)?;
-        let device = tables::device_of(tables, user).ok_or(Refusal::LoggedOff)?;
+        let user = User::present(tables, user).ok_or(Refusal::UnknownRequester)?;
+        let device = tables::device_of(tables, user).ok_or(Refusal::NotLoggedOn)?;
         Ok((tables, user, device))
     });
     match admitted {
@@ -65,7 +65,7 @@ pub fn list<R: Rules>(tables: &[u32], user: u32, room: &mut [u32]) -> Reply {
 pub fn read<R: Rules>(text: &[u8], request: &mut [u32]) -> Reply {
     match request.try_into() {
         Ok(request) => text::read::whole::<R>(text, request),
-        Err(_) => Reply::to(Err(Refusal::Length)),
+        Err(_) => Reply::to(Err(Refusal::BadLength)),
     }
 }
 
@@ -73,7 +73,7 @@ pub fn read<R: Rules>(text: &[u8], request: &mut [u32]) -> Reply {
 pub fn write<R: Rules>(request: &[u32], room: &mut [u8]) -> Reply {
     match request.try_into() {
         Ok(request) => text::write::whole::<R>(request, room),
-        Err(_) => Reply::to(Err(Refusal::Length)),
+        Err(_) => Reply::to(Err(Refusal::BadLength)),
     }
 }
 
@@ -86,12 +86,12 @@ pub fn run<R: Rules>(state: &[u8], script: &[u8]) -> Vec<u8> {
 fn lent<'a>(tables: &'a mut [u32], request: &'a [u32]) -> Result<(&'a mut Tables, &'a Request), Refusal> {
     match (tables.try_into(), request.try_into()) {
         (Ok(tables), Ok(request)) => Ok((tables, request)),
-        _ => Err(Refusal::Length),
+        _ => Err(Refusal::BadLength),
     }
 }
 
 /// The tables behind a slice, or which of rungs 1 to 3 refuses them.
 fn checked<R: Rules>(tables: &[u32]) -> Result<&Tables, Refusal> {
-    let tables: &Tables = tables.try_into().map_err(|_| Refusal::Length)?;
+    let tables: &Tables = tables.try_into().map_err(|_| Refusal::BadLength)?;
     check::judge::<R>(tables).map(|()| tables)
 }

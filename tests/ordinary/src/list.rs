@@ -132,7 +132,7 @@ impl<'a> Viewer<'a> {
 
     /// Whether a reference may go through the entity.
     fn may_pass<R: Rules>(&self, words: &EntityWords) -> bool {
-        let forgotten = R::DEVICES && words[entity::KIND] == kind::DEVICE;
+        let forgotten = R::DEVICES && is_screen(words[entity::KIND]);
         let barred = !(R::NAMED || R::MARK) && reference::bars::<R>(words, self.clearance);
         !forgotten && !barred
     }

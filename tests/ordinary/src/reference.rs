@@ -15,13 +15,13 @@ pub struct Found {
 /// Follows the reference that starts at that word of a request whose form fits.
 pub fn follow<R: Rules>(tables: &Tables, request: &Request, at: usize, clearance: Level) -> Result<Found, Refusal> {
     let names = &request[at + 1..][..request[at] as usize];
-    let (first, places) = names.split_first().ok_or(Refusal::NameLeadsNowhere)?;
-    let mut entity = Entity::present(tables, *first).ok_or(Refusal::NameLeadsNowhere)?;
+    let (first, places) = names.split_first().ok_or(Refusal::NoSuchName)?;
+    let mut entity = Entity::present(tables, *first).ok_or(Refusal::NoSuchName)?;
     let mut barred = false;
     for place in places {
         let words = entity_words(tables, entity);
         barred |= bars::<R>(words, clearance);
-        entity = at_place(words, *place).ok_or(Refusal::NameLeadsNowhere)?;
+        entity = at_place(words, *place).ok_or(Refusal::NoSuchName)?;
     }
     if R::MARK {
         barred = bars::<R>(entity_words(tables, entity), clearance);

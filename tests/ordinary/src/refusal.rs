@@ -11,14 +11,14 @@ pub struct Reply {
 #[derive(Clone, Copy, Debug, PartialEq, Eq)]
 #[repr(u32)]
 pub enum Refusal {
-    Length = 1,
+    BadLength = 1,
     NotWellFormed = 2,
     NotSecure = 3,
-    NoRequester = 4,
-    Form = 5,
-    LoggedOff = 6,
-    NameLeadsNowhere = 7,
-    NoTriple = 8,
+    UnknownRequester = 4,
+    BadRequest = 5,
+    NotLoggedOn = 6,
+    NoSuchName = 7,
+    NoAccess = 8,
     Marked = 9,
     WrongKind = 10,
     NoSuchUser = 11,
@@ -26,7 +26,7 @@ pub enum Refusal {
     LevelOrRoles = 13,
     NoRoom = 14,
     Arrangement = 15,
-    Acknowledgement = 16,
+    NotAcknowledged = 16,
     TooShort = 17,
     NotARequest = 18,
 }

@@ -45,12 +45,12 @@ fn words_of(state: &[u8]) -> Vec<u32> {
 /// Answers one request, and tells the requester's notice as the request has left it.
 fn answer<R: Rules>(tables: &mut [u32], request: &Request) -> Report {
     let answer = crate::step::<R>(tables, request).answer;
-    let noticed = answer == 0 || answer > Refusal::NoRequester as u32;
+    let noticed = answer == 0 || answer > Refusal::UnknownRequester as u32;
     let notice = |word: usize| match User::new(request[request::USER]) {
         Some(user) if noticed => tables[user.start() + word],
         _ => 0,
     };
-    Report { answer, held: notice(user::HELD), missed: notice(user::COUNT) }
+    Report { answer, held: notice(user::HELD), missed: notice(user::MISSED) }
 }
 
 impl Report {

@@ -111,6 +111,18 @@ pub fn kind_of(tables: &Tables, entity: Entity) -> u32 {
     tables[entity.start() + entity::KIND]
 }
 
+/// Whether entities of that kind are screens, which show things. Devices are, and no others.
+#[inline]
+pub fn is_screen(kind: u32) -> bool {
+    kind == kind::DEVICE
+}
+
+/// Whether entities of that kind are terminals, which users log on to. Devices are, and no others.
+#[inline]
+pub fn is_terminal(kind: u32) -> bool {
+    kind == kind::DEVICE
+}
+
 /// How high an entity stands; for a device, the level it is set to now.
 #[inline]
 pub fn level_of(tables: &Tables, entity: Entity) -> Level {

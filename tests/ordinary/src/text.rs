@@ -16,8 +16,8 @@ enum Value {
 const LINES: [(&[u8], Value); 7] = [
     (b"user=", Value::Number(request::USER)),
     (b"op=", Value::Number(request::OPERATION)),
-    (b"ref=", Value::Reference(request::REFERENCES[0])),
-    (b"ref2=", Value::Reference(request::REFERENCES[1])),
+    (b"ref=", Value::Reference(request::FIRST)),
+    (b"ref2=", Value::Reference(request::SECOND)),
     (b"a=", Value::Number(request::A)),
     (b"b=", Value::Number(request::B)),
     (b"c=", Value::Number(request::C)),

@@ -16,14 +16,18 @@ pub const PLACES: usize = 8;
 /// Names of the longest reference.
 pub const NAMES: usize = 4;
 
-pub const HIGHEST_LEVEL: u32 = 1023;
-pub const ALL_ROLES: u32 = 255;
-pub const OPERATIONS: u32 = 20;
-pub const POSITIONS: u32 = 2;
+pub const KIND_MOST: u32 = kind::DEVICE;
+pub const LEVEL_MOST: u32 = 1023;
+pub const ROLES_MOST: u32 = 255;
+pub const OPERATION_MOST: u32 = 20;
+pub const POSITION_MOST: u32 = 2;
 /// Users and then roles: whom a triple can name.
-pub const WHOS: u32 = USERS + ROLES;
+pub const WHO_MOST: u32 = USERS + ROLES;
 pub const ROLES: u32 = 8;
-pub const MOST_COUNTED: u32 = 65_535;
+/// The number of a notice goes no higher.
+pub const MISSED_MOST: u32 = 65_535;
+/// What is shown of an entity is a sum, of all three at most.
+pub const SUM_MOST: u32 = shown::VALUE + shown::LABEL + shown::ID;
 
 pub type Tables = [u32; TABLE_WORDS];
 pub type Request = [u32; REQUEST_WORDS];
@@ -39,7 +43,7 @@ pub mod user {
     pub const DEVICE: usize = 4;
     pub const HELD: usize = 5;
     pub const HELD_OPERATION: usize = 6;
-    pub const COUNT: usize = 7;
+    pub const MISSED: usize = 7;
     pub const SPARE: usize = 8;
 }
 
@@ -65,8 +69,10 @@ pub mod entity {
 pub mod request {
     pub const USER: usize = 0;
     pub const OPERATION: usize = 1;
-    /// Where each reference starts: its length, and behind that its names.
-    pub const REFERENCES: [usize; 2] = [2, 7];
+    pub const FIRST: usize = 2;
+    pub const SECOND: usize = 7;
+    /// Where each reference starts: its length, and after that its names.
+    pub const REFERENCES: [usize; 2] = [FIRST, SECOND];
     pub const A: usize = 12;
     pub const B: usize = 13;
     pub const C: usize = 14;
@@ -82,17 +88,24 @@ pub mod kind {
 }
 
 /// Types of containers; all other entities are plain.
-pub mod sort {
+pub mod types {
     pub const PLAIN: u32 = 0;
     pub const DRAFT: u32 = 1;
     pub const RELEASED: u32 = 2;
+}
+
+/// What a create makes.
+pub mod sort {
+    pub const OBJECT: u32 = 1;
+    pub const CONTAINER: u32 = 2;
+    pub const DRAFT: u32 = 3;
 }
 
 /// What a device shows of an entity.
 pub mod shown {
     pub const VALUE: u32 = 1;
     pub const LABEL: u32 = 2;
-    pub const ALL: u32 = 7;
+    pub const ID: u32 = 4;
 }
 
 /// Roles that the desk itself asks for.
@@ -109,8 +122,8 @@ pub mod op {
     pub const MOVE: u32 = 3;
     pub const EDIT: u32 = 4;
     pub const COPY: u32 = 5;
-    pub const LEVEL: u32 = 6;
-    pub const MARK: u32 = 7;
+    pub const SET_LEVEL: u32 = 6;
+    pub const SET_MARK: u32 = 7;
     pub const GRANT: u32 = 8;
     pub const REVOKE: u32 = 9;
     pub const SHOW: u32 = 10;

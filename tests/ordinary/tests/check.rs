@@ -3,12 +3,10 @@
 mod common;
 
 use common::*;
+use generate::layout::refusal::{BAD_LENGTH, NOT_SECURE, NOT_WELL_FORMED};
 use generate::layout::{entity_base, user_base};
 use generate::s1;
 use ordinary::{check, list, step, Reply, Right, REQUEST_WORDS, TABLE_WORDS};
-
-const NOT_WELL_FORMED: u32 = 2;
-const NOT_SECURE: u32 = 3;
 
 /// Case state S1 with entity 5 shown on device 2 and a refusal held by user 1.
 fn base() -> Tables {
@@ -51,8 +49,8 @@ const USERS: &[Case] = &[
     ("3.19", &[(u(1, 5), 17)], NOT_WELL_FORMED),
     ("3.19 least and most", &[(u(1, 5), 5)], 0),
     ("3.19 least and most", &[(u(1, 5), 16)], 0),
-    ("3.20 held without count", &[(u(1, 7), 0)], NOT_WELL_FORMED),
-    ("3.20 count without held", &[(u(1, 5), 0), (u(1, 6), 0)], NOT_WELL_FORMED),
+    ("3.20 held without missed", &[(u(1, 7), 0)], NOT_WELL_FORMED),
+    ("3.20 missed without held", &[(u(1, 5), 0), (u(1, 6), 0)], NOT_WELL_FORMED),
     ("3.20 operation without held", &[(u(1, 5), 0), (u(1, 7), 0)], NOT_WELL_FORMED),
     ("3.20 held without operation", &[(u(1, 6), 0)], 0),
     ("3.21", &[(u(1, 7), 65_535)], 0),
@@ -144,23 +142,23 @@ fn entities_are_looked_at() {
     ENTITIES.iter().for_each(assert_answers);
 }
 
-const LENGTH: Reply = Reply { answer: 1, number: 0 };
+const OTHER_LENGTH: Reply = Reply { answer: BAD_LENGTH, number: 0 };
 
 #[test]
 fn lengths_of_tables_are_looked_at_first() {
     let request = request(2, 11, &[], &[], [0; 3]);
     for length in [0, 1, TABLE_WORDS - 1, TABLE_WORDS + 1] {
         let mut tables = vec![u32::MAX; length];
-        assert_eq!(check::<Right>(&tables), LENGTH);
-        assert_eq!(step::<Right>(&mut tables, &request), LENGTH);
-        assert_eq!(list::<Right>(&tables, 2, &mut []), LENGTH);
+        assert_eq!(check::<Right>(&tables), OTHER_LENGTH);
+        assert_eq!(step::<Right>(&mut tables, &request), OTHER_LENGTH);
+        assert_eq!(list::<Right>(&tables, 2, &mut []), OTHER_LENGTH);
     }
 }
 
 #[test]
 fn lengths_of_requests_are_looked_at_first() {
     for length in [0, 1, REQUEST_WORDS - 1, REQUEST_WORDS + 1] {
-        assert_eq!(step::<Right>(&mut vec![u32::MAX; TABLE_WORDS], &vec![0; length]), LENGTH);
+        assert_eq!(step::<Right>(&mut vec![u32::MAX; TABLE_WORDS], &vec![0; length]), OTHER_LENGTH);
     }
 }
 

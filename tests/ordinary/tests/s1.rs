@@ -3,8 +3,8 @@
 mod common;
 
 use common::*;
-use generate::layout::operation::{ACKNOWLEDGE, COPY, CREATE, LOGIN, RELEASE, SET_CURRENT, SET_LEVEL, SHOW};
-use generate::layout::{asked, entity, NAMES};
+use generate::layout::op::{ACKNOWLEDGE, COPY, CREATE, CURRENT_ROLES, LOGIN, RELEASE, SET_LEVEL, SHOW};
+use generate::layout::{entity, request, NAMES};
 use generate::{s1, s1_unmarked};
 use ordinary::{advance, check, list, read, run, step, write, Reply, Right, ENTRY_WORDS, REQUEST_WORDS};
 
@@ -16,9 +16,9 @@ fn show(user: u32, names: &[u32], sum: u32) -> Vec<u32> {
     request(user, SHOW, names, &[], [sum, 0, 0])
 }
 
-/// An acknowledgement of this refusal, and of so many.
-fn acknowledge(user: u32, held: u32, count: u32) -> Vec<u32> {
-    request(user, ACKNOWLEDGE, &[], &[], [held, count, 0])
+/// An acknowledgement of this refusal, and of so many missed.
+fn acknowledge(user: u32, held: u32, missed: u32) -> Vec<u32> {
+    request(user, ACKNOWLEDGE, &[], &[], [held, missed, 0])
 }
 
 /// The answer to a request; `advance` must agree, and the tables must be in order afterwards.
@@ -53,7 +53,7 @@ fn user_2_shows() {
 fn a_length_of_five_is_no_form() {
     let mut tables = s1();
     let mut long = show(2, &[5], VALUE_AND_LABEL);
-    long[asked::FIRST] = NAMES + 1;
+    long[request::FIRST] = NAMES + 1;
     assert_eq!(answer(&mut tables, &long), 5);
     assert_eq!(notice(&tables, 2), [5, SHOW, 1]);
 }
@@ -82,7 +82,7 @@ fn user_1_releases_6_as_a_releaser_only() {
     let release = request(1, RELEASE, &[6], &[], [0; 3]);
     assert_eq!(answer(&mut s1(), &release), 12);
     let mut tables = s1();
-    assert_eq!(answer(&mut tables, &request(1, SET_CURRENT, &[], &[], [1, 5, 0])), 0);
+    assert_eq!(answer(&mut tables, &request(1, CURRENT_ROLES, &[], &[], [1, 5, 0])), 0);
     assert_eq!(answer(&mut tables, &release), 0);
     let released = [entity::TYPE, entity::RELEASER].map(|word| entity_word(&tables, 6, word));
     assert_eq!(released, [2, 1]);

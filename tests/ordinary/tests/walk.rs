@@ -5,8 +5,8 @@ mod common;
 use common::random::{first_tables, follow, operand, permit, random_request, BEYOND};
 use common::*;
 use generate::layout::{
-    answer, asked, entity, entity_base, operation, shown, triple, user, user_base, ENTITIES, NAMES, NOTICE_WORDS,
-    OPERATIONS, PLACES, USERS,
+    entity, entity_base, kind, op, refusal, request, shown, triple, user, user_base, ENTITIES, NAMES, NOTICE_WORDS,
+    OPERATION_MOST, PLACES, STEP_MOST, USERS,
 };
 use generate::view::{is_on, users_where};
 use generate::Dice;
@@ -21,30 +21,30 @@ const STEPS_PER_WALK: usize = 3_000;
 /// What operations 6, 15 and 18 may set is what the whole check says of the tables with that word set.
 fn compare_with_whole_check(before: &Tables, request: &[u32], given: u32) {
     let mut changed = before.clone();
-    let [a, b] = [request[asked::A], request[asked::B]];
-    match (request[asked::OPERATION], operand(before, request)) {
-        (operation::SET_LEVEL, Some(entity)) | (operation::SET_DEVICE_LEVEL, Some(entity)) => {
+    let [a, b] = [request[request::A], request[request::B]];
+    match (request[request::OPERATION], operand(before, request)) {
+        (op::SET_LEVEL, Some(entity)) | (op::DEVICE_LEVEL, Some(entity)) => {
             changed[entity_base(entity) + entity::LEVEL] = a;
         }
-        (operation::SET_CLEARANCE, _) if (1..=USERS).contains(&a) => changed[user_base(a) + user::CLEARANCE] = b,
+        (op::CLEARANCE, _) if (1..=USERS).contains(&a) => changed[user_base(a) + user::CLEARANCE] = b,
         _ => return,
     }
     match given {
-        answer::ACCEPTED => assert_eq!(check::<Right>(&changed).answer, answer::ACCEPTED),
-        answer::LEVEL_OR_ROLES => assert_eq!(check::<Right>(&changed).answer, answer::NOT_SECURE),
+        refusal::ACCEPTED => assert_eq!(check::<Right>(&changed).answer, refusal::ACCEPTED),
+        refusal::LEVEL_OR_ROLES => assert_eq!(check::<Right>(&changed).answer, refusal::NOT_SECURE),
         _ => (),
     }
 }
 
-/// A refusal leaves all but the requester's notice, which holds the first refusal and counts them.
+/// A refusal leaves all but the requester's notice, which holds the first refusal and how many were missed.
 fn compare_notice(before: &Tables, after: &Tables, request: &[u32], given: u32) {
     let mut expected = before.clone();
-    if given > answer::UNKNOWN_USER {
-        let operation = request[asked::OPERATION];
-        let notice = &mut expected[user_base(request[asked::USER]) + user::HELD..][..NOTICE_WORDS];
+    if given > refusal::UNKNOWN_REQUESTER {
+        let operation = request[request::OPERATION];
+        let notice = &mut expected[user_base(request[request::USER]) + user::HELD..][..NOTICE_WORDS];
         if notice[0] == 0 {
             notice[0] = given;
-            notice[1] = if (1..=OPERATIONS).contains(&operation) { operation } else { 0 };
+            notice[1] = if (1..=OPERATION_MOST).contains(&operation) { operation } else { 0 };
         }
         notice[2] += 1;
     }
@@ -65,15 +65,15 @@ fn references(tables: &Tables, names: &[u32], longest: usize) -> Vec<Vec<u32>> {
 fn permitted(tables: &Tables, user: u32, dice: &mut Dice) -> Tables {
     let mut tables = tables.clone();
     for number in 1..=ENTITIES {
-        let is_present = entity_word(&tables, number, entity::KIND) != 0;
-        permit(&mut tables, Some(number).filter(|_| is_present && dice.chance(70)), triple(user, operation::SHOW, 1));
+        let is_present = entity_word(&tables, number, entity::KIND) != kind::ABSENT;
+        permit(&mut tables, Some(number).filter(|_| is_present && dice.chance(70)), triple(user, op::SHOW, 1));
     }
     tables
 }
 
 /// A request to show the value and the label of what these names lead to.
 fn show(user: u32, names: &[u32]) -> Vec<u32> {
-    request(user, operation::SHOW, names, &[], [shown::VALUE | shown::LABEL, 0, 0])
+    request(user, op::SHOW, names, &[], [shown::VALUE | shown::LABEL, 0, 0])
 }
 
 /// The list is the references that show answers with 0 or 14; gives how many they are.
@@ -81,10 +81,10 @@ fn compare_list(tables: &Tables, user: u32) -> usize {
     let all = (1..=ENTITIES).flat_map(|number| references(tables, &[number], NAMES as usize));
     let listed = all.map(|names| show(user, &names)).filter(|request| {
         let given = advance::<Right>(&mut tables.clone(), request);
-        given == answer::ACCEPTED || given == answer::NO_ROOM
+        given == refusal::ACCEPTED || given == refusal::NO_ROOM
     });
     // An entry has the same words as the reference of a request.
-    let expected: Vec<u32> = listed.flat_map(|request| request[asked::FIRST..][..ENTRY_WORDS].to_vec()).collect();
+    let expected: Vec<u32> = listed.flat_map(|request| request[request::FIRST..][..ENTRY_WORDS].to_vec()).collect();
     let mut room = vec![u32::MAX; expected.len()];
     let count = expected.len() / ENTRY_WORDS;
     assert_eq!(list::<Right>(tables, user, &mut room), accepted(count as u32));
@@ -93,7 +93,7 @@ fn compare_list(tables: &Tables, user: u32) -> usize {
 }
 
 /// Answers to whatever is asked for as an operation, from 0 on, by how often they are given.
-type Answers = [[u32; answer::LAST_OF_STEP as usize + 1]; (OPERATIONS + BEYOND) as usize + 1];
+type Answers = [[u32; STEP_MOST as usize + 1]; (OPERATION_MOST + BEYOND) as usize + 1];
 
 /// Where a walk has come to, and what was seen on it.
 struct Walk {
@@ -111,10 +111,10 @@ impl Walk {
         let given = step::<Right>(&mut self.tables, &request).answer;
         assert_eq!(check::<Right>(&self.tables), accepted(0), "after {:?} with {}", request, given);
         compare_with_whole_check(&before, &request, given);
-        if given != answer::ACCEPTED {
+        if given != refusal::ACCEPTED {
             compare_notice(&before, &self.tables, &request, given);
         }
-        self.answers[request[asked::OPERATION] as usize][given as usize] += 1;
+        self.answers[request[request::OPERATION] as usize][given as usize] += 1;
     }
 
     /// Compares the lists of everybody who is on.
@@ -126,9 +126,9 @@ impl Walk {
 
     /// Every operation was accepted at least once, and some list was not empty.
     fn assert_went_far(&self) {
-        for (operation, given) in (1..=OPERATIONS).zip(&self.answers[1..]) {
+        for (operation, given) in (1..=OPERATION_MOST).zip(&self.answers[1..]) {
             println!("{:2} {:?}", operation, given);
-            assert!(given[answer::ACCEPTED as usize] > 0, "operation {} is never accepted", operation);
+            assert!(given[refusal::ACCEPTED as usize] > 0, "operation {} is never accepted", operation);
         }
         println!("{} entries", self.entries);
         assert!(self.entries > 0, "every list was empty");

@@ -166,13 +166,13 @@ impl Request {
         Request::made(user, Operation::Release, [draft, NONE], NOTHING)
     }
 
-    /// 20: the requester has seen that this refusal is held, and this count; nothing is held any more [rule 6.20]. Its
-    /// own refusal: 16 where nothing is held, or another refusal, or with another count. [`Tables::notice`] says what is
-    /// held, and has an example.
+    /// 20: the requester has seen that this refusal is held, and that so many were missed; nothing is held any more
+    /// [rule 6.20]. Its own refusal: 16 where nothing is held, or another refusal, or another number was missed.
+    /// [`Tables::notice`] says what is held, and has an example.
     ///
     /// [`Tables::notice`]: crate::Tables::notice
-    pub fn acknowledge(user: User, held: Refusal, count: u32) -> Request {
-        Request::made(user, Operation::Acknowledge, [NONE, NONE], [held.number(), count, 0])
+    pub fn acknowledge(user: User, held: Refusal, missed: u32) -> Request {
+        Request::made(user, Operation::Acknowledge, [NONE, NONE], [held.number(), missed, 0])
     }
 
     /// The request of these; each reference stands with its length in front, as in a list.

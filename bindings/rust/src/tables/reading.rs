@@ -2,12 +2,12 @@
 //! nothing; so it does where a word is out of its range, and in a row it leaves that word out. Whether the words of a
 //! record fit together is for the check to say.
 use super::Tables;
-use crate::layout::{entity, user, COUNT_MOST, ROW};
+use crate::layout::{entity, user, MISSED_MOST, ROW};
 use crate::{Entity, Kind, Level, Operation, Refusal, Roles, Shown, Triple, Type, User};
 use std::ops::RangeInclusive;
 
 /// The refusals that can be held [rule 3.19]: the others leave no notice.
-const CAN_BE_HELD: RangeInclusive<u32> = 5..=16;
+const CAN_BE_HELD: RangeInclusive<u32> = Refusal::BadRequest.number()..=Refusal::NotAcknowledged.number();
 
 /// What is kept for a user about refused requests, until it is acknowledged [rule 8.2].
 #[derive(Clone, Copy, Debug, PartialEq, Eq, Hash)]
@@ -17,7 +17,7 @@ pub struct Notice {
     /// The operation that was refused so; `None` where the request had no operation.
     pub operation: Option<Operation>,
     /// How many refusals there were since that acknowledgement, the one held among them: 1 to 65,535.
-    pub count: u32,
+    pub missed: u32,
 }
 
 impl Tables {
@@ -32,9 +32,9 @@ impl Tables {
     ///     tables.put_user(user, Level::LOWEST, Roles::NONE);
     ///     assert_eq!(tables.step(&Request::clear(user)), Err(Refusal::NotLoggedOn));
     ///     let notice = tables.notice(user).ok_or("no notice")?;
-    ///     assert_eq!(notice, Notice { held: Refusal::NotLoggedOn, operation: Some(Operation::Clear), count: 1 });
+    ///     assert_eq!(notice, Notice { held: Refusal::NotLoggedOn, operation: Some(Operation::Clear), missed: 1 });
     ///
-    ///     tables.step(&Request::acknowledge(user, notice.held, notice.count))?;
+    ///     tables.step(&Request::acknowledge(user, notice.held, notice.missed))?;
     ///     assert_eq!(tables.notice(user), None);
     ///     Ok(())
     /// }
@@ -45,8 +45,8 @@ impl Tables {
             0 => None,
             number => Some(Operation::from_number(number)?),
         };
-        let count = self.user_word(of, user::COUNT).filter(|count| (1..=COUNT_MOST).contains(count))?;
-        Some(Notice { held: Refusal::from_number(held, 0)?, operation, count })
+        let missed = self.user_word(of, user::MISSED).filter(|missed| (1..=MISSED_MOST).contains(missed))?;
+        Some(Notice { held: Refusal::from_number(held, 0)?, operation, missed })
     }
 
     /// Whether there is such a user.

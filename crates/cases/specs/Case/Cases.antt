@@ -1,14 +1,28 @@
--- How a case is written: what was asked before, what is asked, the answer, and words that stand afterwards.
+-- How a case is written: what was asked before, what is asked, the answer, and words that stand afterwards. An answer is written as its number,
+-- here and in every table of cases, as document 01 writes it.
 use mathlib.Core.Bool.{Bool, _&&_, false, true}
 use mathlib.Core.List.{List, [], _++_, _∷_}
-use Prim.Native.Nat.{ℕ}
+use Prim.Native.Nat.{_*_, _+_, _-_, _^_, ℕ}
 use lib.Dec.{eqb}
 use lib.ListN.{length}
+use Rattle.model.specs.Level.{compartmentCount, levelCount}
 use Rattle.model.specs.Request.After.{after}
 use Rattle.model.specs.Request.Ladder.{answer}
 use Rattle.model.specs.Request.Words.{Request, nameCount, requestOf}
 use Rattle.model.specs.Tables.Sheet.{padded}
-use Rattle.model.specs.Tables.Words.{EntityWord, Tables, UserWord, placeCount}
+use Rattle.model.specs.Tables.Words.{EntityWord, Tables, UserWord, held, heldOp, missed, placeCount}
+
+-- a level, by its rank and its compartments; the lowest, which has neither, is written 0
+abbrev pub at : ℕ → ℕ → ℕ
+at r c = r * 2 ^ compartmentCount + c
+
+-- every compartment
+abbrev pub everyCompartment : ℕ
+everyCompartment = 2 ^ compartmentCount - 1
+
+-- the highest level: the highest rank, and every compartment
+abbrev pub highest : ℕ
+highest = levelCount - 1
 
 -- an entity of a sheet: kind, type, level, mark, value, releaser, maximum; its contents, what is shown of them, its triples
 unfoldable pub item : ℕ → ℕ → ℕ → ℕ → ℕ → ℕ → ℕ → List ℕ → List ℕ → List ℕ → List ℕ
@@ -42,6 +56,10 @@ stand (entityIs e f v ∷ ws) d = elim (eqb (d .entity e f) v) [ true ↦ stand 
 
 pub data Case : Type 0 where
   expect : List Request → Request → ℕ → List Stands → Case
+
+-- the requester's first refusal: the notice has its number and the operation, and counts one; then the words that stand besides
+unfoldable pub noted : Request → ℕ → List Stands → Case
+noted q n ws = expect [] q n (userIs (q .user) held n ∷ userIs (q .user) heldOp (q .operation) ∷ userIs (q .user) missed 1 ∷ ws)
 
 -- the state is handed on, so that what was computed of it is found again
 unfoldable pub passesAt : Tables → List Request → Request → ℕ → List Stands → Bool

@@ -9,7 +9,7 @@ use Prim.Native.Nat.{ℕ}
 use native.Mathlib.Omega.{arith}
 use lib.Dec.{T, T-not, eqb}
 use Rattle.model.specs.Basics.Agree.{agrees-eq}
-use Rattle.cases.specs.Case.Cases.{ask}
+use Rattle.cases.specs.Case.Cases.{ask, at, highest}
 use Rattle.cases.specs.Case.Opened.{opened}
 use Rattle.cases.specs.Case.S1.{s1, s1Sheet}
 use Rattle.model.specs.Request.Operations.{toEdit, toRelease}
@@ -44,17 +44,17 @@ other-notice-condemned h = differ 9 0 tt (h .users 1 held (λ e t. differ 1 2 tt
 -- Rule 9.9: the desk set user 3's clearance for user 2, who has no role.
 pub clearance-condemned : SetSecure s1 (ask 2 15 [] [] 3 0 0) (onUser 3 (userWord clearance 0) s1) → ⊥
 unfolding opened s1 s1Sheet
-clearance-condemned h = h .clearance 3 (differ 0 513 tt)
+clearance-condemned h = h .clearance 3 (differ 0 (at 2 1) tt)
 
 -- Rule 9.9: the desk raised user 2's own clearance for user 2.
-pub own-clearance-condemned : SetSecure s1 (ask 2 15 [] [] 2 1023 0) (onUser 2 (userWord clearance 1023) s1) → ⊥
+pub own-clearance-condemned : SetSecure s1 (ask 2 15 [] [] 2 highest 0) (onUser 2 (userWord clearance highest) s1) → ⊥
 unfolding opened s1 s1Sheet
-own-clearance-condemned h = h .clearance 2 (differ 1023 256 tt)
+own-clearance-condemned h = h .clearance 2 (differ highest (at 1 0) tt)
 
 -- Rule 9.9: the desk set the maximum of device 3 for user 2.
 pub maximum-condemned : SetSecure s1 (ask 2 17 (3 ∷ []) [] 0 0 0) (onEntity 3 (word maximum 0) s1) → ⊥
 unfolding opened s1 s1Sheet
-maximum-condemned h = h .maximum 3 (kept 3 tt) (differ 0 1023 tt)
+maximum-condemned h = h .maximum 3 (kept 3 tt) (differ 0 highest tt)
 
 -- Rule 9.9: the desk set user 3's authorised roles for user 2.
 pub authorised-condemned : SetSecure s1 (ask 2 16 [] [] 3 7 0) (onUser 3 (userWord authorised 7) s1) → ⊥
@@ -73,12 +73,12 @@ s1With r = onUser 1 (userWord current r) s1
 -- Rule 9.9: the desk set each of the four for user 1, who has the other two roles now and not the officer's: a clearance,
 pub other-roles-clearance-condemned : SetSecure (s1With 6) (ask 1 15 [] [] 3 0 0) (onUser 3 (userWord clearance 0) (s1With 6)) → ⊥
 unfolding opened s1 s1Sheet
-other-roles-clearance-condemned h = h .clearance 3 (differ 0 513 tt)
+other-roles-clearance-condemned h = h .clearance 3 (differ 0 (at 2 1) tt)
 
 -- a maximum,
 pub other-roles-maximum-condemned : SetSecure (s1With 6) (ask 1 17 (3 ∷ []) [] 0 0 0) (onEntity 3 (word maximum 0) (s1With 6)) → ⊥
 unfolding opened s1 s1Sheet
-other-roles-maximum-condemned h = h .maximum 3 (kept 3 tt) (differ 0 1023 tt)
+other-roles-maximum-condemned h = h .maximum 3 (kept 3 tt) (differ 0 highest tt)
 
 -- authorised roles,
 pub other-roles-authorised-condemned : SetSecure (s1With 6) (ask 1 16 [] [] 3 7 0) (onUser 3 (userWord authorised 7) (s1With 6)) → ⊥
@@ -90,30 +90,30 @@ pub other-roles-current-condemned : SetSecure (s1With 6) (ask 1 14 [] [] 3 2 0) 
 unfolding opened s1 s1Sheet
 other-roles-current-condemned h = elim (h .current 3 (differ 2 0 tt)) [ inl e ↦ differ 3 1 tt e | inr r ↦ r ]
 
--- Rule 9.10: the desk lowered container 7 from 256 to 0 for user 2.
+-- Rule 9.10: the desk lowered container 7 from rank 1 to rank 0 for user 2.
 pub container-downgrade-condemned : DowngradeSecure s1 (ask 2 6 (7 ∷ []) [] 0 0 0) (onEntity 7 (word level 0) s1) → ⊥
 unfolding opened s1 s1Sheet
-container-downgrade-condemned h = h 7 (kept 2 tt) (differ 7 2 tt) (tt, differ 0 256 tt)
+container-downgrade-condemned h = h 7 (kept 2 tt) (differ 7 2 tt) (tt, differ 0 (at 1 0) tt)
 
--- Rule 9.10: the desk lowered object 5 from 256 to 0 for user 2.
+-- Rule 9.10: the desk lowered object 5 from rank 1 to rank 0 for user 2.
 pub object-downgrade-condemned : DowngradeSecure s1 (ask 2 6 (5 ∷ []) [] 0 0 0) (onEntity 5 (word level 0) s1) → ⊥
 unfolding opened s1 s1Sheet
-object-downgrade-condemned h = h 5 (kept 1 tt) (differ 5 2 tt) (tt, differ 0 256 tt)
+object-downgrade-condemned h = h 5 (kept 1 tt) (differ 5 2 tt) (tt, differ 0 (at 1 0) tt)
 
--- Rule 9.10: the desk lowered device 1 from 1023 to 0 for user 2, who is on device 2.
+-- Rule 9.10: the desk lowered device 1 from the highest level to the lowest for user 2, who is on device 2.
 pub device-downgrade-condemned : DowngradeSecure s1 (ask 2 18 (1 ∷ []) [] 0 0 0) (onEntity 1 (word level 0) s1) → ⊥
 unfolding opened s1 s1Sheet
-device-downgrade-condemned h = h 1 (kept 3 tt) (differ 1 2 tt) (tt, differ 0 1023 tt)
+device-downgrade-condemned h = h 1 (kept 3 tt) (differ 1 2 tt) (tt, differ 0 highest tt)
 
--- Rule 9.10: the desk took the compartment off container 4, from 513 to 512, for user 2.
-pub compartment-downgrade-condemned : DowngradeSecure s1 (ask 2 6 (4 ∷ []) [] 512 0 0) (onEntity 4 (word level 512) s1) → ⊥
+-- Rule 9.10: the desk took the compartment off container 4, which keeps its rank, for user 2.
+pub compartment-downgrade-condemned : DowngradeSecure s1 (ask 2 6 (4 ∷ []) [] (at 2 0) 0 0) (onEntity 4 (word level (at 2 0)) s1) → ⊥
 unfolding opened s1 s1Sheet
-compartment-downgrade-condemned h = h 4 (kept 2 tt) (differ 4 2 tt) (tt, differ 512 513 tt)
+compartment-downgrade-condemned h = h 4 (kept 2 tt) (differ 4 2 tt) (tt, differ (at 2 0) (at 2 1) tt)
 
 -- Rule 9.10: the desk lowered container 7 for user 1, who has the other two roles now and not the downgrader's.
 pub other-roles-downgrade-condemned : DowngradeSecure (s1With 5) (ask 1 6 (7 ∷ []) [] 0 0 0) (onEntity 7 (word level 0) (s1With 5)) → ⊥
 unfolding opened s1 s1Sheet
-other-roles-downgrade-condemned h = h 7 (kept 2 tt) (differ 7 1 tt) (tt, differ 0 256 tt)
+other-roles-downgrade-condemned h = h 7 (kept 2 tt) (differ 7 1 tt) (tt, differ 0 (at 1 0) tt)
 
 -- entity e is a released message of user u
 abbrev releasedBy : ℕ → ℕ → Tables → Tables

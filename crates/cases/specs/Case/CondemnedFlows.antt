@@ -5,7 +5,7 @@ use mathlib.Core.List.{List, List·Memᴰ·head, List·Memᴰ·tail, [], _∷_}
 use mathlib.Core.Logic.{_≢_, inl, inr}
 use mathlib.Core.Option.{none, some}
 use mathlib.Core.Path.{_≡_, refl, subst}
-use Prim.Native.Nat.{_<_, ℕ}
+use Prim.Native.Nat.{_<_, suc, ℕ}
 use native.Mathlib.Omega.{arith}
 use lib.Dec.{T, T-not, eqb, lit<, lit≤}
 use Rattle.cases.specs.Case.Cases.{ask}
@@ -21,9 +21,8 @@ use Rattle.model.specs.Request.Operations.{Op, numberOf, opOf, toClear, toCopy,
 use Rattle.model.specs.Request.TestLaws.{permits-agrees}
 use Rattle.model.specs.Request.Words.{Request}
 use Rattle.model.specs.Tables.Edits.{_and_, onEntity, onUser, userWord, word}
-use Rattle.model.specs.Tables.Words.{EntityWord, Tables, used, usedPlaces, device, idBit, place, shown, sums, value}
-use Rattle.model.specs.Theorem.Definitions.{AccessSecure, CcrSecure, CopySecure, Flows, NamedOpenly, Quiet, ShowsId}
-use Rattle.model.specs.Theorem.Definitions.{TranslationSecure}
+use Rattle.model.specs.Tables.Words.{EntityWord, Tables, device, idBit, operationCount, place, shown, sums, used, usedPlaces, value}
+use Rattle.model.specs.Theorem.Definitions.{AccessSecure, CcrSecure, CopySecure, Flows, NamedOpenly, Quiet, ShowsId, TranslationSecure}
 
 -- A changed word of an entity is more than the notice.
 loud : {d d′ : Tables} {u : ℕ} (x : ℕ) (f : EntityWord) → Quiet d u d′ → T (not (eqb (d′ .entity x f) (d .entity x f))) → ⊥
@@ -62,7 +61,7 @@ pub second-access-condemned : AccessSecure s1 (ask 2 5 (5 ∷ []) (5 ∷ []) 0 0
 unfolding opened s1 s1Sheet
 second-access-condemned = access-rejects toCopy refl (λ h. loud 5 value h tt) 2 (lit≤ tt, lit≤ tt) (denied s1 2 5 2 5 tt)
 
--- Rule 9.6: the desk copied 6, at 513, to 7, at 256, for user 2.
+-- Rule 9.6: the desk copied 6, of rank 2, to 7, of rank 1, for user 2.
 pub copy-condemned : CopySecure s1 (ask 2 5 (6 ∷ []) (7 ∷ []) 0 0 0) (onEntity 7 (word value 41) s1) → ⊥
 unfolding opened s1 s1Sheet
 copy-condemned = copy-rejects toCopy refl (λ h. loud 7 value h tt) (λ f. f .copied refl (kept 2 tt) (kept 2 tt))
@@ -71,7 +70,7 @@ copy-condemned = copy-rejects toCopy refl (λ h. loud 7 value h tt) (λ f. f .co
 abbrev screening : ℕ → ℕ → ℕ → Tables → Tables
 screening v x n = onEntity v (word used 1 and word (place 0) x and word (shown 0) n)
 
--- Rule 9.6: the desk showed 6, at 513, on device 2, at 512, to user 2.
+-- Rule 9.6: the desk showed 6 on device 2, which is of the same rank and lacks its compartment, to user 2.
 pub show-condemned : CopySecure s1 (ask 2 10 (6 ∷ []) [] 3 0 0) (screening 2 6 3 s1) → ⊥
 unfolding opened s1 s1Sheet
 show-condemned = copy-rejects toShow refl (λ h. loud 2 used h tt) (λ f. f .shown refl (kept 2 tt) (kept 3 tt))
@@ -86,7 +85,7 @@ barred : {w : List ℕ} → Open s1 2 (4 ∷ w) → ⊥
 unfolding opened s1 s1Sheet
 barred h = h 4 (List·Memᴰ·head refl) (differ 1 0 tt)
 
--- Rule 9.7: the desk edited 5 for user 2, who named it 4.1, through the marked container 4, at 513, with clearance 256.
+-- Rule 9.7: the desk edited 5 for user 2, who named it 4.1, through the marked container 4, of rank 2, with a clearance of rank 1.
 pub ccr-condemned : CcrSecure s1 (ask 2 4 (4 ∷ 1 ∷ []) [] 41 0 0) (onEntity 5 (word value 41) s1) → ⊥
 unfolding opened s1 s1Sheet
 ccr-condemned = ccr-rejects toEdit refl (λ h. loud 5 value h tt) 1 (lit≤ tt, lit≤ tt) barred
@@ -127,8 +126,8 @@ unfolding opened s1 s1Sheet
 nobody-ccr-condemned (inl h) = loud 7 value h tt
 nobody-ccr-condemned (inr z) = nobody-means (z .0) (z .1)
 
--- Operation 21 means nothing;
-pub no-operation-condemned : (o : Op) → Meant o s1 (ask 2 21 [] [] 0 0 0) → ⊥
+-- An operation over the last means nothing;
+pub no-operation-condemned : (o : Op) → Meant o s1 (ask 2 (suc operationCount) [] [] 0 0 0) → ⊥
 unfolding opened s1 s1Sheet
 no-operation-condemned o m =
     let p : none ≡ some o = m .named in
@@ -217,4 +216,5 @@ pub taken-screen-condemned : TranslationSecure (screening 2 5 4 s1) (ask 3 12 (2
     (onUser 2 (userWord device 0) (onUser 3 (userWord device 2) (screening 2 5 4 s1))) → ⊥
 unfolding opened s1 s1Sheet
 taken-screen-condemned h =
-    elim (h 5 (kept 1 tt) (refl, (0, lit< tt, refl, tt))) [ inl z ↦ dark (screening 2 5 4 s1) 0 refl z | inr z ↦ differ 2 5 tt (named-one toLogin refl refl z .0) ]
+    elim (h 5 (kept 1 tt) (refl, (0, lit< tt, refl, tt)))
+    [ inl z ↦ dark (screening 2 5 4 s1) 0 refl z | inr z ↦ differ 2 5 tt (named-one toLogin refl refl z .0) ]

@@ -14,7 +14,7 @@ use Rattle.model.specs.Request.Refusals as refusal
 
 -- Rule 10.2: the desk offered a list to user 3, who is off.
 pub offered-condemned : (room : List ℕ) (n : ℕ) (r : List ℕ) → Lists s1Words 3 room 0 n r → ⊥
-offered-condemned room n r x = differ 0 6 tt (lists-unique x (s1-list-off room) .0)
+offered-condemned room n r x = differ 0 refusal.notLoggedOn tt (lists-unique x (s1-list-off room) .0)
 
 -- Rule 10.2: in a room of fewer than five words the desk answered 17 for user 2, and wrote in it all the same.
 pub overwritten-condemned : (room r : List ℕ) → (r ≡ room → ⊥) → length room < 5 → Lists s1Words 2 room refusal.tooShort 1 r → ⊥
@@ -45,7 +45,7 @@ module _ (room : List ℕ) where
   pub disordered-condemned : 10 ≤ length room → Lists s1Unmarked 2 room 0 2 ((1 ∷ 5 ∷ 0 ∷ 0 ∷ 0 ∷ 2 ∷ 4 ∷ 1 ∷ 0 ∷ 0 ∷ []) ++ drop 10 room) → ⊥
   disordered-condemned h x = differ 1 2 tt (ap (λ (l : List ℕ). getD l 0 0) (lists-unique x (s1-list-unmarked room h) .2))
 
--- Rule 10.7: the desk wrote the entry 5, and a zero over the word behind it.
+-- Rule 10.7: the desk wrote the entry 5, and a zero over the word after it.
 pub behind-condemned : (a b c d e : ℕ) (room : List ℕ) → Lists s1Words 2 (a ∷ b ∷ c ∷ d ∷ e ∷ 1 ∷ room) 0 1 (1 ∷ 5 ∷ 0 ∷ 0 ∷ 0 ∷ 0 ∷ room) → ⊥
 behind-condemned a b c d e room x =
     differ 0 1 tt (ap (λ (l : List ℕ). getD l 5 0) (lists-unique x (s1-list-2 (a ∷ b ∷ c ∷ d ∷ e ∷ 1 ∷ room) (omega arith)) .2))

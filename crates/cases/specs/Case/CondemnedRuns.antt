@@ -189,7 +189,7 @@ reports-condemned i h x = none-at threeReports wrongReports tt i h (answered-uni
 
 -- ---- a request that cannot be read
 
--- The first request, and behind it bytes that begin with the letter U: whatever follows, they are no request.
+-- The first request, and after it bytes that begin with the letter U: whatever follows, they are no request.
 abbrev pub damagedScript : List ℕ → List ℕ
 damagedScript x = texts opening ++ (85 ∷ x)
 
@@ -197,7 +197,7 @@ damaged-bad : (x : List ℕ) → readSeven (85 ∷ x) ≡ badLine 1
 unfolding readSeven readLine
 damaged-bad x = refl
 
--- Rule 12.4: it is answered 18, with nothing behind it.
+-- Rule 12.4: it is answered 18, with nothing after it.
 abbrev pub damagedReports : List Report
 damagedReports = tells 9 9 1 ∷ unread ∷ []
 
@@ -211,7 +211,7 @@ damaged-answered x =
 -- and these are not:
 abbrev pub wrongEnds : List (List Report)
 wrongEnds =
-    -- the run went on behind 18, with the acknowledgement that may follow, or with 18 again (rule 12.4)
+    -- the run went on after 18, with the acknowledgement that may follow, or with 18 again (rule 12.4)
     (tells 9 9 1 ∷ unread ∷ tells 16 9 2 ∷ [])
     ∷ (tells 9 9 1 ∷ unread ∷ unread ∷ [])
     -- it went on without 18

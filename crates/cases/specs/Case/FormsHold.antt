@@ -1,30 +1,31 @@
 -- What is well-made is not answered 5, and what is malformed is: each table by one computation.
 use mathlib.Core.Bool.{true}
 use mathlib.Core.Path.{_≡_, refl}
-use Rattle.cases.specs.Case.Forms.{all5, none5, wellMade}
-use Rattle.cases.specs.Case.Malformed11to15.{malformed11to15}
-use Rattle.cases.specs.Case.Malformed16to20.{malformed16to20}
-use Rattle.cases.specs.Case.Malformed1to5.{malformed1to5}
-use Rattle.cases.specs.Case.Malformed6to10.{malformed6to10}
-use Rattle.cases.specs.Case.Opened.{opened}
+use lib.ListN.{drop, take}
+use Rattle.cases.specs.Case.Forms.{all5, forms, malformed, none5, wellMade}
+use Rattle.cases.specs.Case.Opened.{openedForms}
 use Rattle.cases.specs.Case.S1.{s1, s1Sheet}
 
-pub wellMade-passes : none5 s1 wellMade ≡ true
-unfolding opened s1 s1Sheet none5 wellMade
+pub wellMade-passes : none5 s1 (wellMade forms) ≡ true
+unfolding openedForms s1 s1Sheet
 wellMade-passes = refl
 
-pub malformed1to5-refused : all5 s1 malformed1to5 ≡ true
-unfolding opened s1 s1Sheet all5 malformed1to5
+-- the malformed requests for operations 1 to 5,
+pub malformed1to5-refused : all5 s1 (malformed (take 5 forms)) ≡ true
+unfolding openedForms s1 s1Sheet
 malformed1to5-refused = refl
 
-pub malformed6to10-refused : all5 s1 malformed6to10 ≡ true
-unfolding opened s1 s1Sheet all5 malformed6to10
+-- 6 to 10,
+pub malformed6to10-refused : all5 s1 (malformed (take 5 (drop 5 forms))) ≡ true
+unfolding openedForms s1 s1Sheet
 malformed6to10-refused = refl
 
-pub malformed11to15-refused : all5 s1 malformed11to15 ≡ true
-unfolding opened s1 s1Sheet all5 malformed11to15
+-- 11 to 15,
+pub malformed11to15-refused : all5 s1 (malformed (take 5 (drop 10 forms))) ≡ true
+unfolding openedForms s1 s1Sheet
 malformed11to15-refused = refl
 
-pub malformed16to20-refused : all5 s1 malformed16to20 ≡ true
-unfolding opened s1 s1Sheet all5 malformed16to20
+-- and all from 16 on
+pub malformed16to20-refused : all5 s1 (malformed (drop 15 forms)) ≡ true
+unfolding openedForms s1 s1Sheet
 malformed16to20-refused = refl

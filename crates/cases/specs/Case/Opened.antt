@@ -1,6 +1,8 @@
 -- Names that open every definition that a case computes with, room by room: a case says `unfolding opened`.
 use Rattle.model.specs.Basics.Tests.{imp, every}
-use Rattle.cases.specs.Case.Cases.{item, gone, asking, ask, raw, stand, passesAt, allPass}
+use Rattle.cases.specs.Case.Cases.{item, gone, asking, ask, raw, noted, stand, passesAt, allPass}
+use Rattle.cases.specs.Case.Forms.{all5, counting, forms, made, malformed, none5, reference, right, rightWords, oneWrong, strays}
+use Rattle.cases.specs.Case.Forms.{wellMade, words, wrong, wrongWords}
 use Rattle.model.specs.Level.{bit, subset, rank, atMostOver, atMost, lower}
 use Rattle.model.specs.List.Listing.{entries, showing}
 use Rattle.model.specs.List.Walk.{through, visit, walk}
@@ -58,7 +60,7 @@ unfolding effect noticedOp leaves after asked hasRole isAny isEntity isContainer
 openedRequest = tt
 
 unfoldable pub openedCase : Unit {0}
-unfolding item gone asking ask raw stand passesAt allPass
+unfolding item gone asking ask raw noted stand passesAt allPass
 openedCase = tt
 
 unfoldable pub opened : Unit {0}
@@ -69,3 +71,8 @@ opened = tt
 unfoldable pub openedList : Unit {0}
 unfolding opened entries showing through visit walk ways showable found
 openedList = tt
+
+-- and for a case of the forms
+unfoldable pub openedForms : Unit {0}
+unfolding opened forms right wrong counting reference strays rightWords wrongWords words made oneWrong wellMade malformed all5 none5
+openedForms = tt

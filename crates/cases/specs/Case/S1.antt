@@ -1,31 +1,31 @@
--- Rule 13: case state S1, and its step cases as two tables.
+-- Rule 13: case state S1, and its step cases as two tables. Its levels 256, 257, 512, 513 and 1,023 are at 1 0, at 1 1, at 2 0, at 2 1 and highest.
 use mathlib.Core.List.{List, [], _∷_}
-use Rattle.cases.specs.Case.Cases.{Case, ask, entityIs, expect, item, userIs}
+use Rattle.cases.specs.Case.Cases.{Case, ask, at, entityIs, expect, highest, item, userIs}
 use Rattle.model.specs.Tables.Sheet.{Sheet, sheetTables}
-use Rattle.model.specs.Tables.Words.{Tables, containerKind, used, device, deviceKind, draftType, held, heldOp, kind, level, missed}
-use Rattle.model.specs.Tables.Words.{objectKind, place, plainType, releasedType, releaser, shown, tripleOf, type, value}
+use Rattle.model.specs.Tables.Words.{Tables, containerKind, device, deviceKind, draftType, held, heldOp, kind, level, missed, objectKind}
+use Rattle.model.specs.Tables.Words.{place, plainType, releasedType, releaser, shown, tripleOf, type, used, value}
 
 -- present, clearance, authorised, current, device
 unfoldable pub s1Sheet : Sheet
 s1Sheet = record {
   users =
-      (1 ∷ 1023 ∷ 7 ∷ 1 ∷ 1 ∷ [])
-      ∷ (1 ∷ 256 ∷ 0 ∷ 0 ∷ 2 ∷ [])
-      ∷ (1 ∷ 513 ∷ 6 ∷ 0 ∷ 0 ∷ [])
+      (1 ∷ highest ∷ 7 ∷ 1 ∷ 1 ∷ [])
+      ∷ (1 ∷ at 1 0 ∷ 0 ∷ 0 ∷ 2 ∷ [])
+      ∷ (1 ∷ at 2 1 ∷ 6 ∷ 0 ∷ 0 ∷ [])
       ∷ [];
   entities =
       -- 1 to 3: devices
-      item deviceKind plainType 1023 0 0 0 1023 [] [] []
-      ∷ item deviceKind plainType 512 0 0 0 512 [] [] []
-      ∷ item deviceKind plainType 0 0 0 0 1023 [] [] (tripleOf 3 12 1 ∷ [])
+      item deviceKind plainType highest 0 0 0 highest [] [] []
+      ∷ item deviceKind plainType (at 2 0) 0 0 0 (at 2 0) [] [] []
+      ∷ item deviceKind plainType 0 0 0 0 highest [] [] (tripleOf 3 12 1 ∷ [])
       -- 4: a marked container
-      ∷ item containerKind plainType 513 1 0 0 0 (5 ∷ 6 ∷ []) [] []
+      ∷ item containerKind plainType (at 2 1) 1 0 0 0 (5 ∷ 6 ∷ []) [] []
       -- 5: an object
-      ∷ item objectKind plainType 256 0 40 0 0 [] [] (tripleOf 2 10 1 ∷ tripleOf 2 5 1 ∷ [])
+      ∷ item objectKind plainType (at 1 0) 0 40 0 0 [] [] (tripleOf 2 10 1 ∷ tripleOf 2 5 1 ∷ [])
       -- 6: a draft
-      ∷ item containerKind draftType 513 0 41 0 0 [] [] (tripleOf 1 19 1 ∷ [])
+      ∷ item containerKind draftType (at 2 1) 0 41 0 0 [] [] (tripleOf 1 19 1 ∷ [])
       -- 7: a container
-      ∷ item containerKind plainType 256 0 0 0 0 [] [] (tripleOf 2 5 2 ∷ tripleOf 2 1 1 ∷ tripleOf 1 6 1 ∷ [])
+      ∷ item containerKind plainType (at 1 0) 0 0 0 0 [] [] (tripleOf 2 5 2 ∷ tripleOf 2 1 1 ∷ tripleOf 1 6 1 ∷ [])
       ∷ [];
 }
 
@@ -40,16 +40,16 @@ starred =
     ∷ expect [] (ask 2 10 (4 ∷ 1 ∷ []) [] 3 0 0) 9 []
     ∷ expect [] (ask 2 10 (5 ∷ []) [] 1 0 0) 15 []
     ∷ expect [] (ask 2 10 (5 ∷ 1 ∷ []) [] 3 0 0) 7 []
-    -- user 2 copies 5 to 7; creates in 7 at 257, at 0
+    -- user 2 copies 5 to 7; creates in 7 with a compartment that it lacks, and at the lowest level
     ∷ expect [] (ask 2 5 (5 ∷ []) (7 ∷ []) 0 0 0) 0 (entityIs 7 value 40 ∷ [])
-    ∷ expect [] (ask 2 1 (7 ∷ []) [] 1 257 0) 13 []
+    ∷ expect [] (ask 2 1 (7 ∷ []) [] 1 (at 1 1) 0) 13 []
     ∷ expect [] (ask 2 1 (7 ∷ []) [] 1 0 0) 0 (entityIs 8 kind objectKind ∷ entityIs 7 used 1 ∷ entityIs 7 (place 0) 8 ∷ [])
     -- user 1 releases 6; with current roles 5
     ∷ expect [] (ask 1 19 (6 ∷ []) [] 0 0 0) 12 []
     ∷ expect (ask 1 14 [] [] 1 5 0 ∷ []) (ask 1 19 (6 ∷ []) [] 0 0 0) 0 (entityIs 6 type releasedType ∷ entityIs 6 releaser 1 ∷ [])
-    -- user 1 sets the level of 7 to 0, to 1
+    -- user 1 sets the level of 7 to the lowest, and to a compartment without a rank
     ∷ expect [] (ask 1 6 (7 ∷ []) [] 0 0 0) 12 []
-    ∷ expect [] (ask 1 6 (7 ∷ []) [] 1 0 0) 0 (entityIs 7 level 1 ∷ [])
+    ∷ expect [] (ask 1 6 (7 ∷ []) [] (at 0 1) 0 0) 0 (entityIs 7 level (at 0 1) ∷ [])
     -- user 3, who is off, shows 5; logs on to 3
     ∷ expect [] (ask 3 10 (5 ∷ []) [] 3 0 0) 6 []
     ∷ expect [] (ask 3 12 (3 ∷ []) [] 0 0 0) 0 (userIs 3 device 3 ∷ [])

@@ -49,5 +49,7 @@ s2Cases = createCases
     ++ (ladderCases))))))))))))))))))))
 
 pub s2-hold : allPass s2 s2Cases ≡ true
-unfolding opened s2 s2Sheet s2Cases createCases deleteCases moveCases editCases copyCases levelCases markCases grantCases revokeCases showCases clearCases loginCases logoutCases currentCases clearanceCases authorisedCases maximumCases deviceLevelCases releaseCases acknowledgeCases ladderCases
+unfolding opened s2 s2Sheet s2Cases createCases deleteCases moveCases editCases copyCases levelCases markCases grantCases revokeCases showCases
+    clearCases loginCases logoutCases currentCases clearanceCases authorisedCases maximumCases deviceLevelCases releaseCases acknowledgeCases
+    ladderCases
 s2-hold = refl

@@ -3,11 +3,11 @@ use mathlib.Core.Bool.{true}
 use mathlib.Core.List.{List, [], _∷_}
 use mathlib.Core.Path.{_≡_, refl}
 use Prim.Native.Nat.{ℕ}
-use Rattle.cases.specs.Case.Cases.{Case, allPass, ask, entityIs, expect, userIs}
+use Rattle.cases.specs.Case.Cases.{Case, allPass, ask, at, entityIs, expect, highest, userIs}
 use Rattle.cases.specs.Case.Opened.{opened}
 use Rattle.cases.specs.Case.S2.{s2, s2Sheet}
 use Rattle.model.specs.Tables.Edits.{onUser, userWord}
-use Rattle.model.specs.Tables.Words.{Tables, authorised, clearance, current, level, maximum, releaser, type}
+use Rattle.model.specs.Tables.Words.{Tables, authorised, clearance, current, draftType, level, maximum, releasedType, releaser, type}
 
 -- user 1 has these current roles
 unfoldable pub s2With : ℕ → Tables
@@ -18,33 +18,33 @@ unfoldable pub officerCases : List Case
 officerCases =
     expect [] (ask 1 15 [] [] 3 0 0) 0 (userIs 3 clearance 0 ∷ [])
     ∷ expect [] (ask 1 16 [] [] 3 0 0) 0 (userIs 3 authorised 0 ∷ [])
-    ∷ expect [] (ask 1 17 (6 ∷ []) [] 513 0 0) 0 (entityIs 6 maximum 513 ∷ [])
+    ∷ expect [] (ask 1 17 (6 ∷ []) [] (at 2 1) 0 0) 0 (entityIs 6 maximum (at 2 1) ∷ [])
     ∷ expect [] (ask 1 14 [] [] 3 0 0) 0 (userIs 3 current 0 ∷ [])
-    ∷ expect [] (ask 1 6 (13 ∷ []) [] 0 0 0) 12 (entityIs 13 level 256 ∷ [])
-    ∷ expect [] (ask 1 18 (6 ∷ []) [] 1 0 0) 12 (entityIs 6 level 513 ∷ [])
-    ∷ expect [] (ask 1 19 (29 ∷ []) [] 0 0 0) 12 (entityIs 29 type 1 ∷ [])
+    ∷ expect [] (ask 1 6 (13 ∷ []) [] 0 0 0) 12 (entityIs 13 level (at 1 0) ∷ [])
+    ∷ expect [] (ask 1 18 (6 ∷ []) [] (at 0 1) 0 0) 12 (entityIs 6 level (at 2 1) ∷ [])
+    ∷ expect [] (ask 1 19 (29 ∷ []) [] 0 0 0) 12 (entityIs 29 type draftType ∷ [])
     ∷ []
 
 -- role 2, the downgrader: a strictly lower level, also of a device that is not one's own
 unfoldable pub downgraderCases : List Case
 downgraderCases =
     expect [] (ask 1 6 (13 ∷ []) [] 0 0 0) 0 (entityIs 13 level 0 ∷ [])
-    ∷ expect [] (ask 1 18 (6 ∷ []) [] 1 0 0) 0 (entityIs 6 level 1 ∷ [])
-    ∷ expect [] (ask 1 15 [] [] 3 0 0) 12 (userIs 3 clearance 513 ∷ [])
+    ∷ expect [] (ask 1 18 (6 ∷ []) [] (at 0 1) 0 0) 0 (entityIs 6 level (at 0 1) ∷ [])
+    ∷ expect [] (ask 1 15 [] [] 3 0 0) 12 (userIs 3 clearance (at 2 1) ∷ [])
     ∷ expect [] (ask 1 16 [] [] 3 0 0) 12 (userIs 3 authorised 6 ∷ [])
-    ∷ expect [] (ask 1 17 (6 ∷ []) [] 513 0 0) 12 (entityIs 6 maximum 1023 ∷ [])
+    ∷ expect [] (ask 1 17 (6 ∷ []) [] (at 2 1) 0 0) 12 (entityIs 6 maximum highest ∷ [])
     ∷ expect [] (ask 1 14 [] [] 3 0 0) 12 []
-    ∷ expect [] (ask 1 19 (29 ∷ []) [] 0 0 0) 12 (entityIs 29 type 1 ∷ [])
+    ∷ expect [] (ask 1 19 (29 ∷ []) [] 0 0 0) 12 (entityIs 29 type draftType ∷ [])
     ∷ []
 
 -- role 4, the releaser: a release
 unfoldable pub releaserCases : List Case
 releaserCases =
-    expect [] (ask 1 19 (29 ∷ []) [] 0 0 0) 0 (entityIs 29 type 2 ∷ entityIs 29 releaser 1 ∷ [])
-    ∷ expect [] (ask 1 6 (13 ∷ []) [] 0 0 0) 12 (entityIs 13 level 256 ∷ [])
-    ∷ expect [] (ask 1 18 (6 ∷ []) [] 1 0 0) 12 (entityIs 6 level 513 ∷ [])
-    ∷ expect [] (ask 1 15 [] [] 3 0 0) 12 (userIs 3 clearance 513 ∷ [])
-    ∷ expect [] (ask 1 17 (6 ∷ []) [] 513 0 0) 12 (entityIs 6 maximum 1023 ∷ [])
+    expect [] (ask 1 19 (29 ∷ []) [] 0 0 0) 0 (entityIs 29 type releasedType ∷ entityIs 29 releaser 1 ∷ [])
+    ∷ expect [] (ask 1 6 (13 ∷ []) [] 0 0 0) 12 (entityIs 13 level (at 1 0) ∷ [])
+    ∷ expect [] (ask 1 18 (6 ∷ []) [] (at 0 1) 0 0) 12 (entityIs 6 level (at 2 1) ∷ [])
+    ∷ expect [] (ask 1 15 [] [] 3 0 0) 12 (userIs 3 clearance (at 2 1) ∷ [])
+    ∷ expect [] (ask 1 17 (6 ∷ []) [] (at 2 1) 0 0) 12 (entityIs 6 maximum highest ∷ [])
     ∷ []
 
 pub officer-holds : allPass (s2With 1) officerCases ≡ true

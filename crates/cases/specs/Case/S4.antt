@@ -2,9 +2,9 @@
 use mathlib.Core.List.{List, [], _++_, _∷_}
 use Prim.Native.Nat.{ℕ}
 use lib.ListN.{replicate}
-use Rattle.cases.specs.Case.Cases.{item}
+use Rattle.cases.specs.Case.Cases.{at, item}
 use Rattle.model.specs.Tables.Sheet.{Sheet, sheetTables}
-use Rattle.model.specs.Tables.Words.{Tables, containerKind, deviceKind, objectKind, plainType, tripleOf}
+use Rattle.model.specs.Tables.Words.{Tables, containerKind, deviceKind, objectKind, plainType, tripleOf, whoRole}
 
 -- an object with nothing in it
 abbrev bare : List ℕ
@@ -15,23 +15,23 @@ bare = item objectKind plainType 0 0 0 0 0 [] [] []
 unfoldable pub s4Sheet : Sheet
 s4Sheet = record {
   users =
-      (1 ∷ 768 ∷ 8 ∷ 8 ∷ 1 ∷ [])
+      (1 ∷ at 3 0 ∷ 8 ∷ 8 ∷ 1 ∷ [])
       ∷ [];
   entities =
       -- 1: user 1's device, with eight on its screen
-      item deviceKind plainType 512 0 0 0 512 (6 ∷ 7 ∷ 8 ∷ 9 ∷ 10 ∷ 11 ∷ 12 ∷ 13 ∷ []) (3 ∷ 2 ∷ 2 ∷ 2 ∷ 2 ∷ 2 ∷ 2 ∷ 2 ∷ []) []
+      item deviceKind plainType (at 2 0) 0 0 0 (at 2 0) (6 ∷ 7 ∷ 8 ∷ 9 ∷ 10 ∷ 11 ∷ 12 ∷ 13 ∷ []) (3 ∷ 2 ∷ 2 ∷ 2 ∷ 2 ∷ 2 ∷ 2 ∷ 2 ∷ []) []
       -- 2: a container that user 1 may show and is cleared for, over the level of the screen; it is around 3
-      ∷ item containerKind plainType 768 0 0 0 0 (3 ∷ []) [] (tripleOf 1 10 1 ∷ [])
+      ∷ item containerKind plainType (at 3 0) 0 0 0 0 (3 ∷ []) [] (tripleOf 1 10 1 ∷ [])
       -- 3: a marked container that user 1 may show and is cleared for; it is around 4
-      ∷ item containerKind plainType 512 1 0 0 0 (4 ∷ []) [] (tripleOf 1 10 1 ∷ [])
+      ∷ item containerKind plainType (at 2 0) 1 0 0 0 (4 ∷ []) [] (tripleOf 1 10 1 ∷ [])
       -- 4: a container that nobody may show; it is around 5
-      ∷ item containerKind plainType 512 0 0 0 0 (5 ∷ []) [] []
+      ∷ item containerKind plainType (at 2 0) 0 0 0 0 (5 ∷ []) [] []
       -- 5: an object that the role 8 may show
-      ∷ item objectKind plainType 256 0 60 0 0 [] [] (tripleOf 20 10 1 ∷ [])
+      ∷ item objectKind plainType (at 1 0) 0 60 0 0 [] [] (tripleOf (whoRole 3) 10 1 ∷ [])
       -- 6: an object on the screen that user 1 may show
       ∷ item objectKind plainType 0 0 61 0 0 [] [] (tripleOf 1 10 1 ∷ [])
       -- 7 to 13: the others on the screen; 14: a container around 2, so that five names would lead to 5
-      ∷ (replicate 7 bare ++ (item containerKind plainType 768 0 0 0 0 (2 ∷ []) [] [] ∷ []));
+      ∷ (replicate 7 bare ++ (item containerKind plainType (at 3 0) 0 0 0 0 (2 ∷ []) [] [] ∷ []));
 }
 
 unfoldable pub s4 : Tables

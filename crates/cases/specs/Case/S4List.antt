@@ -81,6 +81,6 @@ unfolding openedList s4 s4Sheet
 s4-answers = ap (λ (f : List ℕ → ℕ). map f s4Found) (fun-ext s4-answer)
 
 -- and 2, which is not on the list, is over the level of the screen.
-pub s4-above : answerOf s4Words (showing 1 (2 ∷ [])) ≡ 13
+pub s4-above : answerOf s4Words (showing 1 (2 ∷ [])) ≡ refusal.levelOrRoles
 unfolding openedList s4 s4Sheet
 s4-above = s4-answer (2 ∷ [])

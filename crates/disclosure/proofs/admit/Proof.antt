@@ -4,11 +4,6 @@ use Rattle.disclosure.specs.AdmitLaws.{barred-condemned, barred-none, ba
 use borrow.Author.Needs.{needs}
 use Rattle.disclosure.proofs.admit.Statement.{statement}
 use Rattle.disclosure.proofs.admit.Tie as tie
-use Rattle.disclosure.proofs.admit.Reads as reads
-use Rattle.disclosure.proofs.admit.Lts as lts
-use Rattle.state.proofs.checked.Reads as checked-reads
-use Rattle.tables.proofs.users.device.Reads as device-reads
-use Rattle.tables.proofs.users.present.Reads as present-reads
 
 checked-requires : tie.Need-checked-requires
 checked-requires c κs = search needs

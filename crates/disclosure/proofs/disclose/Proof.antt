@@ -6,8 +6,6 @@ use Rattle.model.specs.List.AdmittedLaws.{barred-admitted}
 use borrow.Author.Needs.{needs}
 use Rattle.disclosure.proofs.disclose.Statement.{statement}
 use Rattle.disclosure.proofs.disclose.Tie as tie
-use Rattle.disclosure.proofs.disclose.Reads as reads
-use Rattle.disclosure.proofs.disclose.Lts as lts
 use Rattle.disclosure.proofs.tally.tally_all.Reads as tally-all-reads
 use Rattle.disclosure.proofs.verdicts.judge_all.Reads as judge-all-reads
 use Rattle.disclosure.proofs.walk.visit_all.Reads as visit-all-reads

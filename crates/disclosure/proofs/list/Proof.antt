@@ -2,8 +2,6 @@ use Rattle.disclosure.specs.EndLaws.{end-refused}
 use borrow.Author.Needs.{needs}
 use Rattle.disclosure.proofs.list.Statement.{statement}
 use Rattle.disclosure.proofs.list.Tie as tie
-use Rattle.disclosure.proofs.list.Reads as reads
-use Rattle.disclosure.proofs.list.Lts as lts
 use Rattle.disclosure.proofs.admit.Reads as admit-reads
 use Rattle.disclosure.proofs.disclose.Reads as disclose-reads
 

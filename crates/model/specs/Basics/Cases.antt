@@ -1,4 +1,4 @@
--- Two ways that a proof goes on by: with what is taken apart first, so that its type is known in both.
+-- How a proof goes on in two cases. What is taken apart stands first, so that its type is known in both.
 use mathlib.Core.Bool.{Bool, false, true}
 use mathlib.Core.Logic.{_⊎_, inl, inr}
 use mathlib.Core.Path.{_≡_, refl}

@@ -5,12 +5,12 @@ use lib.Dec.{eqb, ltb}
 use Rattle.model.specs.Tables.Edits.{Edit, _and_, onUser, userWord}
 use Rattle.model.specs.Tables.Words.{Tables, UserWord, held, heldOp, missed, missedMost}
 
--- A word of the notice, by whether nothing was held: then what comes now, else what stands there;
+-- A word of the notice: the new one where nothing was held, else the old one.
 abbrev pub keepFirst : Bool → ℕ → ℕ → ℕ
 keepFirst true new old = new
 keepFirst false new old = old
 
--- the count, by whether it is still under its limit: one more, else it stops.
+-- The number missed: one more while it is under its greatest, and then it stays there.
 abbrev pub missedMore : Bool → ℕ → ℕ
 missedMore true m = suc m
 missedMore false m = missedMost

@@ -5,7 +5,7 @@ use Prim.Native.Nat.{_≤_, ℕ}
 use native.Mathlib.Omega.{arith}
 use lib.Dec.{eqb, ltb}
 use Rattle.model.specs.Basics.Choice.{Below, Same, below, it, other, over, same, under}
-use Rattle.model.specs.Effect.Notice.{missedMore, keepFirst, notice, noticing}
+use Rattle.model.specs.Effect.Notice.{keepFirst, missedMore, notice, noticing}
 use Rattle.model.specs.State.Secure.{Secure}
 use Rattle.model.specs.State.WellFormed.{Notice, UserOk, WellFormed}
 use Rattle.model.specs.Tables.EditLaws.{each}

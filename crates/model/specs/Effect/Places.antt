@@ -4,8 +4,8 @@ use lib.Dec.{eqb}
 use Rattle.model.specs.Basics.Choice.{pick}
 use Rattle.model.specs.Tables.Edits.{Edit, _and_, blank, onEntities, onEntity, row, word}
 use Rattle.model.specs.Tables.Rows.{left, replace, seek, without}
-use Rattle.model.specs.Tables.Words.{EntityWord, Tables, absentKind, containerKind, used, usedPlaces, draftType, entityCount, kind}
-use Rattle.model.specs.Tables.Words.{kinds, level, objectKind, place, places, plainType, shown, sums, triple, triples, type}
+use Rattle.model.specs.Tables.Words.{EntityWord, Tables, absentKind, containerKind, draftType, entityCount, kind, kinds, level}
+use Rattle.model.specs.Tables.Words.{objectKind, place, places, plainType, shown, sums, triple, triples, type, used, usedPlaces}
 
 -- Rule 6, put last: e stands in the next place of c, with the sum s shown of it.
 abbrev pub putting : ℕ → ℕ → ℕ → Tables → Edit EntityWord

@@ -19,25 +19,28 @@ use Rattle.model.specs.State.Secure.{Secure, labelled}
 use Rattle.model.specs.State.WellFormed.{EntityOk, Holds, In, InTables, Thing, WellFormed}
 use Rattle.model.specs.Tables.EditLaws.{case, each}
 use Rattle.model.specs.Tables.Edits.{blank, written}
+use Rattle.model.specs.Tables.Kinds.{Screen}
 use Rattle.model.specs.Tables.RowLaws.{sought}
 use Rattle.model.specs.Tables.Rows.{Sought, seek}
-use Rattle.model.specs.Tables.Words.{EntityWord, Tables, absentKind, clearance, containerKind, used, usedPlaces, deviceKind, devices}
-use Rattle.model.specs.Tables.Words.{draftType, entityCount, kinds, level, mark, maximum, objectKind, placeCount, places, plainType}
-use Rattle.model.specs.Tables.Words.{releaser, shown, sums, value}
+use Rattle.model.specs.Tables.Words.{EntityWord, Tables, absentKind, clearance, containerKind, devices, draftType, entityCount, kinds}
+use Rattle.model.specs.Tables.Words.{level, mark, maximum, objectKind, placeCount, places, plainType, releaser, shown, sums, used}
+use Rattle.model.specs.Tables.Words.{usedPlaces, value}
 
 -- the level of e changes, and e neither holds anything nor is held
 module _ (d : Tables) (s : Secure d) (e l : ℕ) (nothing : (c : ℕ) → Holds d e c → ⊥) (nowhere : (x : ℕ) → Holds d x e → ⊥) where
   contained-by : (x c : ℕ) → Holds d x c → AtMost (pick (eqb c e) l (d .entity c level)) (pick (eqb x e) l (d .entity x level))
   contained-by x c h =
       case (λ (y : ℕ). AtMost y (pick (eqb x e) l (d .entity x level))) c e l (d .entity c level) (λ q. absurd (nowhere x (subst (Holds d x) q h)))
-      (λ q. case (AtMost (d .entity c level)) x e l (d .entity x level) (λ r. absurd (nothing c (subst (λ (y : ℕ). Holds d y c) r h))) (λ r. s .contained x c h))
+      (λ q. case (AtMost (d .entity c level)) x e l (d .entity x level)
+      (λ r. absurd (nothing c (subst (λ (y : ℕ). Holds d y c) r h))) (λ r. s .contained x c h))
 
   seen-by : (u c : ℕ) → devices d u ≢ 0 → Holds d (devices d u) c → AtMost (pick (eqb c e) l (d .entity c level)) (d .user u clearance)
   seen-by u c on h = case (λ (y : ℕ). AtMost y (d .user u clearance)) c e l (d .entity c level)
       (λ q. absurd (nowhere (devices d u) (subst (Holds d (devices d u)) q h))) (λ q. s .seen u c on h)
 
 -- a record at an absent number
-module _ (d : Tables) (w : WellFormed d) (e c k t l : ℕ) (gone : kinds d e ≡ 0) (range : (1 ≤ e) × (e ≤ entityCount)) (sort : (objectKind ≤ k) × (k ≤ containerKind))
+module _ (d : Tables) (w : WellFormed d) (e c k t l : ℕ) (gone : kinds d e ≡ 0) (range : (1 ≤ e) × (e ≤ entityCount))
+    (sort : (objectKind ≤ k) × (k ≤ containerKind))
     (draft : (t ≡ 0) ⊎ ((k ≡ containerKind) × (t ≡ 1))) (lev : l < levelCount) where
   zero-here : (f : EntityWord) → d .entity e f ≡ 0
   zero-here = w .entities e .absent gone
@@ -83,8 +86,8 @@ module _ (d : Tables) (w : WellFormed d) (e c k t l : ℕ) (gone : kinds d e ≡
         (λ q. absurd (omega (arith, ap (kinds d) q, same-kind x h))) (λ q. s .ceiling x (same-kind x h));
   }
     where
-      same-kind : (x : ℕ) → kinds (fresh e c k t l d) x ≡ deviceKind → kinds d x ≡ deviceKind
-      same-kind x = case (λ (y : ℕ). y ≡ deviceKind → kinds d x ≡ deviceKind) x e k (kinds d x) (λ q z. absurd (omega arith)) (λ q z. z)
+      same-kind : (x : ℕ) → Screen (kinds (fresh e c k t l d) x) → Screen (kinds d x)
+      same-kind x = case (λ (y : ℕ). Screen y → Screen (kinds d x)) x e k (kinds d x) (λ q z. absurd (omega arith)) (λ q z. z)
 
 -- a record is zeroed
 module _ (d : Tables) (w : WellFormed d) (e : ℕ) (thing : kinds d e ≤ containerKind) (empty : usedPlaces d e ≡ 0) (nowhere : (x : ℕ) → Holds d x e → ⊥) where
@@ -109,21 +112,21 @@ module _ (d : Tables) (w : WellFormed d) (e : ℕ) (thing : kinds d e ≤ contai
       there : (x c : ℕ) → Holds (erase e d) x c → Holds d x c
       there x c h = still (kinds d) (usedPlaces d) (places d) (devices d) (w .links) e nowhere thing x c h
 
-      shows : (x i : ℕ) (b : Bool) → pick b 0 (kinds d x) ≡ deviceKind → i < pick b 0 (usedPlaces d x) → T (labelled (pick b 0 (sums d x i)))
+      shows : (x i : ℕ) (b : Bool) → Screen (pick b 0 (kinds d x)) → i < pick b 0 (usedPlaces d x) → T (labelled (pick b 0 (sums d x i)))
       shows x i true h l = absurd (not-suc-le-zero l)
       shows x i false h l = s .valueLabelled x i h l
 
-      top : (x : ℕ) (b : Bool) → pick b 0 (kinds d x) ≡ deviceKind → AtMost (pick b 0 (d .entity x level)) (pick b 0 (d .entity x maximum))
-      top x true h = absurd (let z : _≡_ {A = ℕ} 0 3 = h in omega arith)
+      top : (x : ℕ) (b : Bool) → Screen (pick b 0 (kinds d x)) → AtMost (pick b 0 (d .entity x level)) (pick b 0 (d .entity x maximum))
+      top x true h = absurd (let z : Screen absentKind = h in omega arith)
       top x false h = s .ceiling x h
 
 -- 2 delete: an entity with no contents, on no device
 module _ (d : Tables) (w : WellFormed d) (s : Secure d) (e : ℕ) (thing : kinds d e ≤ containerKind) (empty : usedPlaces d e ≡ 0)
-    (unseen : (x : ℕ) → kinds d x ≡ deviceKind → Holds d x e → ⊥) where
+    (unseen : (x : ℕ) → Screen (kinds d x) → Holds d x e → ⊥) where
   nowhere-now : (x : ℕ) → Holds (leave e d) x e → ⊥
   nowhere-now x h =
       let m = stayed d w e x e h in
-      let not3 : kinds d x ≢ deviceKind = λ q. unseen x q (m .0) in
+      let unshown : (¬ Screen (kinds d x)) = λ q. unseen x q (m .0) in
       let not2 : kinds d x ≢ containerKind = λ q. m .1 q refl in
       let not1 : kinds d x ≢ 1 = λ q. omega (arith, w .entities x .filled .objectEmpty q, m .0 .1) in
       let not0 : kinds d x ≢ 0 = λ q. omega (arith, w .entities x .absent q used, m .0 .1) in
@@ -145,7 +148,8 @@ on-none d w c u h q =
     omega (arith, w .links .deviceIs u (omega arith), ap (kinds d) q)
 
 -- 3 move
-module _ (d : Tables) (w : WellFormed d) (s : Secure d) (e c : ℕ) (thing : Thing d e) (box : kinds d c ≡ containerKind) (room : usedPlaces (leave e d) c < placeCount)
+module _ (d : Tables) (w : WellFormed d) (s : Secure d) (e c : ℕ) (thing : Thing d e) (box : kinds d c ≡ containerKind)
+    (room : usedPlaces (leave e d) c < placeCount)
     (apart : Within (InTables d) c e → ⊥) (low : AtMost (d .entity e level) (d .entity c level)) where
   Inner : ℕ → ℕ → Type 0
   Inner = In (kinds (leave e d)) (usedPlaces (leave e d)) (places (leave e d))
@@ -241,7 +245,8 @@ sort-kind s = go (eqb s objectSort)
 pub sort-type : (s : ℕ) → (sortType s ≡ plainType) ⊎ ((sortKind s ≡ containerKind) × (sortType s ≡ draftType))
 sort-type s = go (eqb s draftSort) (eqb s objectSort) (same s draftSort) (same s objectSort)
   where
-    go : (x y : Bool) → Same s draftSort x → Same s objectSort y → (pick {A = ℕ} x 1 0 ≡ 0) ⊎ ((pick {A = ℕ} y 1 2 ≡ 2) × (pick {A = ℕ} x 1 0 ≡ 1))
+    go : (x y : Bool) → Same s draftSort x → Same s objectSort y → (pick x draftType plainType ≡ plainType)
+        ⊎ ((pick y objectKind containerKind ≡ containerKind) × (pick x draftType plainType ≡ draftType))
     go true true (it e) (it f) = absurd (omega arith)
     go true false (it e) (other f) = inr (refl, refl)
     go false true (other e) (it f) = inl refl

@@ -14,14 +14,15 @@ use Rattle.model.specs.State.Secure.{Secure, labelled}
 use Rattle.model.specs.State.WellFormed.{EntityOk, Filled, Holds, InTables, Thing, WellFormed}
 use Rattle.model.specs.Tables.EditLaws.{all, case, each}
 use Rattle.model.specs.Tables.Edits.{written}
+use Rattle.model.specs.Tables.Kinds.{Screen, Terminal}
 use Rattle.model.specs.Tables.RowLaws.{append-packed, without-fewer, without-member, without-packed}
 use Rattle.model.specs.Tables.Rows.{Member, left, replace, without}
-use Rattle.model.specs.Tables.Words.{Tables, clearance, containerKind, usedPlaces, deviceKind, devices, kinds, level, placeCount, places}
-use Rattle.model.specs.Tables.Words.{sumMost, sums}
+use Rattle.model.specs.Tables.Words.{Tables, clearance, containerKind, devices, kinds, level, placeCount, places, sumMost, sums}
+use Rattle.model.specs.Tables.Words.{usedPlaces}
 
 -- e is put last in c, with the sum s
 put-filled : (k n e s : ℕ) (at sum : ℕ → ℕ) → (containerKind ≤ k) → n < placeCount → 1 ≤ e → ((i : ℕ) → i < n → at i ≢ e)
-    → (k ≡ deviceKind → (1 ≤ s) × (s ≤ sumMost)) → (k ≢ deviceKind → s ≡ 0) → Filled k n at sum → Filled k (suc n) (replace n e at) (replace n s sum)
+    → (Screen k → (1 ≤ s) × (s ≤ sumMost)) → ((¬ Screen k) → s ≡ 0) → Filled k n at sum → Filled k (suc n) (replace n e at) (replace n s sum)
 put-filled k n e s at sum hk fits he new on off f = record {
   packed = append-packed at n e (f .packed) fits he new;
   objectEmpty = λ q. absurd (omega arith);
@@ -38,9 +39,9 @@ pub record Takes (d : Tables) (c e s : ℕ) : Type 0 where
   pub new : (i : ℕ) → i < usedPlaces d c → places d c i ≢ e
   pub free : kinds d c ≡ containerKind → (b : ℕ) → InTables d b e → ⊥
   pub apart : Within (InTables d) c e → ⊥
-  pub onIt : kinds d c ≡ deviceKind → (u : ℕ) × (devices d u ≡ c)
-  pub sumOn : kinds d c ≡ deviceKind → (1 ≤ s) × (s ≤ sumMost)
-  pub sumOff : kinds d c ≢ deviceKind → s ≡ 0
+  pub onIt : Terminal (kinds d c) → (u : ℕ) × (devices d u ≡ c)
+  pub sumOn : Screen (kinds d c) → (1 ≤ s) × (s ≤ sumMost)
+  pub sumOff : (¬ Screen (kinds d c)) → s ≡ 0
 
 module _ (d : Tables) (w : WellFormed d) (c e s : ℕ) (t : Takes d c e s) where
   put-ok : EntityOk (d .entity c) → EntityOk (written (putting c e s d) (d .entity c))
@@ -63,7 +64,7 @@ module _ (d : Tables) (w : WellFormed d) (c e s : ℕ) (t : Takes d c e s) where
   put-grown x a h = grown (kinds d) (usedPlaces d) (places d) (devices d) (w .links) c e x a h
 
   pub put-secure : Secure d → AtMost (d .entity e level) (d .entity c level)
-      → ((u : ℕ) → devices d u ≡ c → AtMost (d .entity e level) (d .user u clearance)) → (kinds d c ≡ deviceKind → T (labelled s))
+      → ((u : ℕ) → devices d u ≡ c → AtMost (d .entity e level) (d .user u clearance)) → (Screen (kinds d c) → T (labelled s))
       → Secure (put c e s d)
   put-secure o low clear label = record {
     contained = λ x a h. in-it x a (put-grown x a h);
@@ -81,7 +82,7 @@ module _ (d : Tables) (w : WellFormed d) (c e s : ℕ) (t : Takes d c e s) where
       on-it u a on (inl h) = o .seen u a on h
       on-it u a on (inr q) = rw (q .1) (clear u (q .0))
 
-      shows : (x i : ℕ) → kinds d x ≡ deviceKind → (b : Bool) → Same x c b → i < pick b (suc (usedPlaces d c)) (usedPlaces d x)
+      shows : (x i : ℕ) → Screen (kinds d x) → (b : Bool) → Same x c b → i < pick b (suc (usedPlaces d c)) (usedPlaces d x)
           → T (labelled (pick b (replace (usedPlaces d c) s (sums d c) i) (sums d x i)))
       shows x i k true (it q) l = case (λ (y : ℕ). T (labelled y)) i (usedPlaces d c) s (sums d c i) (λ z. label (ap (kinds d) (sym q) ∙ k))
           (λ z. o .valueLabelled c i (ap (kinds d) (sym q) ∙ k) (omega arith))
@@ -105,14 +106,14 @@ module _ (d : Tables) (w : WellFormed d) (e : ℕ) where
   pub stayed : (x c : ℕ) → Holds (leave e d) x c → Holds d x c × (kinds d x ≡ containerKind → c ≢ e)
   stayed x c = go (eqb (kinds d x) containerKind) (same (kinds d x) containerKind)
     where
-      go : (b : Bool) → Same (kinds d x) 2 b
+      go : (b : Bool) → Same (kinds d x) containerKind b
           → Member (λ i. pick b (without e (places d x) (usedPlaces d x) i) (places d x i)) (pick b (left e (places d x) (usedPlaces d x)) (usedPlaces d x)) c
           → Holds d x c × (kinds d x ≡ containerKind → c ≢ e)
       go true (it q) m = let y = without-member e (places d x) (usedPlaces d x) (w .entities x .filled .packed) c m in (y .0, λ z. y .1)
       go false (other q) m = (m, λ z. absurd (q z))
 
   pub fewer-there : (x : ℕ) → usedPlaces (leave e d) x ≤ usedPlaces d x
-  fewer-there x = case (λ (y : ℕ). y ≤ usedPlaces d x) (kinds d x) 2 (left e (places d x) (usedPlaces d x)) (usedPlaces d x)
+  fewer-there x = case (λ (y : ℕ). y ≤ usedPlaces d x) (kinds d x) containerKind (left e (places d x) (usedPlaces d x)) (usedPlaces d x)
       (λ q. without-fewer e (places d x) (usedPlaces d x) (w .entities x .filled .packed)) (λ q. omega arith)
 
   pub leave-wellFormed : WellFormed (leave e d)
@@ -122,7 +123,8 @@ module _ (d : Tables) (w : WellFormed d) (e : ℕ) where
     users = w .users;
     entities = all EntityOk (λ x. eqb (kinds d x) containerKind) (leaving e d) (d .entity) (w .entities)
         (λ x t. leave-ok x (eqb→eq (kinds d x) containerKind t) (w .entities x));
-    links = shrink (kinds d) (usedPlaces d) (places d) (devices d) (w .links) (usedPlaces (leave e d)) (places (leave e d)) (λ x c h. stayed x c h .0) fewer-there;
+    links = shrink (kinds d) (usedPlaces d) (places d) (devices d) (w .links) (usedPlaces (leave e d)) (places (leave e d))
+        (λ x c h. stayed x c h .0) fewer-there;
   }
 
   pub leave-secure : Secure d → Secure (leave e d)

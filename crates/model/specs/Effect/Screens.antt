@@ -4,8 +4,8 @@ use lib.Dec.{ltb}
 use Rattle.model.specs.Basics.Choice.{pick}
 use Rattle.model.specs.Tables.Edits.{Edit, _and_, onEntity, onUser, row, userWord, word}
 use Rattle.model.specs.Tables.Rows.{replace, seek}
-use Rattle.model.specs.Tables.Words.{EntityWord, Tables, UserWord, used, usedPlaces, current, device, devices, place, places, shown}
-use Rattle.model.specs.Tables.Words.{sums}
+use Rattle.model.specs.Tables.Words.{EntityWord, Tables, UserWord, current, device, devices, place, places, shown, sums, used}
+use Rattle.model.specs.Tables.Words.{usedPlaces}
 
 -- the place of e on the device v, or the next free one
 abbrev pub spot : ℕ → ℕ → Tables → ℕ

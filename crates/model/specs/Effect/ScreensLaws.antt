@@ -15,9 +15,10 @@ use Rattle.model.specs.State.Secure.{Secure, labelled}
 use Rattle.model.specs.State.WellFormed.{EntityOk, Filled, Holds, UserOk, WellFormed}
 use Rattle.model.specs.Tables.EditLaws.{case, each, member-emptied}
 use Rattle.model.specs.Tables.Edits.{userWord, written}
+use Rattle.model.specs.Tables.Kinds.{Screen, Terminal}
 use Rattle.model.specs.Tables.RowLaws.{packed-none}
-use Rattle.model.specs.Tables.Words.{Tables, authorised, clearance, usedPlaces, current, device, deviceKind, devices, kinds, level}
-use Rattle.model.specs.Tables.Words.{places, present, sums}
+use Rattle.model.specs.Tables.Words.{Tables, authorised, clearance, current, device, devices, kinds, level, places, present, sums}
+use Rattle.model.specs.Tables.Words.{usedPlaces}
 
 -- 11 clear
 empty-filled : (k : ℕ) → Filled k 0 (λ i. 0) (λ i. 0)
@@ -51,7 +52,7 @@ module _ (d : Tables) (w : WellFormed d) (v : ℕ) where
     ceiling = o .ceiling;
   }
     where
-      shows : (x i : ℕ) → kinds d x ≡ deviceKind → (b : Bool) → i < pick b 0 (usedPlaces d x) → T (labelled (pick b 0 (sums d x i)))
+      shows : (x i : ℕ) → Screen (kinds d x) → (b : Bool) → i < pick b 0 (usedPlaces d x) → T (labelled (pick b 0 (sums d x i)))
       shows x i k true l = absurd (not-suc-le-zero l)
       shows x i k false l = o .valueLabelled x i k l
 
@@ -63,7 +64,7 @@ module _ (d : Tables) (w : WellFormed d) (s : Secure d) (u v : ℕ) (p : d .user
   none-at-0 : kinds d 0 ≡ 0
   none-at-0 = let h : ¬ (1 ≤ kinds d 0) = λ z. omega (arith, w .entityNumbers 0 (omega arith)) in omega arith
 
-  pub login-wellFormed : d .user u device ≡ 0 → kinds d v ≡ deviceKind → ((x : ℕ) → devices d x ≢ v) → WellFormed (login u v d)
+  pub login-wellFormed : d .user u device ≡ 0 → Terminal (kinds d v) → ((x : ℕ) → devices d x ≢ v) → WellFormed (login u v d)
   login-wellFormed off h free = record {
     userNumbers = w .userNumbers;
     entityNumbers = w .entityNumbers;
@@ -72,7 +73,7 @@ module _ (d : Tables) (w : WellFormed d) (s : Secure d) (u v : ℕ) (p : d .user
     links = arrive (kinds d) (usedPlaces d) (places d) (devices d) (w .links) u v none-at-0 off h free;
   }
 
-  pub login-secure : kinds d v ≡ deviceKind → ((x : ℕ) → devices d x ≢ v) → Secure (login u v d)
+  pub login-secure : Terminal (kinds d v) → ((x : ℕ) → devices d x ≢ v) → Secure (login u v d)
   login-secure h free = record {
     contained = s .contained;
     seen = λ x c. case (λ (y : ℕ). y ≢ 0 → Holds d y c → AtMost (d .entity c level) (d .user x clearance)) x u v (devices d x)

@@ -14,12 +14,13 @@ use Rattle.model.specs.State.Secure.{Good, Secure, labelled}
 use Rattle.model.specs.State.WellFormed.{EntityOk, Filled, Holds, Thing, WellFormed}
 use Rattle.model.specs.Tables.EditLaws.{case, each, member-cases}
 use Rattle.model.specs.Tables.Edits.{onEntity, written}
+use Rattle.model.specs.Tables.Kinds.{Screen}
 use Rattle.model.specs.Tables.RowLaws.{replace-same, sought}
 use Rattle.model.specs.Tables.Rows.{Member, Sought, replace}
-use Rattle.model.specs.Tables.Words.{Tables, clearance, usedPlaces, deviceKind, devices, kinds, level, placeCount, places, sumMost, sums}
+use Rattle.model.specs.Tables.Words.{Tables, clearance, devices, kinds, level, placeCount, places, sumMost, sums, usedPlaces}
 
 -- the entity is there already: only its sum changes
-again-filled : (n i s : ℕ) (at sum : ℕ → ℕ) (k : ℕ) → k ≡ deviceKind → i < n → (1 ≤ s) × (s ≤ sumMost) → Filled k n at sum
+again-filled : (n i s : ℕ) (at sum : ℕ → ℕ) (k : ℕ) → Screen k → i < n → (1 ≤ s) × (s ≤ sumMost) → Filled k n at sum
     → Filled k n at (replace i s sum)
 again-filled n i s at sum k h l hs f = record {
   packed = f .packed;
@@ -29,7 +30,7 @@ again-filled n i s at sum k h l hs f = record {
   restSums = λ j lj. case (λ (y : ℕ). y ≡ 0) j i s (sum j) (λ z. absurd (omega arith)) (λ z. f .restSums j lj);
 }
 
-module _ (d : Tables) (w : WellFormed d) (s : Secure d) (u v e a : ℕ) (on : devices d u ≡ v) (screen : kinds d v ≡ deviceKind) (thing : Thing d e)
+module _ (d : Tables) (w : WellFormed d) (s : Secure d) (u v e a : ℕ) (on : devices d u ≡ v) (screen : Screen (kinds d v)) (thing : Thing d e)
     (sum : (1 ≤ a) × (a ≤ sumMost))
     (label : T (labelled a)) (low : AtMost (d .entity e level) (d .entity v level)) (clear : AtMost (d .entity e level) (d .user u clearance)) where
   -- already there, at k
@@ -51,13 +52,13 @@ module _ (d : Tables) (w : WellFormed d) (s : Secure d) (u v e a : ℕ) (on : de
             subst (λ (y : ℕ). Holds d y c) (sym (q .0)) (subst (λ (r : ℕ → ℕ). Member r (usedPlaces d v) c) (replace-same (places d v) k e at-k) (q .1))
         go (inr q) = q .1
 
-    same-count : (x : ℕ) → usedPlaces again x ≤ usedPlaces d x
-    same-count x = case (λ (y : ℕ). y ≤ usedPlaces d x) x v (usedPlaces d v) (usedPlaces d x) (λ q. omega (arith, ap (usedPlaces d) q)) (λ q. omega arith)
+    same-number : (x : ℕ) → usedPlaces again x ≤ usedPlaces d x
+    same-number x = case (λ (y : ℕ). y ≤ usedPlaces d x) x v (usedPlaces d v) (usedPlaces d x) (λ q. omega (arith, ap (usedPlaces d) q)) (λ q. omega arith)
 
     again-wellFormed : WellFormed again
     again-wellFormed =
         let n = each EntityOk (showing v e a d k (usedPlaces d v)) v (d .entity) (w .entities) (again-ok (w .entities v)) in
-        let j = shrink (kinds d) (usedPlaces d) (places d) (devices d) (w .links) (usedPlaces again) (places again) no-more same-count in
+        let j = shrink (kinds d) (usedPlaces d) (places d) (devices d) (w .links) (usedPlaces again) (places again) no-more same-number in
         search
 
     again-secure : Secure again
@@ -66,8 +67,8 @@ module _ (d : Tables) (w : WellFormed d) (s : Secure d) (u v e a : ℕ) (on : de
       seen = λ x c o h. s .seen x c o (no-more (devices d x) c h);
       valueLabelled = λ x j h m. case (λ (y : ℕ). T (labelled y)) x v (replace k a (sums d v) j) (sums d x j)
           (λ q. case (λ (y : ℕ). T (labelled y)) j k a (sums d v j) (λ z. label)
-          (λ z. subst (λ (y : ℕ). T (labelled (sums d y j))) q (s .valueLabelled x j h (omega (arith, same-count x)))))
-          (λ q. s .valueLabelled x j h (omega (arith, same-count x)));
+          (λ z. subst (λ (y : ℕ). T (labelled (sums d y j))) q (s .valueLabelled x j h (omega (arith, same-number x)))))
+          (λ q. s .valueLabelled x j h (omega (arith, same-number x)));
       roles = s .roles;
       ceiling = s .ceiling;
     }

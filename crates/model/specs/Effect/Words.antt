@@ -8,7 +8,7 @@ use Rattle.model.specs.Tables.Words.{releasedType, releaser, type, value
 abbrev pub edit : ℕ → ℕ → Tables → Tables
 edit e v = onEntity e (word value v)
 
--- Rule 6.5: a's value into b.
+-- Rule 6.5: the value of b is that of a.
 abbrev pub copy : ℕ → ℕ → Tables → Tables
 copy a b d = edit b (d .entity a value) d
 

@@ -12,8 +12,9 @@ use Rattle.model.specs.State.Secure.{Secure}
 use Rattle.model.specs.State.WellFormed.{EntityOk, Thing, UserOk, WellFormed}
 use Rattle.model.specs.Tables.EditLaws.{case, each}
 use Rattle.model.specs.Tables.Edits.{_and_, userWord, word, written}
-use Rattle.model.specs.Tables.Words.{Tables, authorised, clearance, containerKind, current, device, deviceKind, kind, level, mark}
-use Rattle.model.specs.Tables.Words.{maximum, present, releasedType, releaser, type, userCount, value}
+use Rattle.model.specs.Tables.Kinds.{Screen}
+use Rattle.model.specs.Tables.Words.{Tables, authorised, clearance, containerKind, current, device, kind, level, mark, maximum}
+use Rattle.model.specs.Tables.Words.{present, releasedType, releaser, type, userCount, value}
 
 module _ (d : Tables) (w : WellFormed d) where
   -- 4 edit
@@ -38,10 +39,10 @@ module _ (d : Tables) (w : WellFormed d) where
   mark-wellFormed e v t h = let n = each EntityOk (word mark v) e (d .entity) (w .entities) (mark-ok e v t h (w .entities e)) in search
 
   -- 17 maximum
-  maximum-ok : (e v : ℕ) → d .entity e kind ≡ deviceKind → v < levelCount → EntityOk (d .entity e) → EntityOk (written (word maximum v) (d .entity e))
+  maximum-ok : (e v : ℕ) → Screen (d .entity e kind) → v < levelCount → EntityOk (d .entity e) → EntityOk (written (word maximum v) (d .entity e))
   maximum-ok e v t h o = search arith
 
-  pub maximum-wellFormed : (e v : ℕ) → d .entity e kind ≡ deviceKind → v < levelCount → WellFormed (setMaximum e v d)
+  pub maximum-wellFormed : (e v : ℕ) → Screen (d .entity e kind) → v < levelCount → WellFormed (setMaximum e v d)
   maximum-wellFormed e v t h = let n = each EntityOk (word maximum v) e (d .entity) (w .entities) (maximum-ok e v t h (w .entities e)) in search
 
   -- 19 release
@@ -91,7 +92,7 @@ module _ (d : Tables) (s : Secure d) where
 
   pub maximum-secure : (e v : ℕ) → AtMost (d .entity e level) v → Secure (setMaximum e v d)
   maximum-secure e v h =
-      let n : (x : ℕ) → d .entity x kind ≡ deviceKind → AtMost (d .entity x level) (pick (eqb x e) v (d .entity x maximum))
+      let n : (x : ℕ) → Screen (d .entity x kind) → AtMost (d .entity x level) (pick (eqb x e) v (d .entity x maximum))
       = λ x k. case (λ (y : ℕ). AtMost (d .entity x level) y) x e v (d .entity x maximum) (λ q. rw q h) (λ q. s .ceiling x k) in
       search
 

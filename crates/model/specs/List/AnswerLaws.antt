@@ -11,13 +11,13 @@ use Rattle.model.specs.Basics.Choice.{pick}
 use Rattle.model.specs.Basics.TestLaws.{only}
 use Rattle.model.specs.Basics.Tests.{every, imp}
 use Rattle.model.specs.Level.{atMost, bit}
-use Rattle.model.specs.List.Further.{further}
+use Rattle.model.specs.List.Further.{asker, checked, further}
 use Rattle.model.specs.List.Listing.{barred, showing}
 use Rattle.model.specs.Request.Asked.{asked, basisOf, operand}
 use Rattle.model.specs.Request.Conditions.{Kind, aSum, between, isEntity, levelOf, showAbove, showNoRoom, showUnlabelled, unused}
-use Rattle.model.specs.Request.Ladder.{Rung, answer, bars, fits, ladder, leadsNowhere, lengthFits, lowest, namesFit, noAccess, notCleared}
-use Rattle.model.specs.Request.Ladder.{notLoggedOn, notSecure, notUnderstood, notWellFormed, ofOp, ownRung, permits, rangeAt, refused}
-use Rattle.model.specs.Request.Ladder.{someOperand, unknownUser, wrongKind}
+use Rattle.model.specs.Request.Ladder.{Rung, answer, bars, fits, ladder, leadsNowhere, lengthFits, lowest, namesFit, noAccess}
+use Rattle.model.specs.Request.Ladder.{notCleared, notLoggedOn, notSecure, notUnderstood, notWellFormed, ofOp, ownRung, permits}
+use Rattle.model.specs.Request.Ladder.{rangeAt, refused, someOperand, unknownUser, wrongKind}
 use Rattle.model.specs.Request.LadderLaws.{lowest-none, ofOp-some}
 use Rattle.model.specs.Request.OperationLaws.{number-opOf}
 use Rattle.model.specs.Request.Operations.{Op, numberOf, opOf, rowOf, toShow}
@@ -28,6 +28,7 @@ use Rattle.model.specs.State.Check.{check, judge, secureTest, wellFormed
 use Rattle.model.specs.State.Secure.{labelled}
 use Rattle.model.specs.Tables.Layout.{tablesOf, wordCount}
 use Rattle.model.specs.Tables.Words.{Tables, clearance, devices}
+use Rattle.model.specs.Request.Refusals as refusal
 
 -- The sixteen words name the reference, and are in the form that show asks.
 showing-names : (u : ℕ) (r : List ℕ) → length r ≤ nameCount → names (requestOf (showing u r) .first) ≡ r
@@ -123,52 +124,54 @@ module _ (d : Tables) (u : ℕ) (r : List ℕ) (low : 1 ≤ length r) (high : le
   unfolding ownRung
   own-rung n b e = ofOp-some q toShow named (λ o. refused n (rowOf o .conditions) d (asked d q)) ∙ e
 
-  rung13 : ownRung 13 d q
+  rung13 : ownRung refusal.levelOrRoles d q
       ≡ not (atMost (levelOf d (resolve d r)) (d .user u clearance)) || not (atMost (levelOf d (resolve d r)) (levelOf d (devices d u)))
   unfolding refused showAbove asked q requestOf showing
-  rung13 = own-rung 13 _ (ap (λ (ns : List ℕ). not (atMost (levelOf d (resolve d ns)) (d .user u clearance))
+  rung13 = own-rung refusal.levelOrRoles _ (ap (λ (ns : List ℕ). not (atMost (levelOf d (resolve d ns)) (d .user u clearance))
       || not (atMost (levelOf d (resolve d ns)) (levelOf d (devices d u)))) (showing-names u r high))
 
-  rung15 : ownRung 15 d q ≡ false
+  rung15 : ownRung refusal.arrangement d q ≡ false
   unfolding refused showUnlabelled labelled imp bit asked q requestOf showing
-  rung15 = own-rung 15 false refl
+  rung15 = own-rung refusal.arrangement false refl
 
-  rung14 : ownRung 14 d q ≡ showNoRoom d (asked d q)
+  rung14 : ownRung refusal.noRoom d q ≡ showNoRoom d (asked d q)
   unfolding refused
-  rung14 = own-rung 14 (showNoRoom d (asked d q)) refl
+  rung14 = own-rung refusal.noRoom (showNoRoom d (asked d q)) refl
 
   -- so the whole ladder
-  show-ladder : answer d q ≡ pick (not (wellFormedTest d)) 2 (pick (not (secureTest d)) 3 (pick (unknownUser d (requestOf (showing u []))) 4
-      (pick (notLoggedOn d (requestOf (showing u []))) 6 (further d u r))))
+  show-ladder : answer d q ≡ pick (not (wellFormedTest d)) refusal.notWellFormed (pick (not (secureTest d)) refusal.notSecure
+      (asker (unknownUser d (requestOf (showing u []))) (notLoggedOn d (requestOf (showing u []))) (further d u r)))
   unfolding answer ladder refused further q
   show-ladder =
-      lowest-first 2 notWellFormed _ d q _ _ rung2 (
-      lowest-first 3 notSecure _ d q _ _ rung3 (
-      lowest-first 4 unknownUser _ d q _ _ rung4 (
-      lowest-first 5 notUnderstood _ d q _ _ rung5 (
-      lowest-first 6 notLoggedOn _ d q _ _ rung6 (
-      lowest-first 7 leadsNowhere _ d q _ _ rung7 (
-      lowest-first 8 noAccess _ d q _ _ rung8 (
-      lowest-first 9 notCleared _ d q _ _ rung9 (
-      lowest-first 10 wrongKind _ d q _ _ rung10 (
-      lowest-first 11 (ownRung 11) _ d q _ _ (own-rung 11 false refl) (
-      lowest-first 12 (ownRung 12) _ d q _ _ (own-rung 12 false refl) (
-      lowest-first 13 (ownRung 13) _ d q _ _ rung13 (
-      lowest-first 14 (ownRung 14) _ d q _ _ rung14 (
-      lowest-first 15 (ownRung 15) _ d q _ _ rung15 (
-      lowest-first 16 (ownRung 16) [] d q _ _ (own-rung 16 false refl) (lowest-none 17 [] d q tt)))))))))))))))
+      lowest-first refusal.notWellFormed notWellFormed _ d q _ _ rung2 (
+      lowest-first refusal.notSecure notSecure _ d q _ _ rung3 (
+      lowest-first refusal.unknownRequester unknownUser _ d q _ _ rung4 (
+      lowest-first refusal.badRequest notUnderstood _ d q _ _ rung5 (
+      lowest-first refusal.notLoggedOn notLoggedOn _ d q _ _ rung6 (
+      lowest-first refusal.noSuchName leadsNowhere _ d q _ _ rung7 (
+      lowest-first refusal.noAccess noAccess _ d q _ _ rung8 (
+      lowest-first refusal.marked notCleared _ d q _ _ rung9 (
+      lowest-first refusal.wrongKind wrongKind _ d q _ _ rung10 (
+      lowest-first refusal.noSuchUser (ownRung refusal.noSuchUser) _ d q _ _ (own-rung refusal.noSuchUser false refl) (
+      lowest-first refusal.roleMissing (ownRung refusal.roleMissing) _ d q _ _ (own-rung refusal.roleMissing false refl) (
+      lowest-first refusal.levelOrRoles (ownRung refusal.levelOrRoles) _ d q _ _ rung13 (
+      lowest-first refusal.noRoom (ownRung refusal.noRoom) _ d q _ _ rung14 (
+      lowest-first refusal.arrangement (ownRung refusal.arrangement) _ d q _ _ rung15 (
+      lowest-first refusal.notAcknowledged (ownRung refusal.notAcknowledged) [] d q _ _ (own-rung refusal.notAcknowledged false refl) (
+      lowest-none refusal.tooShort [] d q tt)))))))))))))))
 
 module _ (t : List ℕ) (u : ℕ) (r : List ℕ) (low : 1 ≤ length r) (high : length r ≤ nameCount) where
   -- Of words: one of the list's own refusals, or a further rung.
-  pub show-answer : answerOf t (showing u r) ≡ pick (eqb (barred t u) 0) (further (tablesOf t) u r) (barred t u)
+  pub show-answer : answerOf t (showing u r) ≡ pick (eqb (barred t u) refusal.accepted) (further (tablesOf t) u r) (barred t u)
   unfolding answerOf sized barred check judge q showing
-  show-answer = ap (λ (n : ℕ). pick (sized t (showing u r)) n 1) (show-ladder (tablesOf t) u r low high)
+  show-answer = ap (λ (n : ℕ). pick (sized t (showing u r)) n refusal.badLength) (show-ladder (tablesOf t) u r low high)
       ∙ go (eqb (length t) wordCount) (wellFormedTest (tablesOf t)) (secureTest (tablesOf t)) (unknownUser (tablesOf t) (requestOf (showing u [])))
       (notLoggedOn (tablesOf t) (requestOf (showing u []))) (further (tablesOf t) u r)
     where
-      go : (a w s k o : Bool) (n : ℕ) → _≡_ {A = ℕ} (pick (a && true) (pick (not w) 2 (pick (not s) 3 (pick k 4 (pick o 6 n)))) 1)
-          (pick (eqb (pick (eqb (pick a (pick w (pick s 0 3) 2) 1) 0) (pick k 4 (pick o 6 0)) (pick a (pick w (pick s 0 3) 2) 1)) 0) n
-          (pick (eqb (pick a (pick w (pick s 0 3) 2) 1) 0) (pick k 4 (pick o 6 0)) (pick a (pick w (pick s 0 3) 2) 1)))
+      go : (a w s k o : Bool) (n : ℕ) → _≡_ {A = ℕ}
+          (pick (a && true) (pick (not w) refusal.notWellFormed (pick (not s) refusal.notSecure (asker k o n))) refusal.badLength)
+          (pick (eqb (pick (eqb (checked a w s) refusal.accepted) (asker k o refusal.accepted) (checked a w s)) refusal.accepted) n
+          (pick (eqb (checked a w s) refusal.accepted) (asker k o refusal.accepted) (checked a w s)))
       go true true true true o n = refl
       go true true true false true n = refl
       go true true true false false n = refl

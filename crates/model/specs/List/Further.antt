@@ -14,13 +14,28 @@ use Rattle.model.specs.Request.Operations.{numberOf, toShow}
 use Rattle.model.specs.Request.Reference.{basis, resolve}
 use Rattle.model.specs.Request.Words.{requestOf}
 use Rattle.model.specs.Tables.Words.{Tables, clearance, devices}
+use Rattle.model.specs.Request.Refusals as refusal
 
--- the entity e, by the entities w: nowhere, not permitted, not cleared, no entity, too high, no room
+-- the state check's answer, of its three tests: the length, well-formed, secure
+abbrev pub checked : Bool → Bool → Bool → ℕ
+checked a w s = pick a (pick w (pick s refusal.accepted refusal.notSecure) refusal.notWellFormed) refusal.badLength
+
+-- the rungs that ask who requests, and n where neither applies
+abbrev pub asker : Bool → Bool → ℕ → ℕ
+asker unknown off n = pick unknown refusal.unknownRequester (pick off refusal.notLoggedOn n)
+
+-- the rungs from 7 on: nowhere, not permitted, not cleared, no entity, too high, no room
+abbrev pub rungs : (nowhere shut barred other above full : Bool) → ℕ
+rungs nowhere shut barred other above full =
+    pick nowhere refusal.noSuchName (pick shut refusal.noAccess (pick barred refusal.marked (pick other refusal.wrongKind
+    (pick above refusal.levelOrRoles (pick full refusal.noRoom refusal.accepted)))))
+
+-- those rungs of the entity e, by the entities w
 abbrev pub furtherAt : Tables → ℕ → List ℕ → List ℕ → ℕ → ℕ
 furtherAt d u r w e =
-    pick (eqb e 0) 7 (pick (not (permits d u (numberOf toShow) 1 e)) 8 (pick (bars d (d .user u clearance) w) 9 (pick (not (isEntity d e)) 10
-    (pick (not (atMost (levelOf d e) (d .user u clearance)) || not (atMost (levelOf d e) (levelOf d (devices d u)))) 13
-    (pick (showNoRoom d (asked d (requestOf (showing u r)))) 14 0)))))
+    rungs (eqb e 0) (not (permits d u (numberOf toShow) 1 e)) (bars d (d .user u clearance) w) (not (isEntity d e))
+    (not (atMost (levelOf d e) (d .user u clearance)) || not (atMost (levelOf d e) (levelOf d (devices d u))))
+    (showNoRoom d (asked d (requestOf (showing u r))))
 
 unfoldable pub further : Tables → ℕ → List ℕ → ℕ
 further d u r = furtherAt d u r (basis d r) (resolve d r)

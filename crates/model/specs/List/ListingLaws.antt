@@ -24,17 +24,17 @@ use Rattle.model.specs.Request.Ladder.{bars}
 use Rattle.model.specs.Request.Reference.{standing}
 use Rattle.model.specs.State.WellFormed.{WellFormed}
 use Rattle.model.specs.Tables.Layout.{tablesOf}
-use Rattle.model.specs.Tables.Words.{Tables, clearance, usedPlaces, entityCount, placeCount}
+use Rattle.model.specs.Tables.Words.{Tables, clearance, entityCount, placeCount, usedPlaces}
 use Rattle.model.specs.Request.Refusals as refusal
 
 -- Rules 10.3 to 10.6: where the list is not refused, the walk makes the complete list.
-pub found-complete : (t : List ℕ) (u : ℕ) → barred t u ≡ 0 → Complete (opens t u) (found (tablesOf t) u)
+pub found-complete : (t : List ℕ) (u : ℕ) → barred t u ≡ refusal.accepted → Complete (opens t u) (found (tablesOf t) u)
 unfolding found
 found-complete t u h = walk-complete (ways (tablesOf t) u) (standing (tablesOf t)) (showable (tablesOf t) u) entityCount (opens t u)
     (λ r low high. shown-reached t u r low high h)
 
 -- Where it is, no reference opens.
-pub none-complete : (t : List ℕ) (u : ℕ) → barred t u ≢ 0 → Complete (opens t u) []
+pub none-complete : (t : List ℕ) (u : ℕ) → barred t u ≢ refusal.accepted → Complete (opens t u) []
 none-complete t u h = complete-none (opens t u) (λ r low high. barred-opens t u r low high h)
 
 -- No more places lead on than are used,
@@ -51,7 +51,7 @@ pub ways-few : (d : Tables) → WellFormed d → (u e : ℕ) → ways d u e ≤ 
 ways-few d w u e = omega (arith, ways-used d u e, w .entities e .filled .packed .room)
 
 -- so no list is longer than 37,440.
-pub found-bound : (t : List ℕ) (u : ℕ) → barred t u ≡ 0 → length (found (tablesOf t) u) ≤ mostEntries
+pub found-bound : (t : List ℕ) (u : ℕ) → barred t u ≡ refusal.accepted → length (found (tablesOf t) u) ≤ mostEntries
 unfolding found
 found-bound t u h = walk-bound (ways (tablesOf t) u) (standing (tablesOf t)) (showable (tablesOf t) u)
     (ways-few (tablesOf t) (barred-admitted t u h .good .0) u) entityCount
@@ -76,66 +76,79 @@ module _ {t : List ℕ} {u : ℕ} {room : List ℕ} where
 
   -- Its number is a small one.
   pub lists-small : {a n : ℕ} {r : List ℕ} → Lists t u room a n r → n ≤ mostEntries
-  lists-small {a} {n} x = go (eqb (barred t u) 0) (same (barred t u) 0)
+  lists-small {a} {n} x = go (eqb (barred t u) refusal.accepted) (same (barred t u) refusal.accepted)
     where
-      go : (b : Bool) → Same (barred t u) 0 b → n ≤ mostEntries
-      go true (it h) = omega (arith, lists-any x (found (tablesOf t) u) (found-complete t u h) .1, ap (λ (k : ℕ). listNumber k (found (tablesOf t) u)) h, found-bound t u h)
-      go false (other h) = omega (arith, lists-any x [] (none-complete t u h) .1, pick-same {A = ℕ} (eqb (barred t u) 0) 0)
+      go : (b : Bool) → Same (barred t u) refusal.accepted b → n ≤ mostEntries
+      go true (it h) = omega (
+        arith,
+        lists-any x (found (tablesOf t) u) (found-complete t u h) .1,
+        ap (λ (k : ℕ). listNumber k (found (tablesOf t) u)) h,
+        found-bound t u h,
+      )
+      go false (other h) = omega (arith, lists-any x [] (none-complete t u h) .1, pick-same {A = ℕ} (eqb (barred t u) refusal.accepted) 0)
 
 module _ (t : List ℕ) (u : ℕ) (room : List ℕ) where
   -- Rule 10.2: a refusal 1 to 6 has the number 0, and leaves the room.
-  pub lists-refused : barred t u ≢ 0 → Lists t u room (barred t u) 0 room
+  pub lists-refused : barred t u ≢ refusal.accepted → Lists t u room (barred t u) refusal.accepted room
   lists-refused h =
-      let f = agrees-not (agrees-eq (barred t u) 0) .from h in record {
+      let f = agrees-not (agrees-eq (barred t u) refusal.accepted) .from h in record {
         list = [];
         complete = none-complete t u h;
-        answer = sym (pick-false (eqb (barred t u) 0) (pick (leb 0 (length room)) 0 refusal.tooShort) (barred t u) f);
-        number = sym (pick-same (eqb (barred t u) 0) 0);
-        words = sym (pick-false (eqb (barred t u) 0) (entries [] ++ drop (length (entries [])) room) room f);
+        answer = sym (pick-false (eqb (barred t u) refusal.accepted) (pick (leb 0 (length room)) refusal.accepted refusal.tooShort) (barred t u) f);
+        number = sym (pick-same (eqb (barred t u) refusal.accepted) 0);
+        words = sym (pick-false (eqb (barred t u) refusal.accepted) (entries [] ++ drop (length (entries [])) room) room f);
       }
 
   l : List (List ℕ)
   l = found (tablesOf t) u
 
   -- with room or without, the number is of what is found
-  counted : barred t u ≡ 0 → length l ≡ listNumber (barred t u) l
-  counted h = sym (pick-true (eqb (barred t u) 0) (length l) 0 (agrees-eq (barred t u) 0 .from h))
+  counted : barred t u ≡ refusal.accepted → length l ≡ listNumber (barred t u) l
+  counted h = sym (pick-true (eqb (barred t u) refusal.accepted) (length l) 0 (agrees-eq (barred t u) refusal.accepted .from h))
 
-  answered : (a : ℕ) → barred t u ≡ 0 → pick (leb (entryWords * length l) (length room)) 0 refusal.tooShort ≡ a → a ≡ listAnswer (barred t u) l (length room)
+  answered : (a : ℕ) → barred t u ≡ refusal.accepted
+      → pick (leb (entryWords * length l) (length room)) refusal.accepted refusal.tooShort ≡ a → a ≡ listAnswer (barred t u) l (length room)
   answered a h e =
-      let f = agrees-eq (barred t u) 0 .from h in
-      sym (pick-true (eqb (barred t u) 0) (pick (leb (entryWords * length l) (length room)) 0 refusal.tooShort) (barred t u) f ∙ e)
+      let f = agrees-eq (barred t u) refusal.accepted .from h in
+      sym (pick-true (eqb (barred t u) refusal.accepted) (pick (leb (entryWords * length l) (length room)) refusal.accepted refusal.tooShort)
+      (barred t u) f ∙ e)
 
   -- Too little room is answered 17, with the number of entries that there are, and stays as it was.
-  pub lists-short : barred t u ≡ 0 → length room < entryWords * length (found (tablesOf t) u) → Lists t u room refusal.tooShort (length (found (tablesOf t) u)) room
+  pub lists-short : barred t u ≡ refusal.accepted → length room < entryWords * length (found (tablesOf t) u)
+      → Lists t u room refusal.tooShort (length (found (tablesOf t) u)) room
   unfolding l
   lists-short h k = record {
     list = l;
     complete = found-complete t u h;
-    answer = answered refusal.tooShort h (pick-false (leb (entryWords * length l) (length room)) 0 refusal.tooShort (fails-le (entryWords * length l) (length room) .from k));
+    answer = answered refusal.tooShort h
+        (pick-false (leb (entryWords * length l) (length room)) refusal.accepted refusal.tooShort (fails-le (entryWords * length l) (length room) .from k));
     number = counted h;
     words = refl;
   }
 
-  -- Rule 10.7: with room enough the entries stand at its front, and the words behind them stay.
-  pub lists-written : (r : List ℕ) → barred t u ≡ 0 → entryWords * length (found (tablesOf t) u) ≤ length room
-      → r ≡ entries (found (tablesOf t) u) ++ drop (length (entries (found (tablesOf t) u))) room → Lists t u room 0 (length (found (tablesOf t) u)) r
+  -- Rule 10.7: with room enough the entries stand at its front, and the words after them stay.
+  pub lists-written : (r : List ℕ) → barred t u ≡ refusal.accepted → entryWords * length (found (tablesOf t) u) ≤ length room
+      → r ≡ entries (found (tablesOf t) u) ++ drop (length (entries (found (tablesOf t) u))) room
+      → Lists t u room refusal.accepted (length (found (tablesOf t) u)) r
   unfolding l
   lists-written r h k e = record {
     list = l;
     complete = found-complete t u h;
-    answer = answered 0 h (pick-true (leb (entryWords * length l) (length room)) 0 refusal.tooShort (agrees-le (entryWords * length l) (length room) .from k));
+    answer = answered refusal.accepted h (pick-true (leb (entryWords * length l) (length room)) refusal.accepted refusal.tooShort
+        (agrees-le (entryWords * length l) (length room) .from k));
     number = counted h;
     words = e;
   }
 
   -- The same of a list that the walk is known to find.
-  pub lists-found : (l : List (List ℕ)) → barred t u ≡ 0 → found (tablesOf t) u ≡ l → entryWords * length l ≤ length room
-      → Lists t u room 0 (length l) (entries l ++ drop (length (entries l)) room)
+  pub lists-found : (l : List (List ℕ)) → barred t u ≡ refusal.accepted → found (tablesOf t) u ≡ l → entryWords * length l ≤ length room
+      → Lists t u room refusal.accepted (length l) (entries l ++ drop (length (entries l)) room)
   lists-found l h e =
-      subst (λ (k : List (List ℕ)). entryWords * length k ≤ length room → Lists t u room 0 (length k) (entries k ++ drop (length (entries k)) room)) e
+      subst (λ (k : List (List ℕ)). entryWords * length k ≤ length room
+      → Lists t u room refusal.accepted (length k) (entries k ++ drop (length (entries k)) room)) e
       (λ k. lists-written (entries (found (tablesOf t) u) ++ drop (length (entries (found (tablesOf t) u))) room) h k refl)
 
-  pub lists-found-short : (l : List (List ℕ)) → barred t u ≡ 0 → found (tablesOf t) u ≡ l → length room < entryWords * length l
+  pub lists-found-short : (l : List (List ℕ)) → barred t u ≡ refusal.accepted → found (tablesOf t) u ≡ l → length room < entryWords * length l
       → Lists t u room refusal.tooShort (length l) room
-  lists-found-short l h e = subst (λ (k : List (List ℕ)). length room < entryWords * length k → Lists t u room refusal.tooShort (length k) room) e (lists-short h)
+  lists-found-short l h e =
+      subst (λ (k : List (List ℕ)). length room < entryWords * length k → Lists t u room refusal.tooShort (length k) room) e (lists-short h)

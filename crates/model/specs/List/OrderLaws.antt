@@ -1,7 +1,7 @@
 -- The order of references is strict and total, a list in order is settled by its members, and how lists in order are put together.
 use mathlib.Core.Bool.{Bool, false, true}
-use mathlib.Core.List.{List, List·Memᴰ, List·Memᴰ·append-cases, List·Memᴰ·cases-cons, List·Memᴰ·head, List·Memᴰ·not-nil, List·Memᴰ·tail}
-use mathlib.Core.List.{[], _++_, _∷_, map}
+use mathlib.Core.List.{List, List·Memᴰ, List·Memᴰ·append-cases, List·Memᴰ·cases-cons, List·Memᴰ·head, List·Memᴰ·not-nil, List·Memᴰ·tail, []}
+use mathlib.Core.List.{_++_, _∷_, map}
 use mathlib.Core.Logic.{_⊎_, inl, inr, ⊎-elim}
 use mathlib.Core.Path.{_∙_, _≡_, ap, ap₂, refl, subst, sym}
 use Prim.Native.Nat.{_<_, suc, zero, ℕ}
@@ -75,7 +75,7 @@ sorted-unique (x ∷ xs) (y ∷ ys) s t f g =
     ap₂ (λ (r : List ℕ) (rs : List (List ℕ)). r ∷ rs) e
     (sorted-unique xs ys (s .1) (t .1) (rest-within x y xs ys e (s .0) f) (rest-within y x ys xs (sym e) (t .0) g))
 
--- Two lists in order, all of one before all of the other, are in order one behind the other.
+-- Two lists in order, all of one before all of the other, are in order one after the other.
 pub sorted-append : (a b : List (List ℕ)) → Sorted a → Sorted b → ((r s : List ℕ) → List·Memᴰ r a → List·Memᴰ s b → Before r s) → Sorted (a ++ b)
 sorted-append [] b s t h = t
 sorted-append (x ∷ xs) b s t h = (

@@ -8,6 +8,6 @@ abbrev pub reach : ℕ → ℕ
 reach zero = 1
 reach (suc k) = 1 + placeCount * reach k
 
--- each of 64 first names, with at most three behind it: 37,440
+-- each of 64 first names, with at most three after it: 37,440
 abbrev pub mostEntries : ℕ
 mostEntries = entityCount * reach (pred nameCount)

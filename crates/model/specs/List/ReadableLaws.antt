@@ -30,6 +30,7 @@ use Rattle.model.specs.Request.Words.{nameCount}
 use Rattle.model.specs.State.WellFormed.{Thing}
 use Rattle.model.specs.Tables.Layout.{tablesOf}
 use Rattle.model.specs.Tables.Words.{Tables, clearance, devices}
+use Rattle.model.specs.Request.Refusals as refusal
 
 -- what the ladder asks of the entity e, at the end of the way w
 abbrev Asks : Tables → ℕ → ℕ → List ℕ → Type 0
@@ -66,9 +67,9 @@ module _ (t : List ℕ) (u : ℕ) (r : List ℕ) where
 
   -- Rule 10.3: the step answers 0 or 14 exactly if the reference is readable.
   pub opens-readable : 1 ≤ length r → length r ≤ nameCount → Agrees (opens t u r) (Readable t u r)
-  opens-readable low high = go (eqb (barred t u) 0) (same (barred t u) 0)
+  opens-readable low high = go (eqb (barred t u) refusal.accepted) (same (barred t u) refusal.accepted)
     where
-      go : (b : Bool) → Same (barred t u) 0 b → Agrees (opens t u r) (Readable t u r)
+      go : (b : Bool) → Same (barred t u) refusal.accepted b → Agrees (opens t u r) (Readable t u r)
       go true (it e) = subst (λ (b : Bool). Agrees b (Readable t u r)) (sym (opens-asks t u r low high e))
           (agrees-as (asks-readable (barred-admitted t u e)) readable-asks (asks-agrees (tablesOf t) u (resolve (tablesOf t) r) (basis (tablesOf t) r)))
       go false (other n) = record {

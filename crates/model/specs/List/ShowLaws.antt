@@ -14,7 +14,7 @@ use Rattle.model.specs.Basics.TestLaws.{fails-false, pick-false, pick-sa
 use Rattle.model.specs.Level.{atMost}
 use Rattle.model.specs.List.AdmittedLaws.{barred-admitted, barred-range}
 use Rattle.model.specs.List.AnswerLaws.{show-answer}
-use Rattle.model.specs.List.Further.{asks, further}
+use Rattle.model.specs.List.Further.{asks, further, rungs}
 use Rattle.model.specs.List.Listing.{Opens, barred, opens, showing}
 use Rattle.model.specs.List.Walk.{arrives, reached}
 use Rattle.model.specs.List.Ways.{showable, ways}
@@ -28,21 +28,22 @@ use Rattle.model.specs.Request.Step.{answerOf}
 use Rattle.model.specs.Request.Words.{nameCount, requestOf}
 use Rattle.model.specs.State.WellFormed.{WellFormed}
 use Rattle.model.specs.Tables.Layout.{tablesOf}
-use Rattle.model.specs.Tables.Words.{Tables, absentKind, clearance, used, usedPlaces, devices, entityCount, kinds, level, mark}
+use Rattle.model.specs.Tables.Words.{Tables, absentKind, clearance, devices, entityCount, kinds, level, mark, used, usedPlaces}
 use Rattle.model.specs.Request.Refusals as refusal
 
 -- Rule 10.3: the test of a reference is its statement.
 pub opens-agrees : (t : List ℕ) (u : ℕ) (r : List ℕ) → Agrees (opens t u r) (Opens t u r)
 unfolding opens
-opens-agrees t u r = agrees-or (agrees-eq (answerOf t (showing u r)) 0) (agrees-eq (answerOf t (showing u r)) refusal.noRoom)
+opens-agrees t u r = agrees-or (agrees-eq (answerOf t (showing u r)) refusal.accepted) (agrees-eq (answerOf t (showing u r)) refusal.noRoom)
 
 -- Rule 10.2: where the list is refused, the step gives the same refusal, whatever reference of one to four names is asked for.
-pub barred-answer : (t : List ℕ) (u : ℕ) (r : List ℕ) → 1 ≤ length r → length r ≤ nameCount → barred t u ≢ 0 → answerOf t (showing u r) ≡ barred t u
+pub barred-answer : (t : List ℕ) (u : ℕ) (r : List ℕ) → 1 ≤ length r → length r ≤ nameCount → barred t u ≢ refusal.accepted
+    → answerOf t (showing u r) ≡ barred t u
 barred-answer t u r low high h = show-answer t u r low high
-    ∙ pick-false (eqb (barred t u) 0) (further (tablesOf t) u r) (barred t u) (agrees-not (agrees-eq (barred t u) 0) .from h)
+    ∙ pick-false (eqb (barred t u) refusal.accepted) (further (tablesOf t) u r) (barred t u) (agrees-not (agrees-eq (barred t u) refusal.accepted) .from h)
 
 -- So no reference opens then.
-pub barred-opens : (t : List ℕ) (u : ℕ) (r : List ℕ) → 1 ≤ length r → length r ≤ nameCount → barred t u ≢ 0 → opens t u r ≡ false
+pub barred-opens : (t : List ℕ) (u : ℕ) (r : List ℕ) → 1 ≤ length r → length r ≤ nameCount → barred t u ≢ refusal.accepted → opens t u r ≡ false
 barred-opens t u r low high h =
     let e = sym (barred-answer t u r low high h) in
     fails-false (opens t u r) (fails-agreed (opens-agrees t u r) .from (⊎-elim (λ z. h (e ∙ z)) (λ z. omega (arith, barred-range t u, e ∙ z))))
@@ -52,11 +53,12 @@ no-way : (p : ℕ) → (leb 1 p && leb p 0) ≡ false
 no-way p = fails-false (leb 1 p && leb p 0) (fails-agreed (agrees-and (agrees-le 1 p) (agrees-le p 0)) .from (λ z. omega (arith, z .0, z .1)))
 
 -- The step opens what passes rungs 7 to 10 and 13.
-pub opens-asks : (t : List ℕ) (u : ℕ) (r : List ℕ) → 1 ≤ length r → length r ≤ nameCount → barred t u ≡ 0
+pub opens-asks : (t : List ℕ) (u : ℕ) (r : List ℕ) → 1 ≤ length r → length r ≤ nameCount → barred t u ≡ refusal.accepted
     → opens t u r ≡ asks (tablesOf t) u (resolve (tablesOf t) r) (bars (tablesOf t) (tablesOf t .user u clearance) (basis (tablesOf t) r))
 unfolding opens further
-opens-asks t u r low high h = ap (λ (a : ℕ). eqb a 0 || eqb a refusal.noRoom)
-    (show-answer t u r low high ∙ pick-true (eqb (barred t u) 0) (further (tablesOf t) u r) (barred t u) (agrees-eq (barred t u) 0 .from h))
+opens-asks t u r low high h = ap (λ (a : ℕ). eqb a refusal.accepted || eqb a refusal.noRoom)
+    (show-answer t u r low high ∙ pick-true (eqb (barred t u) refusal.accepted) (further (tablesOf t) u r) (barred t u)
+    (agrees-eq (barred t u) refusal.accepted .from h))
     ∙ go (eqb e 0) (permits d u (numberOf toShow) 1 e) (bars d (d .user u clearance) (basis d r)) (isEntity d e)
     (atMost (levelOf d e) (d .user u clearance)) (atMost (levelOf d e) (levelOf d (devices d u))) (showNoRoom d (asked d (requestOf (showing u r))))
   where
@@ -66,8 +68,8 @@ opens-asks t u r low high h = ap (λ (a : ℕ). eqb a 0 || eqb a refusal.noRoom)
     e : ℕ
     e = resolve (tablesOf t) r
 
-    go : (z g c k a b f : Bool) → (eqb (pick z 7 (pick (not g) 8 (pick c 9 (pick (not k) 10 (pick (not a || not b) 13 (pick f 14 0)))))) 0
-        || eqb (pick z 7 (pick (not g) 8 (pick c 9 (pick (not k) 10 (pick (not a || not b) 13 (pick f 14 0)))))) refusal.noRoom)
+    go : (z g c k a b f : Bool) → (eqb (rungs z (not g) c (not k) (not a || not b) f) refusal.accepted
+        || eqb (rungs z (not g) c (not k) (not a || not b) f) refusal.noRoom)
         ≡ (not z && (g && (not c && (k && (a && b)))))
     go true g c k a b f = refl
     go false false c k a b f = refl
@@ -168,6 +170,6 @@ module _ (d : Tables) (w : WellFormed d) (u : ℕ) where
       go false k s = refl
 
 -- Rules 10.3 and 10.6: where the list is not refused, a reference of one to four names opens exactly if the walk reaches it.
-pub shown-reached : (t : List ℕ) (u : ℕ) (r : List ℕ) → 1 ≤ length r → length r ≤ nameCount → barred t u ≡ 0
+pub shown-reached : (t : List ℕ) (u : ℕ) (r : List ℕ) → 1 ≤ length r → length r ≤ nameCount → barred t u ≡ refusal.accepted
     → opens t u r ≡ reached (ways (tablesOf t) u) (standing (tablesOf t)) (showable (tablesOf t) u) entityCount r
 shown-reached t u r low high h = opens-asks t u r low high h ∙ resolve-asks (tablesOf t) (barred-admitted t u h .good .0) u r

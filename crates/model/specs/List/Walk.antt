@@ -25,7 +25,7 @@ module _ (ways : ℕ → ℕ) (next : ℕ → ℕ → ℕ) (good : ℕ → Bool)
   arrives e [] = good e
   arrives e (p ∷ ps) = (leb 1 p && leb p (ways e)) && arrives (next e p) ps
 
-  -- The references that the walk lists, with a first name 1 to n and at most k names behind it; and its question to a whole reference.
+  -- The references that the walk lists, with a first name 1 to n and at most k names after it; and its question to a whole reference.
   unfoldable pub walk : ℕ → ℕ → List (List ℕ)
   walk k n = through n (visit k)
 

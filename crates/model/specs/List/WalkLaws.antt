@@ -136,7 +136,7 @@ module _ (ways : ℕ → ℕ) (next : ℕ → ℕ → ℕ) (good : ℕ → Bool)
       → Complete test (walk ways next good (pred nameCount) n)
   unfolding walk
   walk-complete n test asks = record {
-    every = λ r a b h. walk-every 3 n r a b (subst T (asks r a b) (is-true (test r) h));
-    only = λ r m. let h = walk-only 3 n r m in (h .0, h .1, asks r (h .0) (h .1) ∙ holds-true (reached ways next good n r) (h .2));
-    sorted = sorted-through n (visit ways next good 3) (visit-sorted 3);
+    every = λ r a b h. walk-every (pred nameCount) n r a b (subst T (asks r a b) (is-true (test r) h));
+    only = λ r m. let h = walk-only (pred nameCount) n r m in (h .0, h .1, asks r (h .0) (h .1) ∙ holds-true (reached ways next good n r) (h .2));
+    sorted = sorted-through n (visit ways next good (pred nameCount)) (visit-sorted (pred nameCount));
   }

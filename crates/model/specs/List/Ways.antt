@@ -10,7 +10,7 @@ use Rattle.model.specs.Request.Ladder.{bars, permits}
 use Rattle.model.specs.Request.Operations.{numberOf, toShow}
 use Rattle.model.specs.Request.Reference.{standing}
 use Rattle.model.specs.Request.Words.{nameCount}
-use Rattle.model.specs.Tables.Words.{Tables, clearance, usedPlaces, devices, entityCount}
+use Rattle.model.specs.Tables.Words.{Tables, clearance, devices, entityCount, usedPlaces}
 
 -- Rules 7.7 and 7.9: the places of e by which a reference of user u leads on; none where e is marked and its level is not at most the clearance.
 unfoldable pub ways : Tables → ℕ → ℕ → ℕ

@@ -9,6 +9,7 @@ use Rattle.model.specs.Request.Ladder.{answer}
 use Rattle.model.specs.Request.Operations.{numberOf, opOf, rowOf}
 use Rattle.model.specs.Request.Words.{Request}
 use Rattle.model.specs.Tables.Words.{Tables, firstNoticed}
+use Rattle.model.specs.Request.Refusals as refusal
 
 -- Rule 8.4: the effect of an accepted request.
 unfoldable pub effect : Tables → Request → Tables
@@ -20,7 +21,7 @@ noticedOp q = elim (opOf (q .operation)) [ none ↦ 0 | some o ↦ numberOf o ]
 
 -- Rules 8.1, 8.2 and 8.4: what an answer n leaves.
 unfoldable pub leaves : ℕ → Tables → Request → Tables
-leaves n d q = elim (eqb n 0) [ true ↦ effect d q | false ↦ elim (ltb n firstNoticed) [ true ↦ d | false ↦ notice (q .user) n (noticedOp q) d ] ]
+leaves n d q = elim (eqb n refusal.accepted) [ true ↦ effect d q | false ↦ elim (ltb n firstNoticed) [ true ↦ d | false ↦ notice (q .user) n (noticedOp q) d ] ]
 
 -- the tables after a request
 unfoldable pub after : Tables → Request → Tables

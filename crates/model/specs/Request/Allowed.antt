@@ -12,18 +12,19 @@ use Rattle.model.specs.Level.{AtMost, Lower, Subset, downgrader, levelCo
 use Rattle.model.specs.Request.Asked.{Asked, HasRole, asked, basisOf, namedTriple, operand, own}
 use Rattle.model.specs.Request.Conditions.{levelOf}
 use Rattle.model.specs.Request.Form.{Between, Fits}
-use Rattle.model.specs.Request.Operations.{Op, clearanceEffect, levelEffect, numberOf, opOf, rowOf, toAcknowledge}
-use Rattle.model.specs.Request.Operations.{toAuthorised, toClear, toClearance, toCopy, toCreate, toCurrent, toDelete, toDeviceLevel}
-use Rattle.model.specs.Request.Operations.{toEdit, toGrant, toLevel, toLogin, toLogout, toMark, toMaximum, toMove, toRelease}
-use Rattle.model.specs.Request.Operations.{toRevoke, toShow}
+use Rattle.model.specs.Request.Operations.{Op, clearanceEffect, levelEffect, numberOf, opOf, rowOf, toAcknowledge, toAuthorised}
+use Rattle.model.specs.Request.Operations.{toClear, toClearance, toCopy, toCreate, toCurrent, toDelete, toDeviceLevel, toEdit}
+use Rattle.model.specs.Request.Operations.{toGrant, toLevel, toLogin, toLogout, toMark, toMaximum, toMove, toRelease, toRevoke}
+use Rattle.model.specs.Request.Operations.{toShow}
 use Rattle.model.specs.Request.Words.{Request}
 use Rattle.model.specs.State.Depth.{Within}
 use Rattle.model.specs.State.Secure.{Secure, labelled}
 use Rattle.model.specs.State.WellFormed.{GoodTriple, Holds, InTables, Thing}
+use Rattle.model.specs.Tables.Kinds.{Screen, Terminal}
 use Rattle.model.specs.Tables.Rows.{Member, seek}
-use Rattle.model.specs.Tables.Words.{Tables, authorised, clearance, containerKind, usedPlaces, current, deviceKind, devices, draftType}
-use Rattle.model.specs.Tables.Words.{entityCount, held, kinds, level, mark, missed, objectKind, placeCount, present, releasedType}
-use Rattle.model.specs.Tables.Words.{sumMost, tripleOf, triples, type, userCount, whoRole}
+use Rattle.model.specs.Tables.Words.{Tables, authorised, clearance, containerKind, current, devices, draftType, entityCount, held}
+use Rattle.model.specs.Tables.Words.{kinds, level, mark, missed, objectKind, placeCount, present, releasedType, sumMost, tripleOf}
+use Rattle.model.specs.Tables.Words.{triples, type, usedPlaces, userCount, whoRole}
 
 -- Rule 7.4: the requester is one of the users that are there.
 pub record Known (d : Tables) (u : ℕ) : Type 0 where
@@ -74,7 +75,7 @@ pub record MayCreate (s : Asked) (d : Tables) : Type 0 where
 pub record MayDelete (s : Asked) (d : Tables) : Type 0 where
   pub thing : Thing d (s .first)
   pub empty : usedPlaces d (s .first) ≡ 0
-  pub unseen : (x : ℕ) → kinds d x ≡ deviceKind → Holds d x (s .first) → ⊥
+  pub unseen : (x : ℕ) → Screen (kinds d x) → Holds d x (s .first) → ⊥
   pub kept : d .entity (s .first) type ≢ releasedType
 
 -- Rule 6.3.
@@ -125,7 +126,7 @@ pub record MayShow (s : Asked) (d : Tables) : Type 0 where
 
 -- Rule 6.12.
 pub record MayLogin (s : Asked) (d : Tables) : Type 0 where
-  pub screen : kinds d (s .first) ≡ deviceKind
+  pub terminal : Terminal (kinds d (s .first))
   pub off : own d s ≡ 0
   pub free : (x : ℕ) → devices d x ≢ s .first
 
@@ -153,14 +154,14 @@ pub record MayAuthorised (s : Asked) (d : Tables) : Type 0 where
 
 -- Rule 6.17.
 pub record MayMaximum (s : Asked) (d : Tables) : Type 0 where
-  pub screen : kinds d (s .first) ≡ deviceKind
+  pub screen : Screen (kinds d (s .first))
   pub levelIn : s .a < levelCount
   pub officer : HasRole d (s .user) officer
   pub low : AtMost (levelOf d (s .first)) (s .a)
 
 -- Rule 6.18.
 pub record MayDeviceLevel (s : Asked) (d : Tables) : Type 0 where
-  pub screen : kinds d (s .first) ≡ deviceKind
+  pub screen : Screen (kinds d (s .first))
   pub levelIn : s .a < levelCount
   pub downgrade : Lower (s .a) (levelOf d (s .first)) → s .first ≢ own d s → HasRole d (s .user) downgrader
   pub secure : Secure (levelEffect s d)
@@ -175,7 +176,7 @@ pub record MayRelease (s : Asked) (d : Tables) : Type 0 where
 pub record MayAcknowledge (s : Asked) (d : Tables) : Type 0 where
   pub holding : d .user (s .user) held ≢ 0
   pub refusal : s .a ≡ d .user (s .user) held
-  pub used : s .b ≡ d .user (s .user) missed
+  pub missed : s .b ≡ d .user (s .user) missed
 
 abbrev pub Allowed : Op → Asked → Tables → Type 0
 Allowed toCreate s d = MayCreate s d

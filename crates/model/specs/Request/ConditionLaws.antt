@@ -22,10 +22,12 @@ use Rattle.model.specs.State.AgreeSecure.{secure-agrees}
 use Rattle.model.specs.State.Depth.{Within}
 use Rattle.model.specs.State.Secure.{Secure, labelled}
 use Rattle.model.specs.State.WellFormed.{Holds, InTables, Thing, WellFormed}
+use Rattle.model.specs.Tables.Kinds.{Screen, Terminal}
 use Rattle.model.specs.Tables.RowLaws.{sought}
 use Rattle.model.specs.Tables.Rows.{Sought, seek}
-use Rattle.model.specs.Tables.Words.{Tables, authorised, clearance, containerKind, usedPlaces, current, deviceKind, devices, draftType}
+use Rattle.model.specs.Tables.Words.{Tables, authorised, clearance, containerKind, current, deviceKind, devices, draftType}
 use Rattle.model.specs.Tables.Words.{entityCount, held, kinds, missed, objectKind, placeCount, present, releasedType, triples, type}
+use Rattle.model.specs.Tables.Words.{usedPlaces}
 
 -- Rule 5.5: `any` is an object, a container or a device,
 pub any-agrees : (d : Tables) (e : ℕ) → Agrees (isAny d e) (objectKind ≤ kinds d e)
@@ -158,7 +160,7 @@ module _ (d : Tables) (s : Asked) where
   deviceLowered-fails = fails-and (lower-agrees (s .a) (levelOf d (s .first)))
       (fails-and (agrees-not (agrees-eq (s .first) (own d s))) (lacks-fails downgrader))
 
-  -- Rule 6.20: no refusal 16 where a refusal is held, a is that refusal, and b is the count.
+  -- Rule 6.20: no refusal 16 where a refusal is held, a is that refusal, and b is the number missed.
   pub notAcknowledged-fails : Fails (notAcknowledged d s)
       ((d .user (s .user) held ≢ 0) × ((s .a ≡ d .user (s .user) held) × (s .b ≡ d .user (s .user) missed)))
   unfolding notAcknowledged
@@ -166,9 +168,9 @@ module _ (d : Tables) (s : Asked) where
       (fails-or (fails-not (agrees-eq (s .a) (d .user (s .user) held))) (fails-not (agrees-eq (s .b) (d .user (s .user) missed))))
 
   module _ (w : WellFormed d) where
-    -- Rule 6.2: no refusal 15 where the entity holds nothing, no device shows it, and it is not released.
+    -- Rule 6.2: no refusal 15 where the entity holds nothing, no screen shows it, and it is not released.
     pub deleteForbidden-fails : Fails (deleteForbidden d s)
-        ((usedPlaces d (s .first) ≡ 0) × (((x : ℕ) → kinds d x ≡ deviceKind → Holds d x (s .first) → ⊥) × (d .entity (s .first) type ≢ releasedType)))
+        ((usedPlaces d (s .first) ≡ 0) × (((x : ℕ) → Screen (kinds d x) → Holds d x (s .first) → ⊥) × (d .entity (s .first) type ≢ releasedType)))
     unfolding deleteForbidden
     deleteForbidden-fails = fails-or (fails-not (agrees-eq (usedPlaces d (s .first)) 0))
         (fails-or (fails-where (onScreen d (s .first)) (screen-agrees d w (s .first))) (fails-agreed (agrees-eq (d .entity (s .first) type) releasedType)))
@@ -179,7 +181,7 @@ module _ (d : Tables) (s : Asked) where
     moveInside-fails = fails-agreed (inside-agrees d w (s .second) (s .first))
 
     -- Rule 6.12: no refusal 15 where the requester is logged off and nobody is on the device.
-    pub loginTaken-fails : kinds d (s .first) ≡ deviceKind → Fails (loginTaken d s) ((own d s ≡ 0) × ((x : ℕ) → devices d x ≢ s .first))
+    pub loginTaken-fails : Terminal (kinds d (s .first)) → Fails (loginTaken d s) ((own d s ≡ 0) × ((x : ℕ) → devices d x ≢ s .first))
     unfolding loginTaken
     loginTaken-fails k = fails-or (fails-not (agrees-eq (own d s) 0))
         (fails-not (nobody-agrees d w (s .first) (w .entityNumbers (s .first) (λ q. omega arith) .0)))

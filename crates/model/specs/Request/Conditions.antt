@@ -10,12 +10,13 @@ use Rattle.model.specs.Request.Asked.{Asked, hasRole, namedTriple, own}
 use Rattle.model.specs.State.Check.{parent, secureTest}
 use Rattle.model.specs.State.Climb.{climb}
 use Rattle.model.specs.State.Secure.{labelled}
+use Rattle.model.specs.Tables.Kinds.{screen}
 use Rattle.model.specs.Tables.Rows.{seek}
-use Rattle.model.specs.Tables.Words.{Tables, authorised, clearance, containerKind, usedPlaces, current, deviceKind, devices, draftType}
+use Rattle.model.specs.Tables.Words.{Tables, authorised, clearance, containerKind, current, deviceKind, devices, draftType}
 use Rattle.model.specs.Tables.Words.{entityCount, held, kinds, level, missed, objectKind, operationCount, placeCount, places}
-use Rattle.model.specs.Tables.Words.{positionCount, present, releasedType, sumMost, triples, type, userCount, whoMost}
+use Rattle.model.specs.Tables.Words.{positionCount, present, releasedType, sumMost, triples, type, usedPlaces, userCount, whoMost}
 
--- Rule 5.5.
+-- Rule 5.5: what an operand must be.
 abbrev pub Kind : Type 0
 Kind = Tables → ℕ → Bool
 
@@ -28,13 +29,14 @@ isEntity d e = leb objectKind (kinds d e) && leb (kinds d e) containerKind
 unfoldable pub isContainer : Kind
 isContainer d e = eqb (kinds d e) containerKind
 
+-- Rule 5.5 says device of a terminal (operation 12) and of a screen (17 and 18), so one test serves all three.
 unfoldable pub isDevice : Kind
 isDevice d e = eqb (kinds d e) deviceKind
 
 unfoldable pub isDraft : Kind
 isDraft d e = eqb (kinds d e) containerKind && eqb (d .entity e type) draftType
 
--- Rule 5.4.
+-- Rule 5.4: the range of an argument.
 abbrev pub Range : Type 0
 Range = ℕ → Bool
 
@@ -92,9 +94,9 @@ createAbove d s = not (atMost (s .b) (levelOf d (s .first)))
 unfoldable pub createNoRoom : Condition
 createNoRoom d s = not (leb (vacant d) entityCount) || leb placeCount (usedPlaces d (s .first))
 
--- Rule 6.2: e stands on a device, whoever's.
+-- Rule 6.2: e stands on some screen.
 unfoldable pub onScreen : Tables → ℕ → Bool
-onScreen d e = not (every entityCount (λ v. imp (eqb (kinds d (suc v)) deviceKind)
+onScreen d e = not (every entityCount (λ v. imp (screen (kinds d (suc v)))
     (not (ltb (seek e (places d (suc v)) (usedPlaces d (suc v))) (usedPlaces d (suc v))))))
 
 -- Rule 6.2, 15: it holds something, is on a screen, or is released.
@@ -134,7 +136,7 @@ showNoRoom d s = leb (usedPlaces d (own d s)) (spot (own d s) (s .first) d) && l
 unfoldable pub showUnlabelled : Condition
 showUnlabelled d s = not (labelled (s .a))
 
--- Rule 6.12, 15: on already, or somebody is on that device.
+-- Rule 6.12, 15: the requester is on already, or somebody is on that device.
 unfoldable pub loginTaken : Condition
 loginTaken d s = not (eqb (own d s) 0) || not (every userCount (λ u. not (eqb (devices d (suc u)) (s .first))))
 
@@ -164,6 +166,6 @@ deviceAbove d s = not (atMost (levelOf d (s .first)) (s .a))
 unfoldable pub deviceLowered : Condition
 deviceLowered d s = lower (s .a) (levelOf d (s .first)) && (not (eqb (s .first) (own d s)) && lacks downgrader d s)
 
--- Rule 6.20, 16: nothing is held, or another refusal or count.
+-- Rule 6.20, 16: nothing is held, or another refusal or number.
 unfoldable pub notAcknowledged : Condition
 notAcknowledged d s = eqb (d .user (s .user) held) 0 || (not (eqb (s .a) (d .user (s .user) held)) || not (eqb (s .b) (d .user (s .user) missed)))

@@ -17,7 +17,7 @@ use Rattle.model.specs.Request.Operations.{toDelete, toDeviceLevel, toEd
 use Rattle.model.specs.Request.Operations.{toMove, toRelease, toRevoke, toShow}
 use Rattle.model.specs.Request.Words.{Reference, Request, nameCount}
 
--- The name words behind a reference's length are zero.
+-- The name words after a reference's length are zero.
 pub names-agree : (r : Reference) → Agrees (namesFit r) ((i : ℕ) → i < nameCount → r .length ≤ i → r .name i ≡ 0)
 unfolding namesFit
 names-agree r = search agreement

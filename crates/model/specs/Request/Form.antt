@@ -9,7 +9,7 @@ use Rattle.model.specs.Request.Operations.{toMove, toRelease, toRevoke, 
 use Rattle.model.specs.Request.Words.{Reference, Request, nameCount}
 use Rattle.model.specs.Tables.Words.{operationCount, positionCount, sumMost, userCount, whoMost}
 
--- Rule 5.4: a reference that an operation takes has 1 to 4 names, and its name words behind them are zero;
+-- Rule 5.4: a reference that an operation takes has 1 to 4 names, and its name words after them are zero;
 abbrev pub Named : Reference → Type 0
 Named r = (1 ≤ r .length) × (r .length ≤ nameCount) × ((i : ℕ) → i < nameCount → r .length ≤ i → r .name i ≡ 0)
 
@@ -48,7 +48,7 @@ taken toAcknowledge = 0
 abbrev pub Between : ℕ → ℕ → ℕ → Type 0
 Between low high n = (low ≤ n) × (n ≤ high)
 
--- Rules 6.1 to 6.20: what each operation asks of the arguments a, b and c. One that it does not list is zero; of one that may be any word
+-- Rules 6.1 to 6.20: what each operation asks of the arguments a, b and c. One that it does not list is zero. Of one that may be any word
 -- nothing is said.
 abbrev pub InRange : Op → ℕ → ℕ → ℕ → Type 0
 InRange toCreate a b c = Between objectSort draftSort a × ((b < levelCount) × (c ≡ 0))

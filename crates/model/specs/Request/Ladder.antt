@@ -16,15 +16,16 @@ use Rattle.model.specs.State.Check.{secureTest, wellFormedTest}
 use Rattle.model.specs.Tables.Rows.{seek}
 use Rattle.model.specs.Tables.Words.{Tables, clearance, devices, level, mark, placeCount, present, tripleOf, triples, userCount}
 use Rattle.model.specs.Tables.Words.{whoRole}
+use Rattle.model.specs.Request.Refusals as refusal
 
 abbrev pub Rung : Type 0
 Rung = Tables → Request → Bool
 
--- a question put to the operation that the request names; no where it names none
+-- a question put to the operation that the request names; the answer is no where it names none
 unfoldable pub ofOp : Request → (Op → Bool) → Bool
 ofOp q p = elim (opOf (q .operation)) [ none ↦ false | some o ↦ p o ]
 
--- some operand, by its position and the kind asked of it
+-- whether p passes for some operand, given its position and the kind asked of it
 unfoldable pub someOperand : ℕ → List Kind → (ℕ → Kind → Bool) → Bool
 someOperand k [] p = false
 someOperand k (x ∷ xs) p = elim (p k x) [ true ↦ true | false ↦ someOperand (suc k) xs p ]
@@ -41,7 +42,7 @@ notSecure d q = not (secureTest d)
 unfoldable pub unknownUser : Rung
 unknownUser d q = not ((leb 1 (q .user) && leb (q .user) userCount) && not (eqb (d .user (q .user) present) 0))
 
--- Rule 7.5: a reference that is used has 1 to 4 names, another none, and the words behind its names are zero;
+-- Rule 7.5: a reference that is used has 1 to 4 names, another none, and the words after its names are zero;
 unfoldable pub lengthFits : ℕ → List Kind → Reference → Bool
 lengthFits k [] r = eqb (r .length) 0
 lengthFits zero (x ∷ xs) r = leb 1 (r .length) && leb (r .length) nameCount
@@ -66,7 +67,7 @@ fits o q =
 unfoldable pub notUnderstood : Rung
 notUnderstood d q = not (ofOp q (λ o. fits o q))
 
--- Rule 7.6: on no device, at an operation that wants one.
+-- Rule 7.6: the requester is on no device, and the operation wants one.
 unfoldable pub notLoggedOn : Rung
 notLoggedOn d q = ofOp q (λ o. not (openLoggedOff o) && eqb (devices d (q .user)) 0)
 
@@ -82,7 +83,7 @@ permits d u o k e = ltb (seek (tripleOf u o k) (triples d e) placeCount) placeCo
 unfoldable pub noAccess : Rung
 noAccess d q = ofOp q (λ o. someOperand 1 (rowOf o .operands) (λ k x. not (permits d (q .user) (numberOf o) k (operand (asked d q) k))))
 
--- Rule 7.9: a marked container on the way whose level the clearance l is not at least.
+-- Rule 7.9: the level of a marked container on the way is not at most the clearance l.
 unfoldable pub bars : Tables → ℕ → List ℕ → Bool
 bars d l [] = false
 bars d l (e ∷ es) = elim (not (eqb (d .entity e mark) 0) && not (atMost (d .entity e level) l)) [ true ↦ true | false ↦ bars d l es ]
@@ -105,16 +106,17 @@ ownRung n d q = ofOp q (λ o. refused n (rowOf o .conditions) d (asked d q))
 -- the ladder, from 2 on: rung 1 is judged before there are tables
 unfoldable pub ladder : List Rung
 ladder = notWellFormed ∷ notSecure ∷ unknownUser ∷ notUnderstood ∷ notLoggedOn ∷ leadsNowhere ∷ noAccess ∷ notCleared ∷ wrongKind
-    ∷ ownRung 11 ∷ ownRung 12 ∷ ownRung 13 ∷ ownRung 14 ∷ ownRung 15 ∷ ownRung 16 ∷ []
+    ∷ ownRung refusal.noSuchUser ∷ ownRung refusal.roleMissing ∷ ownRung refusal.levelOrRoles ∷ ownRung refusal.noRoom
+    ∷ ownRung refusal.arrangement ∷ ownRung refusal.notAcknowledged ∷ []
 
 -- the number of the first rung that applies, the first of the list being n; 0 where none does
 unfoldable pub lowest : ℕ → List Rung → Tables → Request → ℕ
-lowest n [] d q = 0
+lowest n [] d q = refusal.accepted
 lowest n (r ∷ rs) d q = elim (r d q) [ true ↦ n | false ↦ lowest (suc n) rs d q ]
 
 -- Rule 7.0: the answer is the lowest rung that applies, or 0, accepted.
 unfoldable pub answer : Tables → Request → ℕ
-answer d q = lowest 2 ladder d q
+answer d q = lowest refusal.notWellFormed ladder d q
 
 -- a rung that never applies
 unfoldable pub never : Rung
@@ -133,5 +135,5 @@ applies n = rungAt n (never ∷ never ∷ ladder)
 -- Rule 7.0 as a statement: a is 0 and no rung applies, or rung a applies and none below it.
 pub record IsAnswer (d : Tables) (q : Request) (a : ℕ) : Type 0 where
   pub below : (n : ℕ) → n < a → applies n d q ≡ false
-  pub applied : a ≢ 0 → applies a d q ≡ true
-  pub accepted : a ≡ 0 → (n : ℕ) → applies n d q ≡ false
+  pub applied : a ≢ refusal.accepted → applies a d q ≡ true
+  pub accepted : a ≡ refusal.accepted → (n : ℕ) → applies n d q ≡ false

@@ -19,6 +19,7 @@ use Rattle.model.specs.Request.Operations.{Op, opOf}
 use Rattle.model.specs.Request.Words.{Request}
 use Rattle.model.specs.State.Check.{judge, secureTest, wellFormedTest}
 use Rattle.model.specs.Tables.Words.{Tables, lastNoticed}
+use Rattle.model.specs.Request.Refusals as refusal
 
 module _ (d : Tables) (q : Request) where
   Found : ℕ → List Rung → ℕ → Type 0
@@ -46,7 +47,7 @@ module _ (d : Tables) (q : Request) where
   -- The answer is the lowest rung that applies.
   pub answer-is : IsAnswer d q (answer d q)
   unfolding Found answer applies rungAt never
-  answer-is = go (answer d q) (found 2 ladder)
+  answer-is = go (answer d q) (found refusal.notWellFormed ladder)
     where
       low : (k : ℕ) → ((j : ℕ) → j < k → rungAt j ladder d q ≡ false) → (n : ℕ) → n < suc (suc k) → applies n d q ≡ false
       low k f zero h = refl
@@ -58,7 +59,7 @@ module _ (d : Tables) (q : Request) where
       all f (suc zero) = refl
       all f (suc (suc n)) = f n
 
-      go : (a : ℕ) → Found 2 ladder a → IsAnswer d q a
+      go : (a : ℕ) → Found refusal.notWellFormed ladder a → IsAnswer d q a
       go a (inl s) = record { below = λ n h. all (s .1) n; applied = λ h. absurd (h (s .0)); accepted = λ h. all (s .1) }
       go a (inr s) =
           let e : a ≡ suc (suc (s .0)) = omega (arith, s .1) in
@@ -98,7 +99,7 @@ NoRung [] d q = Unit {0}
 NoRung (r ∷ rs) d q = T (not (r d q)) × NoRung rs d q
 
 -- Where no rung of a list applies there is no lowest one.
-pub lowest-none : (n : ℕ) (rs : List Rung) (d : Tables) (q : Request) → NoRung rs d q → lowest n rs d q ≡ 0
+pub lowest-none : (n : ℕ) (rs : List Rung) (d : Tables) (q : Request) → NoRung rs d q → lowest n rs d q ≡ refusal.accepted
 unfolding lowest
 lowest-none n [] d q z = refl
 lowest-none n (r ∷ rs) d q z = rw (fails-false (r d q) (z .0)) (lowest-none (suc n) rs d q (z .1))
@@ -158,12 +159,14 @@ pub positions-fail : (k : ℕ) (xs : List Kind) (p : ℕ → Bool) (P : ℕ → 
 positions-fail k xs p P f = fails-as (operands-at k xs P) (operands-all k xs P) (someOperand-fails k xs (λ j x. p j) (λ j x. P j) (λ j x. f j))
 
 -- Rules 7.2 and 7.3: tables that fail the state check are answered with its number, whatever is asked.
-pub judge-answer : (d : Tables) (q : Request) → judge d ≢ 0 → answer d q ≡ judge d
+pub judge-answer : (d : Tables) (q : Request) → judge d ≢ refusal.accepted → answer d q ≡ judge d
 unfolding judge answer lowest ladder notWellFormed notSecure
 judge-answer d q = go (wellFormedTest d) (secureTest d) _
   where
-    go : (a b : Bool) (n : ℕ) → _≢_ {A = ℕ} (pick a (pick b 0 3) 2) 0
-        → _≡_ {A = ℕ} (elim (not a) [ true ↦ 2 | false ↦ elim (not b) [ true ↦ 3 | false ↦ n ] ]) (pick a (pick b 0 3) 2)
+    go : (a b : Bool) (n : ℕ) → _≢_ {A = ℕ} (pick a (pick b refusal.accepted refusal.notSecure) refusal.notWellFormed) refusal.accepted
+        → _≡_ {A = ℕ}
+        (elim (not a) [ true ↦ refusal.notWellFormed | false ↦ elim (not b) [ true ↦ refusal.notSecure | false ↦ n ] ])
+        (pick a (pick b refusal.accepted refusal.notSecure) refusal.notWellFormed)
     go true true n h = absurd (h refl)
     go true false n h = refl
     go false b n h = refl

@@ -10,9 +10,10 @@ use lib.Dec.{T, eqb, leb}
 use Rattle.model.specs.Basics.Agree.{Agrees, agrees-and, agrees-as, agrees-eq, agrees-le, agrees-not, agrees-or}
 use Rattle.model.specs.Basics.Choice.{Same, it, other, same}
 use Rattle.model.specs.Request.Allowed.{WantsDevice}
-use Rattle.model.specs.Request.Operations.{Op, numberOf, opOf, openLoggedOff, operations, toAcknowledge, toAuthorised, toClear, toClearance, toCopy}
-use Rattle.model.specs.Request.Operations.{toCreate, toCurrent, toDelete, toDeviceLevel, toEdit, toGrant, toLevel, toLogin, toLogout}
-use Rattle.model.specs.Request.Operations.{toMark, toMaximum, toMove, toRelease, toRevoke, toShow, withNumber}
+use Rattle.model.specs.Request.Operations.{Op, numberOf, opOf, openLoggedOff, operations, toAcknowledge, toAuthorised, toClear}
+use Rattle.model.specs.Request.Operations.{toClearance, toCopy, toCreate, toCurrent, toDelete, toDeviceLevel, toEdit, toGrant}
+use Rattle.model.specs.Request.Operations.{toLevel, toLogin, toLogout, toMark, toMaximum, toMove, toRelease, toRevoke, toShow}
+use Rattle.model.specs.Request.Operations.{withNumber}
 use Rattle.model.specs.Tables.Words.{operationCount}
 
 -- the operation found has the number that was sought

@@ -17,6 +17,7 @@ use Rattle.model.specs.Request.Conditions.{firstAbove, free, grantNoRoom
 use Rattle.model.specs.Request.Conditions.{lacks, levelLowered, loginTaken, moveInside, moveNoRoom, notAcknowledged, rolesOfAnother}
 use Rattle.model.specs.Request.Conditions.{rolesOff, rolesUnauthorised, showAbove, showNoRoom, showUnlabelled, someRoles, userAbsent}
 use Rattle.model.specs.Tables.Words.{Tables}
+use Rattle.model.specs.Request.Refusals as refusal
 
 pub data Op : Type 0 where
   toCreate toDelete toMove toEdit toCopy toLevel toMark toGrant toRevoke toShow : Op
@@ -47,45 +48,45 @@ clearanceEffect s = setClearance (s .a) (s .b)
 -- The table of rule 6: operands, arguments, effect; own conditions.
 abbrev pub rowOf : Op → Row
 rowOf toCreate = takes (isContainer ∷ []) (aSort ∷ aLevel ∷ []) (λ s d. create (vacant d) (s .first) (sortKind (s .a)) (sortType (s .a)) (s .b) d)
-    (refuse 13 createAbove ∷ refuse 14 createNoRoom ∷ [])
+    (refuse refusal.levelOrRoles createAbove ∷ refuse refusal.noRoom createNoRoom ∷ [])
 rowOf toDelete = takes (isEntity ∷ []) [] (λ s. delete (s .first))
-    (refuse 15 deleteForbidden ∷ [])
+    (refuse refusal.arrangement deleteForbidden ∷ [])
 rowOf toMove = takes (isEntity ∷ isContainer ∷ []) [] (λ s. move (s .first) (s .second))
-    (refuse 13 firstAbove ∷ refuse 14 moveNoRoom ∷ refuse 15 moveInside ∷ [])
+    (refuse refusal.levelOrRoles firstAbove ∷ refuse refusal.noRoom moveNoRoom ∷ refuse refusal.arrangement moveInside ∷ [])
 rowOf toEdit = takes (isEntity ∷ []) (free ∷ []) (λ s. edit (s .first) (s .a))
     []
 rowOf toCopy = takes (isEntity ∷ isEntity ∷ []) [] (λ s. copy (s .first) (s .second))
-    (refuse 13 firstAbove ∷ [])
+    (refuse refusal.levelOrRoles firstAbove ∷ [])
 rowOf toLevel = takes (isEntity ∷ []) (aLevel ∷ []) levelEffect
-    (refuse 12 levelLowered ∷ refuse 13 (insecure levelEffect) ∷ [])
+    (refuse refusal.roleMissing levelLowered ∷ refuse refusal.levelOrRoles (insecure levelEffect) ∷ [])
 rowOf toMark = takes (isContainer ∷ []) (aFlag ∷ []) (λ s. setMark (s .first) (s .a))
     []
 rowOf toGrant = takes (isAny ∷ []) (aWho ∷ anOperation ∷ aPosition ∷ []) (λ s. grant (s .first) (namedTriple s))
-    (refuse 14 grantNoRoom ∷ [])
+    (refuse refusal.noRoom grantNoRoom ∷ [])
 rowOf toRevoke = takes (isAny ∷ []) (aWho ∷ anOperation ∷ aPosition ∷ []) (λ s. revoke (s .first) (namedTriple s))
     []
 rowOf toShow = takes (isEntity ∷ []) (aSum ∷ []) (λ s d. show (own d s) (s .first) (s .a) d)
-    (refuse 13 showAbove ∷ refuse 14 showNoRoom ∷ refuse 15 showUnlabelled ∷ [])
+    (refuse refusal.levelOrRoles showAbove ∷ refuse refusal.noRoom showNoRoom ∷ refuse refusal.arrangement showUnlabelled ∷ [])
 rowOf toClear = takes [] [] (λ s d. clear (own d s) d)
     []
 rowOf toLogin = takes (isDevice ∷ []) [] (λ s. login (s .user) (s .first))
-    (refuse 15 loginTaken ∷ [])
+    (refuse refusal.arrangement loginTaken ∷ [])
 rowOf toLogout = takes [] [] (λ s. logout (s .user))
     []
 rowOf toCurrent = takes [] (aUser ∷ someRoles ∷ []) (λ s. setCurrent (s .a) (s .b))
-    (refuse 11 rolesOff ∷ refuse 12 rolesOfAnother ∷ refuse 13 rolesUnauthorised ∷ [])
+    (refuse refusal.noSuchUser rolesOff ∷ refuse refusal.roleMissing rolesOfAnother ∷ refuse refusal.levelOrRoles rolesUnauthorised ∷ [])
 rowOf toClearance = takes [] (aUser ∷ aLevel ∷ []) clearanceEffect
-    (refuse 11 userAbsent ∷ refuse 12 (lacks officer) ∷ refuse 13 (insecure clearanceEffect) ∷ [])
+    (refuse refusal.noSuchUser userAbsent ∷ refuse refusal.roleMissing (lacks officer) ∷ refuse refusal.levelOrRoles (insecure clearanceEffect) ∷ [])
 rowOf toAuthorised = takes [] (aUser ∷ someRoles ∷ []) (λ s. setAuthorised (s .a) (s .b))
-    (refuse 11 userAbsent ∷ refuse 12 (lacks officer) ∷ refuse 13 currentOutside ∷ [])
+    (refuse refusal.noSuchUser userAbsent ∷ refuse refusal.roleMissing (lacks officer) ∷ refuse refusal.levelOrRoles currentOutside ∷ [])
 rowOf toMaximum = takes (isDevice ∷ []) (aLevel ∷ []) (λ s. setMaximum (s .first) (s .a))
-    (refuse 12 (lacks officer) ∷ refuse 13 deviceAbove ∷ [])
+    (refuse refusal.roleMissing (lacks officer) ∷ refuse refusal.levelOrRoles deviceAbove ∷ [])
 rowOf toDeviceLevel = takes (isDevice ∷ []) (aLevel ∷ []) levelEffect
-    (refuse 12 deviceLowered ∷ refuse 13 (insecure levelEffect) ∷ [])
+    (refuse refusal.roleMissing deviceLowered ∷ refuse refusal.levelOrRoles (insecure levelEffect) ∷ [])
 rowOf toRelease = takes (isDraft ∷ []) [] (λ s. release (s .user) (s .first))
-    (refuse 12 (lacks releasing) ∷ [])
+    (refuse refusal.roleMissing (lacks releasing) ∷ [])
 rowOf toAcknowledge = takes [] (free ∷ free ∷ []) (λ s. acknowledge (s .user))
-    (refuse 16 notAcknowledged ∷ [])
+    (refuse refusal.notAcknowledged notAcknowledged ∷ [])
 
 -- the operations' numbers
 abbrev pub numberOf : Op → ℕ

@@ -4,7 +4,7 @@ use mathlib.Core.List.{List, [], _∷_}
 use mathlib.Core.Logic.{_≢_}
 use Prim.Native.Nat.{_≤_, pred, ℕ}
 use lib.Dec.{eqb, leb}
-use Rattle.model.specs.Tables.Words.{Tables, absentKind, usedPlaces, entityCount, kind, kinds, places}
+use Rattle.model.specs.Tables.Words.{Tables, absentKind, entityCount, kind, kinds, places, usedPlaces}
 
 -- e is one of the entities that are there
 unfoldable pub presentTest : Tables → ℕ → Bool

@@ -10,7 +10,7 @@ use Rattle.model.specs.Basics.Agree.{Agrees, agrees-and, agrees-as, agre
 use Rattle.model.specs.Request.Reference.{Leads, Present, Reads, basis, begins, follow, further, here, passed, placeTest, presentTest}
 use Rattle.model.specs.Request.Reference.{resolve, standing}
 use Rattle.model.specs.State.WellFormed.{Holds, WellFormed}
-use Rattle.model.specs.Tables.Words.{Tables, absentKind, containerKind, usedPlaces, entityCount, kinds, objectKind}
+use Rattle.model.specs.Tables.Words.{Tables, absentKind, containerKind, entityCount, kinds, objectKind, usedPlaces}
 
 pub place-agrees : (d : Tables) (e p : ℕ) → Agrees (placeTest d e p) ((1 ≤ p) × (p ≤ usedPlaces d e))
 unfolding placeTest

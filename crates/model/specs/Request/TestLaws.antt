@@ -1,4 +1,4 @@
--- What the tests behind rungs 8 and 9 and behind refusals 12 and 15 say: a role, permitted, open, on no screen, not inside, a free device.
+-- What the tests of rungs 8 and 9 and of refusals 12 and 15 say: a role, permitted, open, on no screen, not inside, a free device.
 use mathlib.Core.Bool.{Bool, _&&_, false, not, true}
 use mathlib.Core.List.{List, List·Memᴰ, List·Memᴰ·cases-cons, List·Memᴰ·head, List·Memᴰ·not-nil, List·Memᴰ·tail, [], _∷_}
 use mathlib.Core.Logic.{_≢_, _⊎_, inl, inr}
@@ -23,10 +23,12 @@ use Rattle.model.specs.State.ClimbLaws.{climb-complete, climb-sound, com
 use Rattle.model.specs.State.Depth.{Within}
 use Rattle.model.specs.State.ParentLaws.{parent-held, parent-none, parent-range}
 use Rattle.model.specs.State.WellFormed.{Holds, InTables, WellFormed}
+use Rattle.model.specs.Tables.KindLaws.{screenKind-agrees}
+use Rattle.model.specs.Tables.Kinds.{Screen, screen}
 use Rattle.model.specs.Tables.Layout.{Bounded}
 use Rattle.model.specs.Tables.Rows.{Member, seek}
-use Rattle.model.specs.Tables.Words.{Tables, clearance, usedPlaces, current, device, deviceKind, devices, entityCount, kind, kinds}
-use Rattle.model.specs.Tables.Words.{level, mark, placeCount, places, tripleOf, triples, userCount, whoRole}
+use Rattle.model.specs.Tables.Words.{Tables, clearance, current, device, devices, entityCount, kind, kinds, level, mark, placeCount}
+use Rattle.model.specs.Tables.Words.{places, tripleOf, triples, usedPlaces, userCount, whoRole}
 
 -- Rule 5.6: the test is of current roles.
 pub role-agrees : (d : Tables) (u r : ℕ) → Agrees (hasRole d u r) (HasRole d u r)
@@ -72,13 +74,13 @@ module _ (d : Tables) (w : WellFormed d) where
   bound : Bounded d
   bound = wellFormed-bounded d w
 
-  -- Rule 6.2: e stands on no device.
-  pub screen-agrees : (e : ℕ) → Agrees (not (onScreen d e)) ((x : ℕ) → kinds d x ≡ deviceKind → Holds d x e → ⊥)
+  -- Rule 6.2: e stands on no screen.
+  pub screen-agrees : (e : ℕ) → Agrees (not (onScreen d e)) ((x : ℕ) → Screen (kinds d x) → Holds d x e → ⊥)
   unfolding onScreen
   screen-agrees e =
-      agrees-twice (agrees-range entityCount (λ v. imp (eqb (kinds d v) deviceKind) (not (ltb (seek e (places d v) (usedPlaces d v)) (usedPlaces d v))))
-      (λ x. kinds d x ≡ deviceKind → Holds d x e → ⊥)
-      (λ v. agrees-imp (agrees-eq (kinds d v) deviceKind) (agrees-not (member-agrees (places d v) (usedPlaces d v) e)))
+      agrees-twice (agrees-range entityCount (λ v. imp (screen (kinds d v)) (not (ltb (seek e (places d v) (usedPlaces d v)) (usedPlaces d v))))
+      (λ x. Screen (kinds d x) → Holds d x e → ⊥)
+      (λ v. agrees-imp (screenKind-agrees (kinds d v)) (agrees-not (member-agrees (places d v) (usedPlaces d v) e)))
       (λ k. absurd (omega (arith, bound .entityOut 0 (inl refl) kind))) (λ x r k. absurd (omega (arith, bound .entityOut x (inr r) kind))))
 
   -- Rule 6.12: nobody is on the device v.

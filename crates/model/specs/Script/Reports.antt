@@ -10,7 +10,7 @@ use Rattle.model.specs.Tables.Layout.{tablesOf}
 use Rattle.model.specs.Tables.Words.{held, missed}
 use Rattle.model.specs.Text.Lines.{line}
 use Rattle.model.specs.Text.Numbers.{digits}
-use Rattle.model.specs.Text.Reading.{notRead}
+use Rattle.model.specs.Request.Refusals as refusal
 
 -- Rule 12.3: the answer, and the requester's words 5 and 7.
 pub record Report : Type 0 where
@@ -18,9 +18,9 @@ pub record Report : Type 0 where
   pub held : ℕ
   pub missed : ℕ
 
--- Rule 12.3: beside the answers 1 to 4 nobody's words are told.
+-- Rule 12.3: with the answers 1 to 4 nobody's words are told.
 unfoldable pub untold : ℕ → Bool
-untold a = leb 1 a && leb a 4
+untold a = leb refusal.badLength a && leb a refusal.unknownRequester
 
 -- a report of an answer alone
 abbrev pub bare : ℕ → Report
@@ -39,7 +39,7 @@ report t q =
 
 -- Rule 12.4: the report where no request can be read.
 abbrev pub unread : Report
-unread = bare notRead
+unread = bare refusal.notARequest
 
 -- Rule 12.3: the keys answer, held and missed, each with its equals sign.
 abbrev pub answerKey : List ℕ
@@ -55,7 +55,7 @@ missedKey = 109 ∷ 105 ∷ 115 ∷ 115 ∷ 101 ∷ 100 ∷ 61 ∷ []
 unfoldable pub reportText : Report → List ℕ
 reportText r = line answerKey (digits (r .answer)) ++ (line heldKey (digits (r .held)) ++ line missedKey (digits (r .missed)))
 
--- and those of all reports, one behind another.
+-- and those of all reports, one after another.
 unfoldable pub output : List Report → List ℕ
 output [] = []
 output (r ∷ rs) = reportText r ++ output rs

@@ -35,7 +35,7 @@ abbrev pub requests : List Wording → List (List ℕ)
 requests [] = []
 requests (m ∷ ms) = sixteen m ∷ requests ms
 
--- Rule 12.3: a run is that of a list of wordings: their texts stand one behind another in front of the rest, report i is that of request i on the
+-- Rule 12.3: a run is that of a list of wordings: their texts stand one after another in front of the rest, report i is that of request i on the
 -- tables which exactly the requests before it leave, and the tables at the end are those after all of them.
 pub record Reported (t s : List ℕ) (rs : List Report) (t′ s′ : List ℕ) : Type 0 where
   pub wordings : List Wording

@@ -1,4 +1,4 @@
--- The laws of runs: one run behind another, further bytes behind a run, and that every script has exactly one list of reports, in which each
+-- The laws of runs: one run after another, further bytes after a run, and that every script has exactly one list of reports, in which each
 -- report is that of the tables after exactly the requests before it.
 use mathlib.Core.List.{List, [], _++_, _∷_, append-assoc, append-nil}
 use mathlib.Core.Path.{_∙_, _≡_, ap, ap₂, refl, sym}
@@ -7,19 +7,19 @@ use native.Mathlib.Omega.{arith}
 use lib.ListN.{getD, length, take}
 use Rattle.model.specs.Request.Step.{afterOf}
 use Rattle.model.specs.Script.Reports.{Report, output, report, unread}
-use Rattle.model.specs.Script.Runs.{Answered, Reported, Runs, Outputs, cut, requests, stay, texts, turn, whole}
+use Rattle.model.specs.Script.Runs.{Answered, Outputs, Reported, Runs, cut, requests, stay, texts, turn, whole}
 use Rattle.model.specs.Text.Lines.{readLine}
 use Rattle.model.specs.Text.NearLaws.{read-longer, read-shorter}
 use Rattle.model.specs.Text.Wording.{Lines, Wording, badLine, lines, readSeven, sixteen, textOf}
 use Rattle.model.specs.Text.WordingLaws.{Written, text-back, text-there}
 use Rattle.model.specs.Theorem.Statements.{afterWords}
 
--- one run behind another is a run
+-- one run after another is a run
 pub runs-append : {t s t′ s′ t″ s″ : List ℕ} {rs rs′ : List Report} → Runs t s rs t′ s′ → Runs t′ s′ rs′ t″ s″ → Runs t s (rs ++ rs′) t″ s″
 runs-append stay q = q
 runs-append (turn e r) q = turn e (runs-append r q)
 
--- further bytes behind a script change nothing of a run
+-- further bytes after a script change nothing of a run
 pub runs-longer : {t s t′ s′ : List ℕ} {rs : List Report} → Runs t s rs t′ s′ → (x : List ℕ) → Runs t (s ++ x) rs t′ (s′ ++ x)
 runs-longer stay x = stay
 runs-longer (turn {s = s} {x = y} {m = m} e r) x = turn (read-longer s m y e x) (runs-longer r x)
@@ -29,7 +29,7 @@ pub runs-shorter : {t s t′ s′ : List ℕ} {rs : List Report} → Runs t s rs
 runs-shorter stay = omega arith
 runs-shorter (turn {s = s} {x = x} {m = m} e r) = omega (arith, read-shorter s m x e, runs-shorter r)
 
--- a run, and behind it all of what is left
+-- a run, and after it all of what is left
 pub runs-answered : {t s t′ s′ : List ℕ} {rs rs′ : List Report} → Runs t s rs t′ s′ → Answered t′ s′ rs′ → Answered t s (rs ++ rs′)
 runs-answered r (whole p) = whole (runs-append r p)
 runs-answered {rs = rs} r (cut {rs = ps} p e) = rw (← append-assoc rs ps (unread ∷ [])) (cut (runs-append r p) e)
@@ -94,7 +94,7 @@ answered-unique p q =
     let w = runs-same (a .runs) (a .stuck) (b .runs) (b .stuck) in
     a .all ∙ ap₂ (λ l x. l ++ closing x) (w .reports) (w .rest) ∙ sym (b .all)
 
--- the reports from the first request on, where those behind it are known
+-- the reports from the first request on, where those after it are known
 first-of : (t s : List ℕ) → ((m : Wording) (x : List ℕ) → readSeven s ≡ lines m x → (rs : List Report) × Answered (afterOf t (sixteen m)) x rs)
     → (rs : List Report) × Answered t s rs
 first-of t s more = go (readSeven s) refl
@@ -163,7 +163,7 @@ abbrev pub reportsOf : List ℕ → List Wording → List Report
 reportsOf t [] = []
 reportsOf t (m ∷ ms) = report t (sixteen m) ∷ reportsOf (afterOf t (sixteen m)) ms
 
--- Rules 12.2 and 12.3: and where texts stand one behind another, they are run with exactly these reports, as far as what follows them.
+-- Rules 12.2 and 12.3: and where texts stand one after another, they are run with exactly these reports, as far as what follows them.
 pub texts-runs : (t : List ℕ) (ms : List Wording) (x : List ℕ) → AllWritten ms
     → Runs t (texts ms ++ x) (reportsOf t ms) (afterWords t (requests ms)) x
 unfolding afterWords

@@ -7,17 +7,18 @@ use Prim.Native.Nat.{_%_, _*_, _+_, _/_, _<_, _≤_, suc, zero, ℕ}
 use native.Mathlib.Omega.{arith}
 use lib.ListN.{getD, length}
 use lib.Seq.{ext-getD}
-use borrow.Author.Tests.{eq-eqb, ne-eqb}
 use Rattle.model.specs.Request.Step.{afterOf, answerOf, sized}
 use Rattle.model.specs.Script.Reports.{Report, bare, report, unread, untold}
 use Rattle.model.specs.Script.Runs.{Runs, stay, turn}
-use Rattle.model.specs.Script.State.{bytesOf, fileBytes, stateOf, wordBytes, wordIn}
+use Rattle.model.specs.Script.State.{byteValues, bytesOf, fileBytes, fourthWeight, ofBytes, secondWeight, stateOf, thirdWeight}
+use Rattle.model.specs.Script.State.{wordBytes, wordIn}
 use Rattle.model.specs.Tables.Layout.{wordCount}
 use Rattle.model.specs.Tables.WordsOf.{firstValues}
 use Rattle.model.specs.Tables.WordsOfLaws.{values-at, values-length}
 use Rattle.model.specs.Text.Numbers.{most}
 use Rattle.model.specs.Text.Wording.{sixteen}
 use Rattle.model.specs.Theorem.Steps.{unsized}
+use borrow.Author.Tests.{eq-eqb, ne-eqb}
 
 -- ---- the tables of a file
 
@@ -69,7 +70,7 @@ unfolding bytesOf
 bytes-length [] = refl
 bytes-length (v ∷ w) = omega (arith, bytes-length w)
 
--- a place behind the first four bytes
+-- a place after the first four bytes
 later : (a b c d : ℕ) (s : List ℕ) (i j : ℕ) → i ≡ suc (suc (suc (suc j))) → getD (a ∷ b ∷ c ∷ d ∷ s) i 0 ≡ getD s j 0
 later a b c d s i j e = rw e
 
@@ -81,21 +82,24 @@ word-later a b c d s i = rw (
   later a b c d s (wordBytes * suc i + 3) (wordBytes * i + 3) (omega arith),
 )
 
-four-sum : (w a b c d p q : ℕ) → w ≡ a + 256 * p → p ≡ b + 256 * q → q ≡ c + 256 * d → a + 256 * b + 65536 * c + 16777216 * d ≡ w
+four-sum : (w a b c d p q : ℕ) → w ≡ a + secondWeight * p → p ≡ b + secondWeight * q → q ≡ c + secondWeight * d → ofBytes a b c d ≡ w
 four-sum w a b c d p q e f g = omega arith
 
-four-bytes : (w : ℕ) → w ≤ most → w % 256 + 256 * (w / 256 % 256) + 65536 * (w / 65536 % 256) + 16777216 * (w / 16777216 % 256) ≡ w
+four-bytes : (w : ℕ) → w ≤ most
+    → ofBytes (w % byteValues) (w / secondWeight % byteValues) (w / thirdWeight % byteValues) (w / fourthWeight % byteValues) ≡ w
 four-bytes w h =
-    let last : w / 16777216 % 256 ≡ w / 16777216 = omega arith in
+    let last : w / fourthWeight % byteValues ≡ w / fourthWeight = omega arith in
     rw last
-    (four-sum w (w % 256) (w / 256 % 256) (w / 65536 % 256) (w / 16777216) (w / 256) (w / 65536) (omega arith) (omega arith) (omega arith))
+    (four-sum w (w % byteValues) (w / secondWeight % byteValues) (w / thirdWeight % byteValues) (w / fourthWeight)
+    (w / secondWeight) (w / thirdWeight) (omega arith) (omega arith) (omega arith))
 
 bytes-at : (w : List ℕ) → ((i : ℕ) → getD w i 0 ≤ most) → (i : ℕ) → wordIn (bytesOf w) i ≡ getD w i 0
 unfolding bytesOf
 bytes-at [] h i = refl
 bytes-at (v ∷ w) h zero = four-bytes v (h 0)
 bytes-at (v ∷ w) h (suc i) =
-    word-later (v % 256) (v / 256 % 256) (v / 65536 % 256) (v / 16777216 % 256) (bytesOf w) i ∙ bytes-at w (λ j. h (suc j)) i
+    word-later (v % byteValues) (v / secondWeight % byteValues) (v / thirdWeight % byteValues) (v / fourthWeight % byteValues) (bytesOf w) i
+    ∙ bytes-at w (λ j. h (suc j)) i
 
 -- Rule 12.1: a file with the bytes of 2,304 words gives those words.
 pub state-bytes : (w : List ℕ) → length w ≡ wordCount → ((i : ℕ) → getD w i 0 ≤ most) → stateOf (bytesOf w) ≡ w
@@ -107,20 +111,20 @@ state-bytes w h small =
 -- ---- the words of bytes
 
 -- the four bytes of a word are those that it was put together from
-first-byte : (a b c d : ℕ) → a < 256 → (a + 256 * b + 65536 * c + 16777216 * d) % 256 ≡ a
+first-byte : (a b c d : ℕ) → a < byteValues → ofBytes a b c d % byteValues ≡ a
 first-byte a b c d h = omega arith
 
-second-byte : (a b c d : ℕ) → a < 256 → b < 256 → (a + 256 * b + 65536 * c + 16777216 * d) / 256 % 256 ≡ b
+second-byte : (a b c d : ℕ) → a < byteValues → b < byteValues → ofBytes a b c d / secondWeight % byteValues ≡ b
 second-byte a b c d h g = omega arith
 
-third-byte : (a b c d : ℕ) → a < 256 → b < 256 → c < 256 → (a + 256 * b + 65536 * c + 16777216 * d) / 65536 % 256 ≡ c
+third-byte : (a b c d : ℕ) → a < byteValues → b < byteValues → c < byteValues → ofBytes a b c d / thirdWeight % byteValues ≡ c
 third-byte a b c d h g k = omega arith
 
-fourth-byte : (a b c d : ℕ) → a < 256 → b < 256 → c < 256 → d < 256 → (a + 256 * b + 65536 * c + 16777216 * d) / 16777216 % 256 ≡ d
+fourth-byte : (a b c d : ℕ) → a < byteValues → b < byteValues → c < byteValues → d < byteValues → ofBytes a b c d / fourthWeight % byteValues ≡ d
 fourth-byte a b c d h g k l = omega arith
 
 -- words that are those in some bytes have these bytes
-words-bytes : (w s : List ℕ) → length s ≡ wordBytes * length w → ((i : ℕ) → getD s i 0 < 256) → ((i : ℕ) → i < length w → getD w i 0 ≡ wordIn s i)
+words-bytes : (w s : List ℕ) → length s ≡ wordBytes * length w → ((i : ℕ) → getD s i 0 < byteValues) → ((i : ℕ) → i < length w → getD w i 0 ≡ wordIn s i)
     → bytesOf w ≡ s
 unfolding bytesOf
 words-bytes [] [] h small is = refl
@@ -130,7 +134,7 @@ words-bytes (v ∷ w) (a ∷ []) h small is = absurd (omega arith)
 words-bytes (v ∷ w) (a ∷ b ∷ []) h small is = absurd (omega arith)
 words-bytes (v ∷ w) (a ∷ b ∷ c ∷ []) h small is = absurd (omega arith)
 words-bytes (v ∷ w) (a ∷ b ∷ c ∷ d ∷ s) h small is =
-    let front : v ≡ a + 256 * b + 65536 * c + 16777216 * d = is 0 (omega arith) in
+    let front : v ≡ ofBytes a b c d = is 0 (omega arith) in
     let rest : bytesOf w ≡ s = words-bytes w s (omega arith) (λ i. small (suc (suc (suc (suc i)))))
     (λ i l. is (suc i) (omega arith) ∙ word-later a b c d s i) in
     rw (
@@ -143,12 +147,12 @@ words-bytes (v ∷ w) (a ∷ b ∷ c ∷ d ∷ s) h small is =
     )
 
 -- Rule 12.1: the words of a file of 9,216 bytes have the bytes of that file,
-pub bytes-state : (s : List ℕ) → length s ≡ fileBytes → ((i : ℕ) → getD s i 0 < 256) → bytesOf (stateOf s) ≡ s
+pub bytes-state : (s : List ℕ) → length s ≡ fileBytes → ((i : ℕ) → getD s i 0 < byteValues) → bytesOf (stateOf s) ≡ s
 bytes-state s h small =
     words-bytes (stateOf s) s (omega (arith, state-length s h)) small
     (λ i l. state-at s i h (omega (arith, state-length s h)))
 
 -- so two such files with the same tables are the same.
-pub state-one : (s r : List ℕ) → length s ≡ fileBytes → length r ≡ fileBytes → ((i : ℕ) → getD s i 0 < 256) → ((i : ℕ) → getD r i 0 < 256)
+pub state-one : (s r : List ℕ) → length s ≡ fileBytes → length r ≡ fileBytes → ((i : ℕ) → getD s i 0 < byteValues) → ((i : ℕ) → getD r i 0 < byteValues)
     → stateOf s ≡ stateOf r → s ≡ r
 state-one s r h g small tiny e = sym (bytes-state s h small) ∙ ap bytesOf e ∙ bytes-state r g tiny

@@ -8,7 +8,6 @@ use Prim.Native.Nat.{_-_, _<_, _≤_, suc, zero, ℕ}
 use native.Mathlib.Omega.{arith}
 use lib.Dec.{eqb, ltb}
 use lib.ListN.{length, length-append}
-use borrow.Author.Tests.{eqb-false, eqb-true, ltb-false, ltb-true}
 use Rattle.model.specs.Basics.Cases.{cases, true-or-false}
 use Rattle.model.specs.Basics.Choice.{pick}
 use Rattle.model.specs.Request.Step.{afterOf}
@@ -21,6 +20,7 @@ use Rattle.model.specs.Script.Windows.{stopped, together}
 use Rattle.model.specs.Text.NearLaws.{read-bad, read-near-bad, read-shorter}
 use Rattle.model.specs.Text.Unfinished.{unfinished}
 use Rattle.model.specs.Text.Wording.{Lines, Wording, badLine, lines, readSeven, sixteen}
+use borrow.Author.Tests.{eqb-false, eqb-true, ltb-false, ltb-true}
 
 -- ---- the tests of a window
 

@@ -54,13 +54,13 @@ run (suc k) last t s n = pick (idle n s) (stopped t s) (onward (run k last) t s 
 unfoldable pub ran : List ℕ → List ℕ → Bool → ℕ → Ran
 ran t s last n = run (length s) last t s n
 
--- the bytes of pieces, one piece behind another
+-- the bytes of pieces, one piece after another
 abbrev pub together : List (List ℕ) → List ℕ
 together [] = []
 together (c ∷ cs) = c ++ together cs
 
 -- Fed n t w cs rs: with room for n bytes of reports at a time, the program holds the bytes w, gets the pieces cs one after another and then finds
--- the end of the script; rs is all that it reports. Each time it puts what came behind what it holds, runs that, and keeps the rest; it ends with a
+-- the end of the script; rs is all that it reports. Each time it appends what came to what it holds, runs that, and keeps the rest; it ends with a
 -- request that could not be read, or at the end of the script with nothing left.
 pub data Fed (n : ℕ) : List ℕ → List ℕ → List (List ℕ) → List Report → Type 0 where
   piece : {t w c : List ℕ} {cs : List (List ℕ)} {rs : List Report} → ran t (w ++ c) false n .line ≡ 0

@@ -13,7 +13,7 @@ use Rattle.model.specs.State.Tests.{entityTest, userTest}
 use Rattle.model.specs.State.WellFormed.{EntityOk, Links, UserOk, WellFormed}
 use Rattle.model.specs.Tables.Layout.{Bounded}
 use Rattle.model.specs.Tables.RowLaws.{packed-none}
-use Rattle.model.specs.Tables.Words.{Tables, used, usedPlaces, device, devices, entityCount, kind, kinds, places, present, userCount}
+use Rattle.model.specs.Tables.Words.{Tables, device, devices, entityCount, kind, kinds, places, present, used, usedPlaces, userCount}
 
 -- A record of zeros is in order.
 pub zero-ok : EntityOk (λ f. 0)

@@ -16,9 +16,11 @@ use Rattle.model.specs.State.ClimbLaws.{complete, sound}
 use Rattle.model.specs.State.Depth.{Inside}
 use Rattle.model.specs.State.DepthLaws.{holds-one}
 use Rattle.model.specs.State.WellFormed.{In, Linked}
+use Rattle.model.specs.Tables.KindLaws.{terminalKind-agrees}
+use Rattle.model.specs.Tables.Kinds.{Terminal, terminal}
 use Rattle.model.specs.Tables.RowLaws.{sought}
 use Rattle.model.specs.Tables.Rows.{Member, Sought, seek}
-use Rattle.model.specs.Tables.Words.{containerKind, deviceKind, entityCount, objectKind, placeCount, userCount}
+use Rattle.model.specs.Tables.Words.{containerKind, entityCount, objectKind, placeCount, userCount}
 
 -- c is among the first n of a row
 pub member-agrees : (r : ℕ → ℕ) (n c : ℕ) → Agrees (ltb (seek c r n) n) (Member r n c)
@@ -117,10 +119,10 @@ module _ (k n : ℕ → ℕ) (at : ℕ → ℕ → ℕ) (dev : ℕ → ℕ) (ent
       low g (suc e) p r =
           sound entityCount (In k n at) (parent k n at) parent-top parent-holds one boxed (suc entityCount) (suc e) (g e (omega arith)) p
 
-  pub device-agrees : Agrees (deviceTest k n at dev) ((u : ℕ) → dev u ≢ 0 → k (dev u) ≡ deviceKind)
+  pub device-agrees : Agrees (deviceTest k n at dev) ((u : ℕ) → dev u ≢ 0 → Terminal (k (dev u)))
   unfolding deviceTest
   device-agrees =
-      agrees-range userCount (λ u. imp (not (eqb (dev u) 0)) (eqb (k (dev u)) deviceKind)) (λ u. dev u ≢ 0 → k (dev u) ≡ deviceKind) (λ u. search agreement)
+      agrees-range userCount (λ u. imp (not (eqb (dev u) 0)) (terminal (k (dev u)))) (λ u. dev u ≢ 0 → Terminal (k (dev u))) (λ u. search agreement)
       (λ q. absurd (q (userOut 0 (inl refl)))) (λ u o q. absurd (q (userOut u (inr o))))
 
   pub alone-agrees : Agrees (aloneTest k n at dev) ((u v : ℕ) → dev u ≢ 0 → dev u ≡ dev v → u ≡ v)
@@ -132,19 +134,19 @@ module _ (k n : ℕ → ℕ) (at : ℕ → ℕ → ℕ) (dev : ℕ → ℕ) (ent
       (λ q e. absurd (q (e ∙ userOut 0 (inl refl)))) (λ v o q e. absurd (q (e ∙ userOut v (inr o)))))
       (λ v q. absurd (q (userOut 0 (inl refl)))) (λ u o v q. absurd (q (userOut u (inr o))))
 
-  idle-agrees : Agrees (idleTest k n at dev) ((e : ℕ) → k e ≡ deviceKind → ((u : ℕ) → dev u ≢ e) → n e ≡ 0)
+  idle-agrees : Agrees (idleTest k n at dev) ((e : ℕ) → Terminal (k e) → ((u : ℕ) → dev u ≢ e) → n e ≡ 0)
   unfolding idleTest
-  idle-agrees = agrees-as {P = (e : ℕ) → e < entityCount → k (suc e) ≡ deviceKind → ((u : ℕ) → dev u ≢ suc e) → n (suc e) ≡ 0}
+  idle-agrees = agrees-as {P = (e : ℕ) → e < entityCount → Terminal (k (suc e)) → ((u : ℕ) → dev u ≢ suc e) → n (suc e) ≡ 0}
       (λ f e h z. low f e h z (ltb e (suc entityCount)) (below e (suc entityCount))) (λ f e l h z. f (suc e) h z)
-      (agrees-every entityCount (λ e. imp (eqb (k (suc e)) deviceKind)
+      (agrees-every entityCount (λ e. imp (terminal (k (suc e)))
       (imp (every userCount (λ u. not (eqb (dev (suc u)) (suc e)))) (eqb (n (suc e)) 0)))
-      (λ e. k (suc e) ≡ deviceKind → ((u : ℕ) → dev u ≢ suc e) → n (suc e) ≡ 0)
-      (λ e. agrees-imp (agrees-eq (k (suc e)) deviceKind) (agrees-imp
+      (λ e. Terminal (k (suc e)) → ((u : ℕ) → dev u ≢ suc e) → n (suc e) ≡ 0)
+      (λ e. agrees-imp (terminalKind-agrees (k (suc e))) (agrees-imp
       (agrees-range userCount (λ u. not (eqb (dev u) (suc e))) (λ u. dev u ≢ suc e) (λ u. search agreement) (λ q. omega (arith, userOut 0 (inl refl)))
       (λ u o q. omega (arith, userOut u (inr o))))
       (agrees-eq (n (suc e)) 0))))
     where
-      low : ((e : ℕ) → e < entityCount → k (suc e) ≡ deviceKind → ((u : ℕ) → dev u ≢ suc e) → n (suc e) ≡ 0) → (e : ℕ) → k e ≡ deviceKind
+      low : ((e : ℕ) → e < entityCount → Terminal (k (suc e)) → ((u : ℕ) → dev u ≢ suc e) → n (suc e) ≡ 0) → (e : ℕ) → Terminal (k e)
           → ((u : ℕ) → dev u ≢ e) → (b : Bool) → Below e (suc entityCount) b → n e ≡ 0
       low f zero h z b l = entityOut 0 (inl refl) .1
       low f (suc e) h z true (under l) = f e (omega arith) h z
@@ -153,9 +155,10 @@ module _ (k n : ℕ → ℕ) (at : ℕ → ℕ → ℕ) (dev : ℕ → ℕ) (ent
   pub links-agrees : Agrees (linksTest k n at dev) (Linked k n at dev)
   unfolding linksTest
   links-agrees = agrees-as
-      (λ (z : ((e c : ℕ) → Member (at e) (n e) c → (objectKind ≤ k c) × (k c ≤ containerKind)) × (((c a b : ℕ) → In k n at a c → In k n at b c → a ≡ b) × (((e : ℕ) → Inside (In k n at) e e → ⊥)
-      × (((u : ℕ) → dev u ≢ 0 → k (dev u) ≡ deviceKind) × (((u v : ℕ) → dev u ≢ 0 → dev u ≡ dev v → u ≡ v)
-      × ((e : ℕ) → k e ≡ deviceKind → ((u : ℕ) → dev u ≢ e) → n e ≡ 0)))))).
+      (λ (z : ((e c : ℕ) → Member (at e) (n e) c → (objectKind ≤ k c) × (k c ≤ containerKind))
+      × (((c a b : ℕ) → In k n at a c → In k n at b c → a ≡ b) × (((e : ℕ) → Inside (In k n at) e e → ⊥)
+      × (((u : ℕ) → dev u ≢ 0 → Terminal (k (dev u))) × (((u v : ℕ) → dev u ≢ 0 → dev u ≡ dev v → u ≡ v)
+      × ((e : ℕ) → Terminal (k e) → ((u : ℕ) → dev u ≢ e) → n e ≡ 0)))))).
       record { contents = z .0; oneContainer = z .1 .0; noLoop = z .1 .1 .0; deviceIs = z .1 .1 .1 .0; oneUser = z .1 .1 .1 .1 .0; idle = z .1 .1 .1 .1 .1 })
       (λ l. (l .contents, (l .oneContainer, (l .noLoop, (l .deviceIs, (l .oneUser, l .idle))))))
       (agrees-and contents-agrees (agrees-then one-agrees (λ o. agrees-and (loop-agrees o) (agrees-and device-agrees (agrees-and alone-agrees idle-agrees)))))

@@ -12,12 +12,13 @@ use Rattle.model.specs.Level.{levelCount, roleSets}
 use Rattle.model.specs.State.Tests.{accessTest, entityTest, filledTest, nobodyTest, noneTest, noticeTest, packedTest, shapeTest}
 use Rattle.model.specs.State.Tests.{tripleTest, userTest}
 use Rattle.model.specs.State.WellFormed.{Access, EntityOk, Filled, GoodTriple, Notice, Shape, UserOk}
+use Rattle.model.specs.Tables.Kinds.{Screen}
 use Rattle.model.specs.Tables.RowLaws.{first-zero}
 use Rattle.model.specs.Tables.Rows.{Packed, seek}
-use Rattle.model.specs.Tables.Words.{EntityWord, UserWord, authorised, clearance, containerKind, used, current, device, deviceKind}
+use Rattle.model.specs.Tables.Words.{EntityWord, UserWord, authorised, clearance, containerKind, current, device, deviceKind}
 use Rattle.model.specs.Tables.Words.{firstNoticed, held, heldOp, kind, lastNoticed, level, mark, maximum, missed, missedMost}
 use Rattle.model.specs.Tables.Words.{objectKind, operationCount, operationIn, place, placeCount, plainType, positionCount, positionOf}
-use Rattle.model.specs.Tables.Words.{present, releasedType, releaser, shown, spare, sumMost, triple, type, userCount, value}
+use Rattle.model.specs.Tables.Words.{present, releasedType, releaser, shown, spare, sumMost, triple, type, used, userCount, value}
 use Rattle.model.specs.Tables.Words.{whoMost, whoOf}
 
 -- Rules 3.3 and 3.8 to 3.11.
@@ -26,7 +27,7 @@ unfolding shapeTest
 shape-agrees k t l m v r x = agrees-as
     {P = (k ≤ deviceKind) × ((t ≤ releasedType) × ((l < levelCount) × ((m ≤ 1)
     × ((x < levelCount) × ((t ≢ plainType → k ≡ containerKind) × ((m ≢ 0 → k ≡ containerKind)
-    × ((t ≡ releasedType → (1 ≤ r) × (r ≤ userCount)) × ((t ≢ releasedType → r ≡ 0) × ((k ≢ deviceKind → x ≡ 0) × (k ≡ deviceKind → v ≡ 0))))))))))}
+    × ((t ≡ releasedType → (1 ≤ r) × (r ≤ userCount)) × ((t ≢ releasedType → r ≡ 0) × (((¬ Screen k) → x ≡ 0) × (Screen k → v ≡ 0))))))))))}
     (λ z. search) (λ s. search) (search agreement depth 20)
 
 -- a row of eight is zero from its eighth place on
@@ -72,8 +73,8 @@ notice-agrees h o n = agrees-as
 pub filled-agrees : (k n : ℕ) (at sum : ℕ → ℕ) → Eight at → Eight sum → Agrees (filledTest k n at sum) (Filled k n at sum)
 unfolding filledTest
 filled-agrees k n at sum ea es = agrees-as
-    {P = Packed at n × ((k ≡ objectKind → n ≡ 0) × ((k ≡ deviceKind → (i : ℕ) → i < placeCount → i < n → (1 ≤ sum i) × (sum i ≤ sumMost))
-    × ((k ≢ deviceKind → (i : ℕ) → i < placeCount → sum i ≡ 0) × ((i : ℕ) → i < placeCount → n ≤ i → sum i ≡ 0))))}
+    {P = Packed at n × ((k ≡ objectKind → n ≡ 0) × ((Screen k → (i : ℕ) → i < placeCount → i < n → (1 ≤ sum i) × (sum i ≤ sumMost))
+    × (((¬ Screen k) → (i : ℕ) → i < placeCount → sum i ≡ 0) × ((i : ℕ) → i < placeCount → n ≤ i → sum i ≡ 0))))}
     (λ z. record {
       packed = z .0;
       objectEmpty = z .1 .0;
@@ -88,7 +89,8 @@ filled-agrees k n at sum ea es = agrees-as
 pub good-agrees : (t : ℕ) → Agrees (tripleTest t) (GoodTriple t)
 unfolding tripleTest
 good-agrees t = agrees-as
-    {P = ((1 ≤ whoOf t) × (whoOf t ≤ whoMost)) × (((1 ≤ operationIn t) × (operationIn t ≤ operationCount)) × ((1 ≤ positionOf t) × (positionOf t ≤ positionCount)))}
+    {P = ((1 ≤ whoOf t) × (whoOf t ≤ whoMost))
+    × (((1 ≤ operationIn t) × (operationIn t ≤ operationCount)) × ((1 ≤ positionOf t) × (positionOf t ≤ positionCount)))}
     (λ z. search) (λ s. search) (search agreement depth 20)
 
 -- Rule 3.5.
@@ -125,7 +127,31 @@ absent-entity-agrees w o = agrees-as
       | shown i ↦ within (λ j. w (shown j)) (o .shown8) (z .1 .1 .1 .1 .1 .1 .1 .1 .1 .0) i
       | triple i ↦ within (λ j. w (triple j)) (o .triple8) (z .1 .1 .1 .1 .1 .1 .1 .1 .1 .1) i
     ])
-    (λ f. (f kind, (f type, (f level, (f mark, (f value, (f releaser, (f maximum, (f used, (λ i h. f (place i), (λ i h. f (shown i), λ i h. f (triple i))))))))))))
+    (λ f. (
+      f kind,
+      (
+        f type,
+        (
+          f level,
+          (
+            f mark,
+            (
+              f value,
+              (
+                f releaser,
+                (
+                  f maximum,
+                  (
+                    f used,
+                    (λ i h. f (place i), (λ i h. f (shown i), λ i h. f (triple i))),
+                  ),
+                ),
+              ),
+            ),
+          ),
+        ),
+      ),
+    ))
     (search agreement depth 20)
 
 -- An entity's record by itself.
@@ -138,7 +164,8 @@ entity-agrees w o = agrees-as
     (λ e. (e .absent, (e .shape, (e .filled, e .access))))
     (agrees-and (agrees-imp (agrees-eq (w kind) 0) (absent-entity-agrees w o)) (agrees-and
     (shape-agrees (w kind) (w type) (w level) (w mark) (w value) (w releaser) (w maximum))
-    (agrees-and (filled-agrees (w kind) (w used) (λ i. w (place i)) (λ i. w (shown i)) (o .place8) (o .shown8)) (access-agrees (λ i. w (triple i)) (o .triple8)))))
+    (agrees-and (filled-agrees (w kind) (w used) (λ i. w (place i)) (λ i. w (shown i)) (o .place8) (o .shown8))
+    (access-agrees (λ i. w (triple i)) (o .triple8)))))
 
 -- Rule 3.1 of a user.
 absent-user-agrees : (w : UserWord → ℕ) → Agrees (nobodyTest w)

@@ -11,10 +11,12 @@ use Rattle.model.specs.Level.{atMost, roleCount, subset}
 use Rattle.model.specs.State.Climb.{up}
 use Rattle.model.specs.State.Secure.{labelled}
 use Rattle.model.specs.State.Tests.{entityTest, userTest}
+use Rattle.model.specs.Tables.Kinds.{screen, terminal}
 use Rattle.model.specs.Tables.Layout.{tablesOf, wordCount}
 use Rattle.model.specs.Tables.Rows.{seek}
-use Rattle.model.specs.Tables.Words.{Tables, authorised, clearance, containerKind, usedPlaces, current, deviceKind, devices, entityCount}
-use Rattle.model.specs.Tables.Words.{kinds, level, maximum, objectKind, placeCount, places, sums, userCount}
+use Rattle.model.specs.Tables.Words.{Tables, authorised, clearance, containerKind, current, devices, entityCount, kinds, level}
+use Rattle.model.specs.Tables.Words.{maximum, objectKind, placeCount, places, sums, usedPlaces, userCount}
+use Rattle.model.specs.Request.Refusals as refusal
 
 -- a stands directly in the container b
 unfoldable pub inTest : (ℕ → ℕ) → (ℕ → ℕ) → (ℕ → ℕ → ℕ) → ℕ → ℕ → Bool
@@ -39,22 +41,22 @@ oneTest k n at dev = every entityCount (λ a. imp (eqb (k (suc a)) containerKind
     (every placeCount (λ i. every placeCount (λ j. imp (ltb i (n (suc a))) (imp (ltb j (n (suc b)))
     (imp (eqb (at (suc a) i) (at (suc b) j)) (eqb (suc a) (suc b))))))))))
 
--- Rule 3.14: from every entity the way up ends.
+-- Rule 3.14: the way up from every entity ends.
 unfoldable pub loopTest : (k n : ℕ → ℕ) (at : ℕ → ℕ → ℕ) (dev : ℕ → ℕ) → Bool
 loopTest k n at dev = every entityCount (λ e. up (parent k n at) (suc entityCount) (suc e))
 
--- Rule 3.15: who is on is on a device.
+-- Rule 3.15: who is on is on a terminal.
 unfoldable pub deviceTest : (k n : ℕ → ℕ) (at : ℕ → ℕ → ℕ) (dev : ℕ → ℕ) → Bool
-deviceTest k n at dev = every userCount (λ u. imp (not (eqb (dev (suc u)) 0)) (eqb (k (dev (suc u))) deviceKind))
+deviceTest k n at dev = every userCount (λ u. imp (not (eqb (dev (suc u)) 0)) (terminal (k (dev (suc u)))))
 
--- Rule 3.16: one user to a device.
+-- Rule 3.16: one user to a terminal.
 unfoldable pub aloneTest : (k n : ℕ → ℕ) (at : ℕ → ℕ → ℕ) (dev : ℕ → ℕ) → Bool
 aloneTest k n at dev = every userCount (λ u. every userCount (λ v. imp (not (eqb (dev (suc u)) 0))
     (imp (eqb (dev (suc u)) (dev (suc v))) (eqb (suc u) (suc v)))))
 
--- Rule 3.18: a screen without a user is empty.
+-- Rule 3.18: a terminal without a user shows nothing.
 unfoldable pub idleTest : (k n : ℕ → ℕ) (at : ℕ → ℕ → ℕ) (dev : ℕ → ℕ) → Bool
-idleTest k n at dev = every entityCount (λ e. imp (eqb (k (suc e)) deviceKind)
+idleTest k n at dev = every entityCount (λ e. imp (terminal (k (suc e)))
     (imp (every userCount (λ u. not (eqb (dev (suc u)) (suc e)))) (eqb (n (suc e)) 0)))
 
 unfoldable pub linksTest : (k n : ℕ → ℕ) (at : ℕ → ℕ → ℕ) (dev : ℕ → ℕ) → Bool
@@ -77,15 +79,15 @@ seenTest d u = imp (not (eqb (devices d u) 0))
 
 -- Rule 4.3: no value without its label.
 unfoldable pub labelledTest : Tables → ℕ → Bool
-labelledTest d e = imp (eqb (kinds d e) deviceKind) (every placeCount (λ i. imp (ltb i (usedPlaces d e)) (labelled (sums d e i))))
+labelledTest d e = imp (screen (kinds d e)) (every placeCount (λ i. imp (ltb i (usedPlaces d e)) (labelled (sums d e i))))
 
 -- Rule 4.4: nobody acts with a role that is not authorised.
 unfoldable pub rolesTest : Tables → ℕ → Bool
 rolesTest d u = subset roleCount (d .user u current) (d .user u authorised)
 
--- Rule 4.5: no device is set above its maximum.
+-- Rule 4.5: no screen is set above its maximum.
 unfoldable pub ceilingTest : Tables → ℕ → Bool
-ceilingTest d e = imp (eqb (kinds d e) deviceKind) (atMost (d .entity e level) (d .entity e maximum))
+ceilingTest d e = imp (screen (kinds d e)) (atMost (d .entity e level) (d .entity e maximum))
 
 -- Rule 4, all of it.
 unfoldable pub secureTest : Tables → Bool
@@ -95,8 +97,8 @@ secureTest d = every entityCount (λ e. containedTest d (suc e)) && (every userC
 
 -- Rule 8.5: 2 where the tables are not well-formed, else 3 where they are not secure, else 0.
 unfoldable pub judge : Tables → ℕ
-judge d = pick (wellFormedTest d) (pick (secureTest d) 0 3) 2
+judge d = pick (wellFormedTest d) (pick (secureTest d) refusal.accepted refusal.notSecure) refusal.notWellFormed
 
 -- Rule 8.5 of any words: 1 where they are not 2,304.
 unfoldable pub check : List ℕ → ℕ
-check t = pick (eqb (length t) wordCount) (judge (tablesOf t)) 1
+check t = pick (eqb (length t) wordCount) (judge (tablesOf t)) refusal.badLength

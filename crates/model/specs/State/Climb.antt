@@ -4,12 +4,12 @@ use Prim.Native.Nat.{suc, zero, ℕ}
 use lib.Dec.{eqb}
 use Rattle.model.specs.Basics.Choice.{pick}
 
--- from a, m steps up (par a is what a stands in, or 0) reach one that stands in nothing
+-- m steps up from a reach one that stands in nothing; par a is what a stands in, or 0
 unfoldable pub up : (ℕ → ℕ) → ℕ → ℕ → Bool
 up par zero a = false
 up par (suc m) a = pick (eqb (par a) 0) true (up par m (par a))
 
--- from c, m steps up meet e
+-- m steps up from c meet e
 unfoldable pub climb : (ℕ → ℕ) → ℕ → ℕ → ℕ → Bool
 climb par zero c e = false
 climb par (suc m) c e = pick (eqb c e) true (pick (eqb (par c) 0) false (climb par m (par c) e))

@@ -1,4 +1,4 @@
--- What each change of the columns (kinds, counts, places, the users' devices) asks, so that the records still fit together.
+-- What each change of the columns (kinds, used places, places, the users' devices) asks, so that the records still fit together.
 use mathlib.Core.Bool.{Bool, false, true}
 use mathlib.Core.Logic.{_≢_, _⊎_, inl, inr}
 use mathlib.Core.Path.{_∙_, _≡_, ap, refl, subst, sym}
@@ -10,9 +10,10 @@ use Rattle.model.specs.State.Depth.{Within}
 use Rattle.model.specs.State.DepthLaws.{OneMore, fewer, held-by, no-loop}
 use Rattle.model.specs.State.WellFormed.{In, Linked}
 use Rattle.model.specs.Tables.EditLaws.{case, member-cases, member-emptied}
+use Rattle.model.specs.Tables.Kinds.{Screen, Terminal}
 use Rattle.model.specs.Tables.RowLaws.{append-member}
 use Rattle.model.specs.Tables.Rows.{Member, replace}
-use Rattle.model.specs.Tables.Words.{containerKind, deviceKind, objectKind}
+use Rattle.model.specs.Tables.Words.{containerKind, objectKind}
 
 abbrev pub atRecord : {A : Type 0} → ℕ → A → (ℕ → A) → ℕ → A
 atRecord e v f x = pick (eqb x e) v (f x)
@@ -57,14 +58,14 @@ module _ (k n : ℕ → ℕ) (at : ℕ → ℕ → ℕ) (dev : ℕ → ℕ) (l :
         go (inr q) = inr q
 
     pub attach : (objectKind ≤ k e) × (k e ≤ containerKind) → (k c ≡ containerKind → (b : ℕ) → In k n at b e → ⊥) → (Within (In k n at) c e → ⊥)
-        → (k c ≡ deviceKind → (u : ℕ) × (dev u ≡ c)) → Linked k used+ place+ dev
+        → (Terminal (k c) → (u : ℕ) × (dev u ≡ c)) → Linked k used+ place+ dev
     attach thing free apart on = record {
       contents = λ x a h. whole x a (grown x a h);
       oneContainer = λ a x y p q. alone a x y p q (one-more x a p) (one-more y a q);
       noLoop = no-loop (In k n at) (In k used+ place+) c e one-more (l .noLoop) apart;
       deviceIs = l .deviceIs;
       oneUser = l .oneUser;
-      idle = λ x h z. case (λ (y : ℕ). y ≡ 0) x c (suc (n c)) (n x) (λ q. let o = on (subst (λ (y : ℕ). k y ≡ deviceKind) q h) in absurd
+      idle = λ x h z. case (λ (y : ℕ). y ≡ 0) x c (suc (n c)) (n x) (λ q. let o = on (subst (λ (y : ℕ). Terminal (k y)) q h) in absurd
           (z (o .0) (o .1 ∙ sym q))) (λ q. l .idle x h z);
     }
       where
@@ -79,8 +80,8 @@ module _ (k n : ℕ → ℕ) (at : ℕ → ℕ → ℕ) (dev : ℕ → ℕ) (l :
         alone a x y p′ q′ (inr p) (inl q) = absurd (free (ap k (sym (p .0)) ∙ p′ .0) y (rw (p .1) at q))
         alone a x y p′ q′ (inr p) (inr q) = p .0 ∙ sym (q .0)
 
-  -- a device is in nothing
-  pub device-apart : (c e : ℕ) → k c ≡ deviceKind → (k e ≤ containerKind) → Within (In k n at) c e → ⊥
+  -- a screen is in nothing
+  pub device-apart : (c e : ℕ) → Screen (k c) → (k e ≤ containerKind) → Within (In k n at) c e → ⊥
   device-apart c e h he (inl q) = omega (arith, ap k q)
   device-apart c e h he (inr p) = let x = held-by p in omega (arith, l .contents (x .0) c (x .1 .1))
 
@@ -98,9 +99,9 @@ module _ (k n : ℕ → ℕ) (at : ℕ → ℕ → ℕ) (dev : ℕ → ℕ) (l :
       contents = λ x c h. case (λ (y : ℕ). (objectKind ≤ y) × (y ≤ containerKind)) c e s (k c) (λ q. thing) (λ q. l .contents x c h);
       oneContainer = λ c a b p q. l .oneContainer c a b (empty-in a c p) (empty-in b c q);
       noLoop = λ x p. l .noLoop x (fewer empty-in p);
-      deviceIs = λ u h. case (λ (y : ℕ). y ≡ deviceKind) (dev u) e s (k (dev u)) (λ q. absurd (omega (arith, l .deviceIs u h, ap k q))) (λ q. l .deviceIs u h);
+      deviceIs = λ u h. case Terminal (dev u) e s (k (dev u)) (λ q. absurd (omega (arith, l .deviceIs u h, ap k q))) (λ q. l .deviceIs u h);
       oneUser = l .oneUser;
-      idle = λ x h. l .idle x (case (λ (y : ℕ). y ≡ deviceKind → k x ≡ deviceKind) x e s (k x) (λ q z. absurd (omega arith)) (λ q z. z) h);
+      idle = λ x h. l .idle x (case (λ (y : ℕ). Terminal y → Terminal (k x)) x e s (k x) (λ q z. absurd (omega arith)) (λ q z. z) h);
     }
 
   -- a record with nothing in it, that stands nowhere and is no device, is zeroed
@@ -128,19 +129,19 @@ module _ (k n : ℕ → ℕ) (at : ℕ → ℕ → ℕ) (dev : ℕ → ℕ) (l :
           (λ q. l .contents x c (still x c h));
       oneContainer = λ c a b p q. l .oneContainer c a b (still-in a c p) (still-in b c q);
       noLoop = λ x p. l .noLoop x (fewer still-in p);
-      deviceIs = λ u h. case (λ (y : ℕ). y ≡ deviceKind) (dev u) e 0 (k (dev u)) (λ q. absurd (omega (arith, l .deviceIs u h, ap k q))) (λ q. l .deviceIs u h);
+      deviceIs = λ u h. case Terminal (dev u) e 0 (k (dev u)) (λ q. absurd (omega (arith, l .deviceIs u h, ap k q))) (λ q. l .deviceIs u h);
       oneUser = l .oneUser;
       idle = λ x h z. case (λ (y : ℕ). y ≡ 0) x e 0 (n x) (λ q. refl) (λ q. l .idle x
-          (case (λ (y : ℕ). y ≡ deviceKind → k x ≡ deviceKind) x e 0 (k x) (λ q z. absurd (omega arith)) (λ q z. z) h) z);
+          (case (λ (y : ℕ). Terminal y → Terminal (k x)) x e 0 (k x) (λ q z. absurd (omega arith)) (λ q z. z) h) z);
     }
 
   -- a user who was off goes on to a free device
-  pub arrive : (u e : ℕ) → k 0 ≡ 0 → dev u ≡ 0 → k e ≡ deviceKind → ((v : ℕ) → dev v ≢ e) → Linked k n at (atRecord u e dev)
+  pub arrive : (u e : ℕ) → k 0 ≡ 0 → dev u ≡ 0 → Terminal (k e) → ((v : ℕ) → dev v ≢ e) → Linked k n at (atRecord u e dev)
   arrive u e nil gone h free = record {
     contents = l .contents;
     oneContainer = l .oneContainer;
     noLoop = l .noLoop;
-    deviceIs = λ v. case (λ (y : ℕ). y ≢ 0 → k y ≡ deviceKind) v u e (dev v) (λ q z. h) (λ q z. l .deviceIs v z);
+    deviceIs = λ v. case (λ (y : ℕ). y ≢ 0 → Terminal (k y)) v u e (dev v) (λ q z. h) (λ q z. l .deviceIs v z);
     oneUser = λ v x. case (λ (y : ℕ). y ≢ 0 → y ≡ atRecord u e dev x → v ≡ x) v u e (dev v)
         (λ q z. case (λ (y : ℕ). e ≡ y → v ≡ x) x u e (dev x) (λ r w. q ∙ sym r) (λ r w. absurd (free x (sym w))))
         (λ q z. case (λ (y : ℕ). dev v ≡ y → v ≡ x) x u e (dev x) (λ r w. absurd (free v w)) (λ r w. l .oneUser v x z w));
@@ -153,13 +154,13 @@ module _ (k n : ℕ → ℕ) (at : ℕ → ℕ → ℕ) (dev : ℕ → ℕ) (l :
     contents = l .contents;
     oneContainer = l .oneContainer;
     noLoop = l .noLoop;
-    deviceIs = λ v. case (λ (y : ℕ). y ≢ 0 → k y ≡ deviceKind) v u 0 (dev v) (λ q z. absurd (z refl)) (λ q z. l .deviceIs v z);
+    deviceIs = λ v. case (λ (y : ℕ). y ≢ 0 → Terminal (k y)) v u 0 (dev v) (λ q z. absurd (z refl)) (λ q z. l .deviceIs v z);
     oneUser = λ v x. case (λ (y : ℕ). y ≢ 0 → y ≡ atRecord u 0 dev x → v ≡ x) v u 0 (dev v)
         (λ q z. absurd (z refl))
         (λ q z. case (λ (y : ℕ). dev v ≡ y → v ≡ x) x u 0 (dev x) (λ r w. absurd (z w)) (λ r w. l .oneUser v x z w));
     idle = λ x hx z. last x hx z (eqb x (dev u)) (same x (dev u));
   }
     where
-      last : (x : ℕ) → k x ≡ deviceKind → ((v : ℕ) → atRecord u 0 dev v ≢ x) → (b : Bool) → Same x (dev u) b → n x ≡ 0
+      last : (x : ℕ) → Terminal (k x) → ((v : ℕ) → atRecord u 0 dev v ≢ x) → (b : Bool) → Same x (dev u) b → n x ≡ 0
       last x hx z true (it q) = ap n q ∙ empty
       last x hx z false (other q) = l .idle x hx (λ v w. z v (case (λ (y : ℕ). y ≡ x) v u 0 (dev v) (λ r. absurd (q (sym w ∙ ap dev r))) (λ r. w)))

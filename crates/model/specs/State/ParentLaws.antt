@@ -6,7 +6,8 @@ use Rattle.model.specs.State.Agree.{wellFormed-bounded}
 use Rattle.model.specs.State.AgreeLinks.{boxed, parent-holds, parent-top}
 use Rattle.model.specs.State.Check.{parent}
 use Rattle.model.specs.State.WellFormed.{InTables, WellFormed}
-use Rattle.model.specs.Tables.Words.{Tables, used, usedPlaces, device, devices, entityCount, kind, kinds, placeCount, places, userCount}
+use Rattle.model.specs.Tables.Words.{Tables, device, devices, entityCount, kind, kinds, placeCount, places, used, usedPlaces}
+use Rattle.model.specs.Tables.Words.{userCount}
 
 module _ (d : Tables) (w : WellFormed d) where
   pub entity-out : (e : ℕ) → (e ≡ 0) ⊎ (entityCount < e) → (kinds d e ≡ 0) × (usedPlaces d e ≡ 0)

@@ -4,12 +4,13 @@ use Prim.Native.Nat.{ℕ}
 use lib.Dec.{eqb, leb, ltb}
 use Rattle.model.specs.Basics.Tests.{every, imp}
 use Rattle.model.specs.Level.{levelCount, roleSets}
+use Rattle.model.specs.Tables.Kinds.{screen}
 use Rattle.model.specs.Tables.Rows.{seek}
-use Rattle.model.specs.Tables.Words.{EntityWord, UserWord, absentKind, authorised, clearance, containerKind, used, current, device}
+use Rattle.model.specs.Tables.Words.{EntityWord, UserWord, absentKind, authorised, clearance, containerKind, current, device}
 use Rattle.model.specs.Tables.Words.{deviceKind, firstNoticed, held, heldOp, kind, lastNoticed, level, mark, maximum, missed}
-use Rattle.model.specs.Tables.Words.{missedMost, objectKind, operationCount, operationIn, place, placeCount, plainType}
-use Rattle.model.specs.Tables.Words.{positionCount, positionOf, present, releasedType, releaser, shown, spare, spareCount, sumMost}
-use Rattle.model.specs.Tables.Words.{triple, type, userCount, value, whoMost, whoOf}
+use Rattle.model.specs.Tables.Words.{missedMost, objectKind, operationCount, operationIn, place, placeCount, plainType, positionCount}
+use Rattle.model.specs.Tables.Words.{positionOf, present, releasedType, releaser, shown, spare, spareCount, sumMost, triple, type}
+use Rattle.model.specs.Tables.Words.{used, userCount, value, whoMost, whoOf}
 
 -- Rules 3.4 and 3.5: the first n places used, distinct, the rest zero.
 unfoldable pub packedTest : (ℕ → ℕ) → ℕ → Bool
@@ -22,13 +23,13 @@ shapeTest k t l m v r x =
     leb k deviceKind && (leb t releasedType && (ltb l levelCount && (leb m 1 && (ltb x levelCount
     && (imp (not (eqb t plainType)) (eqb k containerKind) && (imp (not (eqb m 0)) (eqb k containerKind)
     && (imp (eqb t releasedType) (leb 1 r && leb r userCount) && (imp (not (eqb t releasedType)) (eqb r 0)
-    && (imp (not (eqb k deviceKind)) (eqb x 0) && imp (eqb k deviceKind) (eqb v 0))))))))))
+    && (imp (not (screen k)) (eqb x 0) && imp (screen k) (eqb v 0))))))))))
 
 -- Rules 3.4, 3.7 and 3.12: contents and what is shown of them.
 unfoldable pub filledTest : ℕ → ℕ → (ℕ → ℕ) → (ℕ → ℕ) → Bool
 filledTest k n at sum = packedTest at n && (imp (eqb k objectKind) (eqb n 0)
-    && (imp (eqb k deviceKind) (every placeCount (λ i. imp (ltb i n) (leb 1 (sum i) && leb (sum i) sumMost)))
-    && (imp (not (eqb k deviceKind)) (every placeCount (λ i. eqb (sum i) 0)) && every placeCount (λ i. imp (leb n i) (eqb (sum i) 0)))))
+    && (imp (screen k) (every placeCount (λ i. imp (ltb i n) (leb 1 (sum i) && leb (sum i) sumMost)))
+    && (imp (not (screen k)) (every placeCount (λ i. eqb (sum i) 0)) && every placeCount (λ i. imp (leb n i) (eqb (sum i) 0)))))
 
 -- Rule 3.22: what a triple may name.
 unfoldable pub tripleTest : ℕ → Bool

@@ -5,12 +5,13 @@ use mathlib.Core.Path.{_≡_}
 use Prim.Native.Nat.{_<_, _≤_, ℕ}
 use Rattle.model.specs.Level.{levelCount, roleSets}
 use Rattle.model.specs.State.Depth.{Inside}
+use Rattle.model.specs.Tables.Kinds.{Screen, Terminal}
 use Rattle.model.specs.Tables.Rows.{Member, Packed}
-use Rattle.model.specs.Tables.Words.{EntityWord, Tables, UserWord, absentKind, authorised, clearance, containerKind, used, usedPlaces}
-use Rattle.model.specs.Tables.Words.{current, device, deviceKind, devices, entityCount, firstNoticed, held, heldOp, kind, kinds}
-use Rattle.model.specs.Tables.Words.{lastNoticed, level, mark, maximum, missed, missedMost, objectKind, operationCount, operationIn}
-use Rattle.model.specs.Tables.Words.{place, places, plainType, positionCount, positionOf, present, releasedType, releaser, shown}
-use Rattle.model.specs.Tables.Words.{spare, sumMost, triple, type, userCount, value, whoMost, whoOf}
+use Rattle.model.specs.Tables.Words.{EntityWord, Tables, UserWord, absentKind, authorised, clearance, containerKind, current, device}
+use Rattle.model.specs.Tables.Words.{deviceKind, devices, entityCount, firstNoticed, held, heldOp, kind, kinds, lastNoticed, level}
+use Rattle.model.specs.Tables.Words.{mark, maximum, missed, missedMost, objectKind, operationCount, operationIn, place, places}
+use Rattle.model.specs.Tables.Words.{plainType, positionCount, positionOf, present, releasedType, releaser, shown, spare, sumMost}
+use Rattle.model.specs.Tables.Words.{triple, type, used, usedPlaces, userCount, value, whoMost, whoOf}
 
 -- Rule 3.22: what a triple may name.
 pub record GoodTriple (t : ℕ) : Type 0 where
@@ -32,10 +33,10 @@ pub record Shape (k t l m v r x : ℕ) : Type 0 where
   -- rule 3.9: a releaser exactly where something is released
   pub releaserOn : t ≡ releasedType → (1 ≤ r) × (r ≤ userCount)
   pub releaserOff : t ≢ releasedType → r ≡ 0
-  -- rule 3.10: what is no device has no maximum
-  pub maximumOn : k ≢ deviceKind → x ≡ 0
-  -- rule 3.11: a device has no value of its own
-  pub deviceValue : k ≡ deviceKind → v ≡ 0
+  -- rule 3.10: what is no screen has no maximum
+  pub maximumOn : (¬ Screen k) → x ≡ 0
+  -- rule 3.11: a screen has no value of its own
+  pub deviceValue : Screen k → v ≡ 0
 
 -- The contents of an entity of kind k, n places used, and what is shown of each.
 pub record Filled (k n : ℕ) (at sum : ℕ → ℕ) : Type 0 where
@@ -43,9 +44,9 @@ pub record Filled (k n : ℕ) (at sum : ℕ → ℕ) : Type 0 where
   pub packed : Packed at n
   -- rule 3.7: nothing stands in an object
   pub objectEmpty : k ≡ objectKind → n ≡ 0
-  -- rule 3.12: a device says how much it shows of each; nothing else does
-  pub sums : k ≡ deviceKind → (i : ℕ) → i < n → (1 ≤ sum i) × (sum i ≤ sumMost)
-  pub noSums : k ≢ deviceKind → (i : ℕ) → sum i ≡ 0
+  -- rule 3.12: a screen says how much it shows of each; nothing else does
+  pub sums : Screen k → (i : ℕ) → i < n → (1 ≤ sum i) × (sum i ≤ sumMost)
+  pub noSums : (¬ Screen k) → (i : ℕ) → sum i ≡ 0
   pub restSums : (i : ℕ) → n ≤ i → sum i ≡ 0
 
 -- Rule 3.5: n access triples, each one good.
@@ -61,15 +62,15 @@ pub record EntityOk (w : EntityWord → ℕ) : Type 0 where
   pub filled : Filled (w kind) (w used) (λ i. w (place i)) (λ i. w (shown i))
   pub access : (n : ℕ) × Access n (λ i. w (triple i))
 
--- A notice: the refusal held h, its operation o, the count n.
+-- A notice: the refusal held h, its operation o, the number missed n.
 pub record Notice (h o n : ℕ) : Type 0 where
   -- rule 3.19: only a refusal that leaves a notice is held
   pub heldIn : (h ≡ 0) ⊎ ((firstNoticed ≤ h) × (h ≤ lastNoticed))
   -- rule 3.2: the operation refused, or 0
   pub operationIn : o ≤ operationCount
-  -- rule 3.21: the count has an end
+  -- rule 3.21: the number missed has a greatest
   pub missedIn : n ≤ missedMost
-  -- rule 3.20: nothing is held just where nothing is counted, and then there is no operation
+  -- rule 3.20: nothing is held exactly where nothing is missed, and then there is no operation
   pub none : (h ≡ 0) ↔ (n ≡ 0)
   pub quiet : h ≡ 0 → o ≡ 0
 
@@ -91,7 +92,7 @@ pub record UserOk (w : UserWord → ℕ) : Type 0 where
 abbrev pub In : (k n : ℕ → ℕ) (at : ℕ → ℕ → ℕ) → ℕ → ℕ → Type 0
 In k n at b c = (k b ≡ containerKind) × Member (at b) (n b) c
 
--- What one record says of another, over the columns kinds k, counts n, places at, and the users' devices dev.
+-- What one record says of another, over the columns kinds k, numbers of used places n, places at, and the users' devices dev.
 pub record Linked (k n : ℕ → ℕ) (at : ℕ → ℕ → ℕ) (dev : ℕ → ℕ) : Type 0 where
   -- rule 3.6: only objects and containers stand in places
   pub contents : (e c : ℕ) → Member (at e) (n e) c → (objectKind ≤ k c) × (k c ≤ containerKind)
@@ -99,17 +100,17 @@ pub record Linked (k n : ℕ → ℕ) (at : ℕ → ℕ → ℕ) (dev : ℕ → 
   pub oneContainer : (c a b : ℕ) → In k n at a c → In k n at b c → a ≡ b
   -- rule 3.14: nothing lies in itself, however deep
   pub noLoop : (e : ℕ) → Inside (In k n at) e e → ⊥
-  -- rule 3.15: who is on is on a device
-  pub deviceIs : (u : ℕ) → dev u ≢ 0 → k (dev u) ≡ deviceKind
-  -- rule 3.16: one user to a device; 0 is none
+  -- rule 3.15: who is on is on a terminal
+  pub deviceIs : (u : ℕ) → dev u ≢ 0 → Terminal (k (dev u))
+  -- rule 3.16: one user to a terminal; 0 is none
   pub oneUser : (u v : ℕ) → dev u ≢ 0 → dev u ≡ dev v → u ≡ v
-  -- rule 3.18: a screen without a user is empty
-  pub idle : (e : ℕ) → k e ≡ deviceKind → ((u : ℕ) → dev u ≢ e) → n e ≡ 0
+  -- rule 3.18: a terminal without a user shows nothing
+  pub idle : (e : ℕ) → Terminal (k e) → ((u : ℕ) → dev u ≢ e) → n e ≡ 0
 
 abbrev pub Links : Tables → Type 0
 Links d = Linked (kinds d) (usedPlaces d) (places d) (devices d)
 
--- c stands in a used place of e: in a container, or on a device
+-- c stands in a used place of e: in a container, or on a screen
 abbrev pub Holds : Tables → ℕ → ℕ → Type 0
 Holds d e c = Member (places d e) (usedPlaces d e) c
 

@@ -32,7 +32,7 @@ case P x e a b f g = go (eqb x e) (same x e)
     go true (it q) = f q
     go false (other q) = g q
 
--- what stands in record x after the row and the count of record e were set
+-- what stands in record x after the row of record e and the number of its used places were set
 pub member-cases : (x e c n m : ℕ) (r s : ℕ → ℕ) → Member (λ i. pick (eqb x e) (r i) (s i)) (pick (eqb x e) n m) c
     → ((x ≡ e) × Member r n c) ⊎ ((x ≢ e) × Member s m c)
 member-cases x e c n m r s = go (eqb x e) (same x e)

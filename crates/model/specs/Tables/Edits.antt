@@ -1,5 +1,5 @@
--- An edit: which words of which records it touches, asked first, and their new values. Every effect is one edit, so a word
--- that it does not touch is as it was by computation.
+-- An edit says which words of which records it touches, and their new values. The touch is asked first, and every effect is one edit: so a word
+-- that it does not touch stays as it was by computation.
 use mathlib.Core.Bool.{Bool, _&&_, true}
 use Prim.Native.Nat.{ℕ}
 use lib.Dec.{eqb}

@@ -7,9 +7,9 @@ use Prim.Native.Nat.{_*_, _+_, _-_, _<_, _≤_, ℕ}
 use lib.Dec.{leb, ltb}
 use lib.ListN.{getD}
 use Rattle.model.specs.Basics.Choice.{pick}
-use Rattle.model.specs.Tables.Words.{EntityWord, Tables, UserWord, authorised, clearance, used, current, device, entityCount, held}
-use Rattle.model.specs.Tables.Words.{heldOp, index, kind, level, mark, maximum, missed, place, placeCount, present, releaser, shown}
-use Rattle.model.specs.Tables.Words.{spare, spareCount, triple, type, userCount, value}
+use Rattle.model.specs.Tables.Words.{EntityWord, Tables, UserWord, authorised, clearance, current, device, entityCount, held, heldOp}
+use Rattle.model.specs.Tables.Words.{index, kind, level, mark, maximum, missed, place, placeCount, present, releaser, shown, spare}
+use Rattle.model.specs.Tables.Words.{spareCount, triple, type, used, userCount, value}
 
 -- the width of a user's record and of an entity's
 abbrev pub userWidth : ℕ

@@ -18,12 +18,12 @@ pub guard-out : (b : Bool) (v : ℕ) → ¬ T b → pick b v 0 ≡ 0
 guard-out true v t = absurd (t tt)
 guard-out false v t = refl
 
--- two words behind one guard are the same, if they are where it passes
+-- two words under one guard are the same, if they are where it passes
 pub guard-same : (b : Bool) (v w : ℕ) → (T b → v ≡ w) → pick b v 0 ≡ pick b w 0
 guard-same true v w h = h tt
 guard-same false v w h = refl
 
--- a word behind a guard is w, if it is where the guard passes and w is zero where it fails
+-- a word under a guard is w, if it is where the guard passes and w is zero where it fails
 pub guard-is : (b : Bool) (v w : ℕ) → (T b → v ≡ w) → (¬ T b → w ≡ 0) → pick b v 0 ≡ w
 guard-is true v w h k = h tt
 guard-is false v w h k = sym (k (λ t. t))

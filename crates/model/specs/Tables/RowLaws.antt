@@ -131,7 +131,7 @@ module _ (v : ℕ) (row : ℕ → ℕ) (n : ℕ) (p : Packed row n) where
       go true = let h : pred n ≤ n = omega arith in h
       go false = let h : n ≤ n = omega arith in h
 
--- `seek` stops at the first v; the first zero of a packed row of eight is its count
+-- `seek` stops at the first v; the first zero of a packed row of eight is the number of its used places
 pub before : (v : ℕ) (row : ℕ → ℕ) (n i : ℕ) → i < seek v row n → row i ≢ v
 unfolding seek
 before v row zero i h = absurd (not-suc-le-zero h)
@@ -168,7 +168,7 @@ replace-same row k v e = fun-ext λ i. go i (eqb i k) (same i k)
     go i true (it q) = sym (ap row q ∙ e)
     go i false (other q) = refl
 
--- a row in which v does not stand is the same without v, and so is its count
+-- a row in which v does not stand is the same without v, and so is the number of its used places
 pub without-none : (v : ℕ) (row : ℕ → ℕ) (n : ℕ) → Packed row n → (Member row n v → ⊥) → (left v row n ≡ n) × (without v row n ≡ row)
 without-none v row n p none = go (ltb (seek v row n) n) (below (seek v row n) n) (sought v row n)
   where

@@ -1,4 +1,4 @@
--- A row of places: its used ones first, distinct, the rest zero (rules 3.4 and 3.5); what can be done to it.
+-- A row of places (rules 3.4 and 3.5): the used ones come first and are distinct, the rest is zero; and what can be done to a row.
 use mathlib.Core.Logic.{_≢_, _⊎_}
 use mathlib.Core.Path.{_≡_}
 use Prim.Native.Nat.{_<_, _≤_, pred, suc, zero, ℕ}
@@ -21,7 +21,7 @@ Member row n c = (i : ℕ) × (i < n) × (row i ≡ c)
 abbrev pub replace : ℕ → ℕ → (ℕ → ℕ) → ℕ → ℕ
 replace k v row i = pick (eqb i k) v (row i)
 
--- place k taken out, the later ones close up
+-- place k is taken out, and the later ones close up
 abbrev pub close : ℕ → (ℕ → ℕ) → ℕ → ℕ
 close k row i = pick (ltb i k) (row i) (row (suc i))
 

@@ -27,7 +27,7 @@ padded zero l = []
 padded (suc n) [] = 0 ∷ padded n []
 padded (suc n) (x ∷ l) = x ∷ padded n l
 
--- n records of w words, one behind the other
+-- n records of w words, one after the other
 unfoldable pub paddedRecords : ℕ → ℕ → List (List ℕ) → List ℕ
 paddedRecords zero w l = []
 paddedRecords (suc n) w [] = padded w [] ++ paddedRecords n w []

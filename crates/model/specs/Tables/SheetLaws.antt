@@ -90,7 +90,8 @@ module _ (s : Sheet) where
   pub sheet-tables : tablesOf (sheetWords s) ≡ sheetTables s
   unfolding tablesOf sheetTables
   sheet-tables = λ i. record {
-    user = fun-ext (λ u. fun-ext (λ f. guard-same (userIn u f) (getD (sheetWords s) (userAt u f) 0) (recordWord (s .users) u (userOffset f)) (sheet-user u f))) i;
+    user = fun-ext (λ u. fun-ext (λ f.
+        guard-same (userIn u f) (getD (sheetWords s) (userAt u f) 0) (recordWord (s .users) u (userOffset f)) (sheet-user u f))) i;
     entity = fun-ext (λ e. fun-ext (λ f. guard-same (entityIn e f) (getD (sheetWords s) (entityAt e f) 0) (recordWord (s .entities) e (offset f))
         (sheet-entity e f))) i;
   }

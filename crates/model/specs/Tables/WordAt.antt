@@ -2,8 +2,8 @@
 use mathlib.Core.List.{[], _∷_}
 use Prim.Native.Nat.{_%_, _+_, _-_, _/_, min, ℕ}
 use lib.ListN.{getD}
-use Rattle.model.specs.Tables.Words.{EntityWord, UserWord, authorised, clearance, used, current, device, held, heldOp, kind, level}
-use Rattle.model.specs.Tables.Words.{mark, maximum, missed, place, present, releaser, shown, spare, triple, type, value}
+use Rattle.model.specs.Tables.Words.{EntityWord, UserWord, authorised, clearance, current, device, held, heldOp, kind, level, mark}
+use Rattle.model.specs.Tables.Words.{maximum, missed, place, present, releaser, shown, spare, triple, type, used, value}
 
 -- a user's word of a tag and, in a row, of a place
 unfoldable pub userWordOf : ℕ → ℕ → UserWord
@@ -13,7 +13,7 @@ userWordOf t i = getD (present ∷ clearance ∷ authorised ∷ current ∷ devi
 unfoldable pub entityWordOf : ℕ → ℕ → EntityWord
 entityWordOf t i = getD (kind ∷ type ∷ level ∷ mark ∷ value ∷ releaser ∷ maximum ∷ used ∷ place i ∷ shown i ∷ triple i ∷ []) t kind
 
--- the word m words behind the start of a user's record: eight single words, then the spare ones
+-- the word m words after the start of a user's record: eight single words, then the spare ones
 unfoldable pub userWordAt : ℕ → UserWord
 userWordAt m = userWordOf (min m 8) (m - 8)
 

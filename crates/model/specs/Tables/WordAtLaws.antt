@@ -7,9 +7,9 @@ use Rattle.model.specs.Basics.Agree.{every-at}
 use Rattle.model.specs.Basics.Tests.{every}
 use Rattle.model.specs.Tables.Layout.{entityWidth, offset, userOffset, userWidth}
 use Rattle.model.specs.Tables.WordAt.{entityWordAt, entityWordOf, userWordAt, userWordOf}
-use Rattle.model.specs.Tables.Words.{EntityWord, UserWord, authorised, clearance, used, current, device, held, heldOp, index, kind}
-use Rattle.model.specs.Tables.Words.{level, mark, maximum, missed, place, placeCount, present, releaser, shown, spare, tag, triple}
-use Rattle.model.specs.Tables.Words.{type, userIndex, userTag, value}
+use Rattle.model.specs.Tables.Words.{EntityWord, UserWord, authorised, clearance, current, device, held, heldOp, index, kind, level}
+use Rattle.model.specs.Tables.Words.{mark, maximum, missed, place, placeCount, present, releaser, shown, spare, tag, triple, type}
+use Rattle.model.specs.Tables.Words.{used, userIndex, userTag, value}
 
 -- a user's word is the word of its tag and place
 user-word-of : (f : UserWord) → userWordOf (userTag f) (userIndex f) ≡ f

@@ -1,6 +1,7 @@
 -- The words of the tables by name (rules 2.1 to 2.5), and the numbers that they are counted and told apart by.
 use Prim.Native.Nat.{_%_, _*_, _+_, _/_, suc, ℕ}
 use Rattle.model.specs.Level.{roleCount}
+use Rattle.model.specs.Request.Refusals as refusal
 
 -- Rule 2.1: sixteen users and sixty-four entities, both numbered from 1; rows of eight places, and eight spare words of a user.
 abbrev pub userCount : ℕ
@@ -20,7 +21,7 @@ pub data UserWord : Type 0 where
   present clearance authorised current device held heldOp missed : UserWord
   spare : ℕ → UserWord
 
--- Rule 2.3: the words of an entity. `count` is the number of places used; the three rows are counted from 0.
+-- Rule 2.3: the words of an entity. `used` is the number of places in use; the three rows are numbered from 0.
 pub data EntityWord : Type 0 where
   kind type level mark value releaser maximum used : EntityWord
   place shown triple : ℕ → EntityWord
@@ -53,7 +54,7 @@ draftType = 1
 abbrev pub releasedType : ℕ
 releasedType = 2
 
--- What a device shows of an entity (rule 2.4): the value, the label, the ID are bits 0, 1 and 2 of its sum.
+-- What a screen shows of an entity (rule 2.4): the value, the label and the ID are bits 0, 1 and 2 of a sum.
 abbrev pub valueBit : ℕ
 valueBit = 0
 
@@ -66,7 +67,7 @@ idBit = 2
 abbrev pub sumMost : ℕ
 sumMost = 7
 
--- Rule 2.5: an access triple is one number of three parts, who, operation and operand position, which weigh so much.
+-- Rule 2.5: an access triple is one number of three parts: who, operation and operand position. The first two have these weights.
 abbrev pub operationWeight : ℕ
 operationWeight = 256
 
@@ -99,12 +100,12 @@ operationCount = 20
 abbrev pub positionCount : ℕ
 positionCount = 2
 
--- Rule 3.19: the refusals of which a notice is kept; rule 3.21: where its count stops.
+-- Rule 3.19: the refusals of which a notice is kept; rule 3.21: where the number missed stops.
 abbrev pub firstNoticed : ℕ
-firstNoticed = 5
+firstNoticed = refusal.badRequest
 
 abbrev pub lastNoticed : ℕ
-lastNoticed = 16
+lastNoticed = refusal.notAcknowledged
 
 abbrev pub missedMost : ℕ
 missedMost = 65535
@@ -128,7 +129,7 @@ triples d e i = d .entity e (triple i)
 abbrev pub devices : Tables → ℕ → ℕ
 devices d u = d .user u device
 
--- Words are told apart by a tag and, in a row, by their place: literal numbers, so that the question computes.
+-- Words are told apart by a tag and, in a row, by their place. Both are literal numbers, so that the question computes.
 abbrev pub userTag : UserWord → ℕ
 userTag present = 0
 userTag clearance = 1

@@ -12,7 +12,7 @@ unfoldable pub firstValues : ℕ → (ℕ → ℕ) → List ℕ
 firstValues zero g = []
 firstValues (suc n) g = g 0 ∷ firstValues n (λ i. g (suc i))
 
--- the word i words behind the start of the users' records, and of the entities'
+-- the word i words after the start of the users' records, and of the entities'
 abbrev pub userAtIndex : Tables → ℕ → ℕ
 userAtIndex d i = d .user (suc (i / userWidth)) (userWordAt (i % userWidth))
 

@@ -17,9 +17,9 @@ use Rattle.model.specs.Tables.Layout.{userOffset, userWidth, wordCount}
 use Rattle.model.specs.Tables.RangeLaws.{entity-in, guard-in, guard-is, in-entity, in-user, user-in}
 use Rattle.model.specs.Tables.WordAt.{entityWordAt, userWordAt}
 use Rattle.model.specs.Tables.WordAtLaws.{entity-word-back, index-below, offset-at, offset-below, user-offset-at, user-word-back}
-use Rattle.model.specs.Tables.Words.{EntityWord, Tables, UserWord, authorised, clearance, used, current, device, entityCount, held}
-use Rattle.model.specs.Tables.Words.{heldOp, index, kind, level, mark, maximum, missed, place, placeCount, present, releaser, shown}
-use Rattle.model.specs.Tables.Words.{spare, triple, type, userCount, value}
+use Rattle.model.specs.Tables.Words.{EntityWord, Tables, UserWord, authorised, clearance, current, device, entityCount, held, heldOp}
+use Rattle.model.specs.Tables.Words.{index, kind, level, mark, maximum, missed, place, placeCount, present, releaser, shown, spare}
+use Rattle.model.specs.Tables.Words.{triple, type, used, userCount, value}
 use Rattle.model.specs.Tables.WordsOf.{entityAtIndex, firstValues, userAtIndex, wordAtIndex, wordsOf}
 
 -- the first n values are n
@@ -163,7 +163,9 @@ index-known t i h = go (ltb i entitiesFrom) (below i entitiesFrom)
   where
     go : (b : Bool) → Below i entitiesFrom b → pick b (userAtIndex (tablesOf t) i) (entityAtIndex (tablesOf t) (i - entitiesFrom)) ≡ getD t i 0
     go true (under l) = user-known t i l
-    go false (over l) = let s : entitiesFrom + (i - entitiesFrom) ≡ i = omega arith in entity-known t (i - entitiesFrom) (omega arith) ∙ ap (λ (k : ℕ). getD t k 0) s
+    go false (over l) =
+        let s : entitiesFrom + (i - entitiesFrom) ≡ i = omega arith in
+        entity-known t (i - entitiesFrom) (omega arith) ∙ ap (λ (k : ℕ). getD t k 0) s
 
 -- the words of the tables of 2,304 words are those words
 pub wordsOf-tablesOf : (t : List ℕ) → length t ≡ wordCount → wordsOf (tablesOf t) ≡ t

@@ -54,7 +54,7 @@ pub data Whole : List Sort → List ℕ → Type 0 where
   onward : {k : Sort} {ks : List Sort} {s x : List ℕ} → Begins k s x → Whole ks x → Whole (k ∷ ks) s
 
 -- Rule 11.4: where the bytes s are to be lines of the sorts ks, the first that is bad or missing is line n: the first line of s, if s begins with no
--- good line of the first sort; or, behind a good line, the first of the rest, counted one further; or whatever follows the last.
+-- good line of the first sort; or, after a good line, the first of the rest, counted one further; or whatever follows the last.
 pub data FirstBad : List Sort → List ℕ → ℕ → Type 0 where
   here : {k : Sort} {ks : List Sort} {s : List ℕ} → ((x : List ℕ) → ¬ Begins k s x) → FirstBad (k ∷ ks) s 1
   later : {k : Sort} {ks : List Sort} {s x : List ℕ} {n : ℕ} → Begins k s x → FirstBad ks x n → FirstBad (k ∷ ks) s (suc n)

@@ -5,21 +5,23 @@ use Prim.Native.Nat.{_+_, _≤_, suc, ℕ}
 use native.Mathlib.Omega.{arith}
 use lib.Dec.{eqb}
 use lib.ListN.{length}
-use borrow.Author.Tests.{eq-eqb}
 use Rattle.model.specs.Basics.Cases.{cases, true-or-false}
 use Rattle.model.specs.Request.Words.{requestWords}
-use Rattle.model.specs.Text.Broken.{Begins, FirstBad, Sort, ValueOf, Whole, end, extra, here, keyOf, later, numbered, onward, referring, sorts}
+use Rattle.model.specs.Text.Broken.{Begins, FirstBad, Sort, ValueOf, Whole, end, extra, here, keyOf, later, numbered, onward}
+use Rattle.model.specs.Text.Broken.{referring, sorts}
 use Rattle.model.specs.Text.CallLaws.{whole-end}
 use Rattle.model.specs.Text.Given.{Gives}
 use Rattle.model.specs.Text.GivenLaws.{fit-small, small-fit}
 use Rattle.model.specs.Text.LineLaws.{Form, line-back, line-there, numbers}
 use Rattle.model.specs.Text.Lines.{line, readLine}
 use Rattle.model.specs.Text.Numbers.{Read, bad, got}
-use Rattle.model.specs.Text.Reading.{Reads, answerIn, lineIn, notRead, readAnswer, readNumber, wordsAfter, wordsIn}
+use Rattle.model.specs.Text.Reading.{Reads, answerIn, lineIn, readAnswer, readNumber, wordsAfter, wordsIn}
 use Rattle.model.specs.Text.ReferenceLaws.{references}
-use Rattle.model.specs.Text.Wording.{Lines, Wording, aKey, atEnd, bKey, badLine, cKey, lines, opKey, orLine, readSeven, readText, ref2Key, refKey}
-use Rattle.model.specs.Text.Wording.{sixteen, userKey}
-use Rattle.model.specs.Text.Writing.{wrongSize}
+use Rattle.model.specs.Text.Unfinished.{lineTotal}
+use Rattle.model.specs.Text.Wording.{Lines, Wording, aKey, atEnd, bKey, badLine, cKey, lines, opKey, orLine, readSeven, readText}
+use Rattle.model.specs.Text.Wording.{ref2Key, refKey, sixteen, userKey}
+use borrow.Author.Tests.{eq-eqb}
+use Rattle.model.specs.Request.Refusals as refusal
 
 -- ---- one line
 
@@ -110,16 +112,16 @@ first-some extra = omega arith
 
 -- ---- reading
 
--- what a whole text's reading says of the bytes s, which are to be lines of the sorts ks behind j good ones
+-- what a whole text's reading says of the bytes s, which are to be lines of the sorts ks after j good ones
 abbrev Tells : List Sort → ℕ → List ℕ → Lines → Type 0
 Tells ks j s (lines m []) = Whole ks s
 Tells ks j s (lines m (b ∷ x)) = ⊥
 Tells ks j s (badLine k) = (n : ℕ) × (k ≡ j + n) × FirstBad ks s n
 
-tells-behind : (k : Sort) (ks : List Sort) (j : ℕ) (s x : List ℕ) (l : Lines) → Begins k s x → Tells ks (suc j) x l → Tells (k ∷ ks) j s l
-tells-behind k ks j s x (lines m []) b t = onward b t
-tells-behind k ks j s x (lines m (c ∷ y)) b t = t
-tells-behind k ks j s x (badLine i) b t = (suc (t .0), omega (arith, t .1), later b (t .2))
+tells-after : (k : Sort) (ks : List Sort) (j : ℕ) (s x : List ℕ) (l : Lines) → Begins k s x → Tells ks (suc j) x l → Tells (k ∷ ks) j s l
+tells-after k ks j s x (lines m []) b t = onward b t
+tells-after k ks j s x (lines m (c ∷ y)) b t = t
+tells-after k ks j s x (badLine i) b t = (suc (t .0), omega (arith, t .1), later b (t .2))
 
 tells-line : (k : Sort) (ks : List Sort) (j : ℕ) {A : Type 0} (F : Form A) → Sorted k F → (s : List ℕ) (f : A → List ℕ → Lines)
     → ((a : A) (x : List ℕ) → Tells ks (suc j) x (atEnd (f a x)))
@@ -127,10 +129,10 @@ tells-line : (k : Sort) (ks : List Sort) (j : ℕ) {A : Type 0} (F : Form A) →
 tells-line k ks j {A} F o s f t = go (readLine (keyOf k) (F .read) s) refl
   where
     go : (r : Read A) → readLine (keyOf k) (F .read) s ≡ r → Tells (k ∷ ks) j s (atEnd (orLine (suc j) r f))
-    go (got a x) e = tells-behind k ks j s x (atEnd (f a x)) (got-begins k F o s a x e) (t a x)
+    go (got a x) e = tells-after k ks j s x (atEnd (f a x)) (got-begins k F o s a x e) (t a x)
     go bad e = (1, omega arith, here (bad-begins k F o s e))
 
-tells-end : (m : Wording) (s : List ℕ) → Tells [] 7 s (atEnd (lines m s))
+tells-end : (m : Wording) (s : List ℕ) → Tells [] lineTotal s (atEnd (lines m s))
 tells-end m [] = end
 tells-end m (b ∷ s) = (1, refl, extra)
 
@@ -185,19 +187,19 @@ whole-gives {s} x =
 -- ---- the reader
 
 -- Rule 11.4: with 18 the reader's number is the first line that is bad or missing, and the room is as it was;
-pub reads-broken : {s v u : List ℕ} {n : ℕ} → Reads s v notRead n u → FirstBad sorts s n × (u ≡ v)
+pub reads-broken : {s v u : List ℕ} {n : ℕ} → Reads s v refusal.notARequest n u → FirstBad sorts s n × (u ≡ v)
 unfolding readAnswer readNumber wordsAfter
 reads-broken {s} {v} {u} {n} x =
     cases (true-or-false (eqb (length v) requestWords))
     (λ h. go (readText s) refl (rw h at (x .answer)) (rw h at (x .number)) (rw h at (x .words)))
-    (λ h. let z : notRead ≡ wrongSize = rw h at (x .answer) in absurd (omega arith))
+    (λ h. let z : refusal.notARequest ≡ refusal.badLength = rw h at (x .answer) in absurd (omega arith))
   where
-    go : (r : Lines) → readText s ≡ r → notRead ≡ answerIn r → n ≡ lineIn r → u ≡ wordsIn r v → FirstBad sorts s n × (u ≡ v)
+    go : (r : Lines) → readText s ≡ r → refusal.notARequest ≡ answerIn r → n ≡ lineIn r → u ≡ wordsIn r v → FirstBad sorts s n × (u ≡ v)
     go (lines m y) e a b c = absurd (omega arith)
     go (badLine k) e a b c = (subst (FirstBad sorts s) (sym b) (broken-first s k e), c)
 
 -- and wherever a line is bad or missing, a reader with room for sixteen words answers so.
-pub broken-reads : {s v u : List ℕ} {a n k : ℕ} → FirstBad sorts s k → length v ≡ requestWords → Reads s v a n u → (a ≡ notRead) × (n ≡ k) × (u ≡ v)
+pub broken-reads : {s v u : List ℕ} {a n k : ℕ} → FirstBad sorts s k → length v ≡ requestWords → Reads s v a n u → (a ≡ refusal.notARequest) × (n ≡ k) × (u ≡ v)
 unfolding readAnswer readNumber wordsAfter
 broken-reads {s} {v} {u} {a} {n} {k} f h x =
     let e : readText s ≡ badLine k = first-broken s k f in (

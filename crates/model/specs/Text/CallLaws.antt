@@ -7,26 +7,26 @@ use native.Mathlib.Omega.{arith}
 use lib.Dec.{eqb, leb}
 use lib.ListN.{drop, length, take}
 use lib.Seq.{take-at}
-use borrow.Author.Tests.{eq-eqb, eqb-true, le-leb, leb-true, lt-leb}
 use Rattle.model.specs.Basics.Cases.{cases, true-or-false}
 use Rattle.model.specs.Request.Words.{requestOf, requestWords}
 use Rattle.model.specs.Text.Given.{Gives, Small}
 use Rattle.model.specs.Text.GivenLaws.{gives-hasText, gives-length, gives-own, gives-text}
 use Rattle.model.specs.Text.Reading.{Reads, answerIn, readAnswer, readNumber, wordsAfter}
 use Rattle.model.specs.Text.Wording.{Lines, Wording, atEnd, badLine, lines, readSeven, readText, sixteen}
-use Rattle.model.specs.Text.Writing.{Writes, bytesAfter, hasText, textOfWords, withoutText, writeAnswer, writeNumber, wrongSize}
+use Rattle.model.specs.Text.Writing.{Writes, bytesAfter, hasText, textOfWords, writeAnswer, writeNumber}
+use borrow.Author.Tests.{eq-eqb, eqb-true, le-leb, leb-true, lt-leb}
 use Rattle.model.specs.Request.Refusals as refusal
 
 -- ---- the writer
 
 -- Sixteen words without a text are refused with 5,
-pub write-without : (w : List ℕ) (n : ℕ) → length w ≡ requestWords → hasText (requestOf w) ≡ false → writeAnswer w n ≡ withoutText
+pub write-without : (w : List ℕ) (n : ℕ) → length w ≡ requestWords → hasText (requestOf w) ≡ false → writeAnswer w n ≡ refusal.badRequest
 unfolding writeAnswer
 write-without w n h t = rw (eq-eqb (length w) requestWords h, t)
 
 -- and those with one are written where it has room, are refused with 17 where it has not, and count its bytes either way.
 module _ (w : List ℕ) (h : length w ≡ requestWords) (t : hasText (requestOf w) ≡ true) where
-  pub write-fits : (n : ℕ) → length (textOfWords w) ≤ n → writeAnswer w n ≡ 0
+  pub write-fits : (n : ℕ) → length (textOfWords w) ≤ n → writeAnswer w n ≡ refusal.accepted
   unfolding writeAnswer
   write-fits n l = rw (eq-eqb (length w) requestWords h, t, le-leb (length (textOfWords w)) n l)
 
@@ -51,9 +51,9 @@ write-done w n e =
     (λ a. cases (true-or-false (hasText (requestOf w)))
     (λ b. cases (true-or-false (leb (length (textOfWords w)) n))
     (λ c. record { sixteen = eqb-true (length w) requestWords a; text = b; room = leb-true (length (textOfWords w)) n c })
-    (λ c. let z : 0 ≡ refusal.tooShort = rw (a, b, c) at e in absurd (omega arith)))
-    (λ b. let z : 0 ≡ withoutText = rw (a, b) at e in absurd (omega arith)))
-    (λ a. let z : 0 ≡ wrongSize = rw a at e in absurd (omega arith))
+    (λ c. let z : refusal.accepted ≡ refusal.tooShort = rw (a, b, c) at e in absurd (omega arith)))
+    (λ b. let z : refusal.accepted ≡ refusal.badRequest = rw (a, b) at e in absurd (omega arith)))
+    (λ a. let z : refusal.accepted ≡ refusal.badLength = rw a at e in absurd (omega arith))
 
 -- Words that a text gives are written as that text,
 pub gives-writes : {s w room r : List ℕ} {a k : ℕ} → Gives s w → Writes w room a k r → length s ≤ length room
@@ -80,7 +80,7 @@ gives-short {s} {w} {room} {r} {a} {k} g x l =
     )
 
 -- What was written, as many bytes as the number says, is a text that gives the words.
-pub writes-gives : {w room r : List ℕ} {k : ℕ} → Small w → Writes w room 0 k r → Gives (take k r) w
+pub writes-gives : {w room r : List ℕ} {k : ℕ} → Small w → Writes w room refusal.accepted k r → Gives (take k r) w
 writes-gives {w} {room} {r} {k} s x =
     let d : Put w (length room) = write-done w (length room) (x .answer) in
     let n : length (textOfWords w) ≡ k = sym (x .number ∙ write-counts w (d .sixteen) (d .text)) in
@@ -101,7 +101,7 @@ whole-end s m x e = go (readSeven s) e
 
 -- A text that is read is answered with 0, with the number 0 and with its words.
 module _ (s v : List ℕ) (h : length v ≡ requestWords) (m : Wording) (e : readText s ≡ lines m []) where
-  pub read-zero : readAnswer s v ≡ 0
+  pub read-zero : readAnswer s v ≡ refusal.accepted
   unfolding readAnswer
   read-zero = rw (eq-eqb (length v) requestWords h, e)
 
@@ -124,14 +124,14 @@ unfolding readAnswer
 read-done s v e =
     cases (true-or-false (eqb (length v) requestWords))
     (λ a. go (eqb-true (length v) requestWords a) (readText s) refl (rw a at e))
-    (λ a. let z : 0 ≡ wrongSize = rw a at e in absurd (omega arith))
+    (λ a. let z : refusal.accepted ≡ refusal.badLength = rw a at e in absurd (omega arith))
   where
     go : length v ≡ requestWords → (r : Lines) → readText s ≡ r → 0 ≡ answerIn r → WasRead s v
     go h (lines m x) f g = record { sixteen = h; wording = m; read = f ∙ ap (lines m) (whole-end s m x f) }
     go h (badLine k) f g = absurd (omega arith)
 
 -- The words that were read are those that the text gives,
-pub reads-gives : {s v w : List ℕ} {n : ℕ} → Reads s v 0 n w → Gives s w
+pub reads-gives : {s v w : List ℕ} {n : ℕ} → Reads s v refusal.accepted n w → Gives s w
 reads-gives {s} {v} x =
     let d : WasRead s v = read-done s v (x .answer) in
     record { wording = d .wording; read = d .read; words = sym (x .words ∙ read-words s v (d .sixteen) (d .wording) (d .read)) }

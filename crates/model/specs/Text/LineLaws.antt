@@ -5,11 +5,11 @@ use Prim.Native.Nat.{_+_, _≤_, ℕ}
 use native.Mathlib.Omega.{arith}
 use lib.Dec.{eqb}
 use lib.ListN.{length, length-append}
-use borrow.Author.Tests.{eq-eqb, eqb-true}
 use Rattle.model.specs.Basics.Cases.{cases, true-or-false}
 use Rattle.model.specs.Text.Lines.{behind, line, lineEnd, next, readLine}
 use Rattle.model.specs.Text.NumberLaws.{Back, number-back, number-there}
 use Rattle.model.specs.Text.Numbers.{Read, bad, digits, got, most, number}
+use borrow.Author.Tests.{eq-eqb, eqb-true}
 
 -- a value of a line and its two directions, in front of the LF
 pub record Form (A : Type 0) : Type 1 where
@@ -79,7 +79,7 @@ pub length-line : (key v : List ℕ) → length (line key v) ≡ length key + (l
 unfolding line
 length-line key v = rw (length-append key (v ++ (lineEnd ∷ [])), length-append v (lineEnd ∷ []))
 
--- a key, what stands behind it, and LF are a line
+-- a key, what stands after it, and LF are a line
 pub is-line : (key v : List ℕ) → (key ++ v) ++ (lineEnd ∷ []) ≡ line key v
 unfolding line
 is-line key v = append-assoc key v (lineEnd ∷ [])

@@ -18,7 +18,7 @@ abbrev pub next : {A B : Type 0} → Read A → (A → List ℕ → Read B) → 
 next (got a s) f = f a s
 next bad f = bad
 
--- the bytes behind a key
+-- the bytes after a key
 abbrev pub behind : List ℕ → List ℕ → Read (Unit {0})
 behind [] s = got tt s
 behind (k ∷ ks) [] = bad

@@ -1,4 +1,4 @@
--- Reading a request looks no further than it must: bytes behind a request do not change what is read, a request that is read takes bytes away, and a
+-- Reading a request looks no further than it must: bytes after a request do not change what is read, a request that is read takes bytes away, and a
 -- bad line is one of the seven.
 use mathlib.Core.Bool.{Bool, _&&_, false, true}
 use mathlib.Core.List.{List, [], _++_, _∷_, append-assoc}
@@ -8,7 +8,6 @@ use Prim.Native.Nat.{_+_, _<_, _≤_, ℕ}
 use native.Mathlib.Omega.{arith}
 use lib.Dec.{eqb, ltb}
 use lib.ListN.{length, length-append}
-use borrow.Author.Tests.{ltb-false, ne-eqb}
 use Rattle.model.specs.Basics.Cases.{cases}
 use Rattle.model.specs.Basics.Choice.{pick}
 use Rattle.model.specs.Text.Lines.{lineEnd, readLine}
@@ -20,6 +19,7 @@ use Rattle.model.specs.Text.WeightLaws.{extended, seven-near, weight}
 use Rattle.model.specs.Text.Wording.{Lines, Wording, aKey, bKey, badLine, cKey, lines, opKey, orLine, readSeven, ref2Key, refKey}
 use Rattle.model.specs.Text.Wording.{textOf, userKey}
 use Rattle.model.specs.Text.WordingLaws.{Written, text-back, text-some, text-there}
+use borrow.Author.Tests.{ltb-false, ne-eqb}
 
 -- a request that was read is read in front of any further bytes, too
 pub read-longer : (s : List ℕ) (m : Wording) (x : List ℕ) → readSeven s ≡ lines m x → (y : List ℕ) → readSeven (s ++ y) ≡ lines m (x ++ y)
@@ -31,14 +31,14 @@ read-longer s m x e y =
 pub read-shorter : (s : List ℕ) (m : Wording) (x : List ℕ) → readSeven s ≡ lines m x → length x < length s
 read-shorter s m x e = rw (text-back s m x e .1, length-append (textOf m) x) (omega (arith, text-some m))
 
--- a bad line is the one at hand, or one behind it
+-- a bad line is the one at hand, or one after it
 orLine-bad : {A C : Type 0} (k : ℕ) (r : Read A) (f : A → List ℕ → Lines) (j : ℕ) → orLine k r f ≡ badLine j → (k ≡ j → C)
     → ((a : A) (x : List ℕ) → f a x ≡ badLine j → C) → C
 orLine-bad k (got a x) f j e g h = h a x e
 orLine-bad k bad f j e g h = g cc
 
 -- Rule 11.4: a bad line is one of the lines 1 to 7.
-pub read-bad : (s : List ℕ) (j : ℕ) → readSeven s ≡ badLine j → (1 ≤ j) × (j ≤ 7)
+pub read-bad : (s : List ℕ) (j : ℕ) → readSeven s ≡ badLine j → (1 ≤ j) × (j ≤ lineTotal)
 unfolding readSeven
 read-bad s j e =
     orLine-bad 1 (readLine userKey number s) _ j e (λ q. (omega arith, omega arith)) λ user s₁ e₁.

@@ -5,7 +5,7 @@ use Prim.Native.Nat.{_%_, _*_, _+_, _-_, _/_, suc, zero, ℕ}
 use lib.Dec.{eqb, leb, ltb}
 use Rattle.model.specs.Basics.Choice.{pick}
 
--- What reading the front of some bytes gives: a value and the bytes behind it, or that there is none.
+-- What reading the front of some bytes gives: a value and the bytes after it, or that there is none.
 pub data Read (A : Type 0) : Type 0 where
   got : A → List ℕ → Read A
   bad : Read A
@@ -14,9 +14,16 @@ pub data Read (A : Type 0) : Type 0 where
 abbrev pub most : ℕ
 most = 4294967295
 
--- as many digits as it has
+-- how many digits it has, and what the numbers of so many digits stay below
 abbrev pub digitCount : ℕ
 digitCount = 10
+
+abbrev pub digitsEnd : ℕ
+digitsEnd = 10000000000
+
+-- Rule 11.2: numbers are decimal.
+abbrev pub base : ℕ
+base = 10
 
 -- the bytes of the digits 0 and 9
 abbrev pub zeroByte : ℕ
@@ -31,7 +38,7 @@ isDigit b = pick (ltb b zeroByte) false (leb b nineByte)
 -- the digits of n, at most k of them, in front of what follows
 abbrev pub spell : ℕ → ℕ → List ℕ → List ℕ
 spell zero n rest = rest
-spell (suc k) n rest = pick (ltb n 10) ((zeroByte + n) ∷ rest) (spell k (n / 10) ((zeroByte + n % 10) ∷ rest))
+spell (suc k) n rest = pick (ltb n base) ((zeroByte + n) ∷ rest) (spell k (n / base) ((zeroByte + n % base) ∷ rest))
 
 -- Rule 11.2: the digits of a number that has at most ten, as bytes.
 unfoldable pub digits : ℕ → List ℕ
@@ -42,11 +49,11 @@ abbrev pub more : ℕ → List ℕ → Read ℕ
 more v [] = got v []
 more v (b ∷ bs) =
     pick (isDigit b)
-    (pick (leb (v * 10 + (b - zeroByte)) most) (more (v * 10 + (b - zeroByte)) bs) bad)
+    (pick (leb (v * base + (b - zeroByte)) most) (more (v * base + (b - zeroByte)) bs) bad)
     (got v (b ∷ bs))
 
 -- Rule 11.2: a number at the front of some bytes: 0 alone, or digits of which the first is not 0. It is read as far as its digits go, and
--- so a digit behind a leading 0 is left over.
+-- so a digit after a leading 0 is left over.
 abbrev pub number : List ℕ → Read ℕ
 number [] = bad
 number (b ∷ bs) = pick (isDigit b) (pick (eqb b zeroByte) (got 0 bs) (more (b - zeroByte) bs)) bad

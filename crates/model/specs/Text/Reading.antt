@@ -7,16 +7,16 @@ use lib.ListN.{length}
 use Rattle.model.specs.Basics.Choice.{pick}
 use Rattle.model.specs.Request.Words.{requestWords}
 use Rattle.model.specs.Text.Wording.{Lines, badLine, lines, readText, sixteen}
-use Rattle.model.specs.Text.Writing.{wrongSize}
+use Rattle.model.specs.Request.Refusals as refusal
 
--- The reader's own refusal (rule 7.18).
+-- Rule 7.18: the reader's own refusal under the name by which other crates cite it.
 abbrev pub notRead : ℕ
-notRead = 18
+notRead = refusal.notARequest
 
 -- What reading a whole text gives, as an answer, as a number and as words in the room w.
 abbrev pub answerIn : Lines → ℕ
-answerIn (lines m x) = 0
-answerIn (badLine k) = notRead
+answerIn (lines m x) = refusal.accepted
+answerIn (badLine k) = refusal.notARequest
 
 abbrev pub lineIn : Lines → ℕ
 lineIn (lines m x) = 0
@@ -28,7 +28,7 @@ wordsIn (badLine k) w = w
 
 -- Rule 11.4: 1, then 18, and else 0; its number: the line with 18; the words: those of the text with 0, and else as they were.
 unfoldable pub readAnswer : List ℕ → List ℕ → ℕ
-readAnswer s w = pick (eqb (length w) requestWords) (answerIn (readText s)) wrongSize
+readAnswer s w = pick (eqb (length w) requestWords) (answerIn (readText s)) refusal.badLength
 
 unfoldable pub readNumber : List ℕ → List ℕ → ℕ
 readNumber s w = pick (eqb (length w) requestWords) (lineIn (readText s)) 0

@@ -2,11 +2,10 @@
 use mathlib.Core.Bool.{true}
 use mathlib.Core.List.{List, [], _++_, _∷_, append-assoc}
 use mathlib.Core.Path.{_∙_, _≡_, ap, refl, sym}
-use Prim.Native.Nat.{_≤_, suc, zero, ℕ}
+use Prim.Native.Nat.{_≤_, pred, suc, zero, ℕ}
 use native.Mathlib.Omega.{arith}
 use lib.Dec.{eqb}
 use lib.ListN.{length}
-use borrow.Author.Tests.{eqb-true}
 use Rattle.model.specs.Basics.Cases.{cases, true-or-false}
 use Rattle.model.specs.Request.Words.{nameCount}
 use Rattle.model.specs.Text.LineLaws.{Form, next-back}
@@ -14,6 +13,7 @@ use Rattle.model.specs.Text.Lines.{lineEnd}
 use Rattle.model.specs.Text.NumberLaws.{Back, Stops, digits-first, number-back, number-there}
 use Rattle.model.specs.Text.Numbers.{digits, got, isDigit, most, number}
 use Rattle.model.specs.Text.References.{dotByte, dotted, further, joined, nameAnd, reference}
+use borrow.Author.Tests.{eqb-true}
 
 -- every number of a list is one of 32 bits
 abbrev pub AllFit : List ℕ → Type 0
@@ -74,7 +74,7 @@ further-back (suc k) (b ∷ s) ns x e =
     let p : [] ≡ ns = cc in let q : b ∷ s ≡ x = cc in rw (← p) (omega arith, (tt, q)))
 
 -- where a digit stands first there is a name
-pub reference-digit : (s : List ℕ) (b : ℕ) (t : List ℕ) → s ≡ b ∷ t → isDigit b ≡ true → reference s ≡ nameAnd 3 s
+pub reference-digit : (s : List ℕ) (b : ℕ) (t : List ℕ) → s ≡ b ∷ t → isDigit b ≡ true → reference s ≡ nameAnd (pred nameCount) s
 reference-digit s b t e d = rw (e, d)
 
 -- the names of a reference that is written are read again, in front of a line's end
@@ -88,7 +88,7 @@ reference-there (n ∷ ns) x ok =
       append-assoc (digits n) (dotted ns) (lineEnd ∷ x),
       reference-digit (digits n ++ y) (f .0) (f .1 ++ y) e (f .3),
       number-there n y (ok .1 .0) (stops-dotted ns x),
-      further-there 3 ns x (omega arith) (ok .1 .1),
+      further-there (pred nameCount) ns x (omega arith) (ok .1 .1),
     )
 
 -- and what is read as a reference is what is written of its names
@@ -96,7 +96,8 @@ pub reference-back : (s ns x : List ℕ) → reference s ≡ got ns x → ((leng
 reference-back [] ns x e = let p : [] ≡ ns = cc in let q : [] ≡ x = cc in rw (← p) ((omega arith, tt), q)
 reference-back (b ∷ s) ns x e =
     cases (true-or-false (isDigit b))
-    (λ h. first-joined 3 (b ∷ s) ns x (first-back 3 (b ∷ s) ns x (further-back 3) (sym (reference-digit (b ∷ s) b s refl h) ∙ e)))
+    (λ h. first-joined (pred nameCount) (b ∷ s) ns x (first-back (pred nameCount) (b ∷ s) ns x (further-back (pred nameCount))
+    (sym (reference-digit (b ∷ s) b s refl h) ∙ e)))
     (λ h. let z : got [] (b ∷ s) ≡ got ns x = rw h at e in
     let p : [] ≡ ns = cc in let q : b ∷ s ≡ x = cc in rw (← p) ((omega arith, tt), q))
 

@@ -1,8 +1,9 @@
 -- Rule 11.2: a reference as text, none to four names with a dot between two.
 use mathlib.Core.List.{List, [], _++_, _∷_}
-use Prim.Native.Nat.{suc, zero, ℕ}
+use Prim.Native.Nat.{pred, suc, zero, ℕ}
 use lib.Dec.{eqb}
 use Rattle.model.specs.Basics.Choice.{pick}
+use Rattle.model.specs.Request.Words.{nameCount}
 use Rattle.model.specs.Text.Lines.{next}
 use Rattle.model.specs.Text.Numbers.{Read, digits, got, isDigit, number}
 
@@ -20,7 +21,7 @@ abbrev pub joined : List ℕ → List ℕ
 joined [] = []
 joined (n ∷ ns) = digits n ++ dotted ns
 
--- at most k further names, each behind a dot
+-- at most k further names, each after a dot
 abbrev pub further : ℕ → List ℕ → Read (List ℕ)
 further zero s = got [] s
 further (suc k) [] = got [] []
@@ -36,4 +37,4 @@ nameAnd k s = next (number s) (λ n t. next (further k t) (λ ns u. got (n ∷ n
 -- Rule 11.2: a reference at the front of some bytes: no name where the first byte is no digit, and else one to four.
 abbrev pub reference : List ℕ → Read (List ℕ)
 reference [] = got [] []
-reference (b ∷ s) = pick (isDigit b) (nameAnd 3 (b ∷ s)) (got [] (b ∷ s))
+reference (b ∷ s) = pick (isDigit b) (nameAnd (pred nameCount) (b ∷ s)) (got [] (b ∷ s))

@@ -4,20 +4,21 @@ use mathlib.Core.Bool.{true}
 use mathlib.Core.List.{List, [], _++_, _∷_}
 use mathlib.Core.Logic.{_⊎_, inl, inr}
 use mathlib.Core.Path.{_∙_, _≡_, ap, refl, sym}
-use Prim.Native.Nat.{_*_, _+_, _-_, _/_, _<_, _≤_, suc, zero, ℕ}
+use Prim.Native.Nat.{_*_, _+_, _-_, _/_, _<_, _≤_, pred, suc, zero, ℕ}
 use native.Mathlib.Omega.{arith}
 use lib.Dec.{eqb, leb}
-use borrow.Author.Tests.{eqb-false, eqb-true, leb-true}
 use Rattle.model.specs.Basics.Cases.{cases, true-or-false}
+use Rattle.model.specs.Request.Words.{nameCount}
 use Rattle.model.specs.Text.LineLaws.{next-back}
 use Rattle.model.specs.Text.Lines.{behind, lineEnd, next, readLine}
 use Rattle.model.specs.Text.NumberLaws.{digit-of}
-use Rattle.model.specs.Text.Numbers.{Read, bad, digitCount, got, isDigit, more, most, number, zeroByte}
+use Rattle.model.specs.Text.Numbers.{Read, bad, base, digitCount, got, isDigit, more, most, number, zeroByte}
 use Rattle.model.specs.Text.ReferenceLaws.{reference-digit}
 use Rattle.model.specs.Text.References.{dotByte, further, nameAnd, reference}
 use Rattle.model.specs.Text.Wording.{Lines, aKey, bKey, badLine, cKey, lines, opKey, orLine, readSeven, ref2Key, refKey, userKey}
+use borrow.Author.Tests.{eqb-false, eqb-true, leb-true}
 
--- what was read, with further bytes behind it
+-- what was read, with further bytes after it
 abbrev pub extended : Lines → List ℕ → Lines
 extended (lines m u) x = lines m (u ++ x)
 extended (badLine k) x = badLine k
@@ -32,7 +33,7 @@ abbrev pub times : ℕ → ℕ → ℕ
 times zero d = 0
 times (suc k) d = d + times k d
 
--- what was read, with further bytes behind it
+-- what was read, with further bytes after it
 abbrev longer : {A : Type 0} → Read A → List ℕ → Read A
 longer (got a u) x = got a (u ++ x)
 longer bad x = bad
@@ -42,7 +43,7 @@ record Takes {A : Type 0} (f : ℕ → ℕ) (r : List ℕ → Read A) (n m : ℕ
   near : (w x : List ℕ) → (r (w ++ x) ≡ longer (r w) x) ⊎ (weight f w < n)
   uses : (w : List ℕ) (a : A) (u : List ℕ) → r w ≡ got a u → weight f w ≤ m + weight f u
 
--- ---- one reading behind another
+-- ---- one reading after another
 
 takes-got : {A : Type 0} (f : ℕ → ℕ) (a : A) → Takes f (λ w. got a w) 0 0
 takes-got f a = record { near = λ w x. inl refl; uses = λ w b u e. let q : w ≡ u = cc in rw q (omega arith) }
@@ -108,22 +109,22 @@ takes-line f h key value v t = takes-next (takes-key f key) (λ _. tail) (omega 
 
 -- a number larger than this has room for k digits more at most
 abbrev limit : ℕ → ℕ
-limit zero = most / 10
-limit (suc k) = limit k / 10
+limit zero = most / base
+limit (suc k) = limit k / base
 
 module _ (f : ℕ → ℕ) (d : ℕ) (digit : (b : ℕ) → isDigit b ≡ true → f b ≤ d) where
   more-near : (k v : ℕ) (s x : List ℕ) → limit k < v → (more v (s ++ x) ≡ longer (more v s) x) ⊎ (weight f s < suc (times k d))
   more-near k v [] x h = inr (omega arith)
   more-near zero v (b ∷ s) x h =
       cases (true-or-false (isDigit b))
-      (λ g. cases (true-or-false (leb (v * 10 + (b - zeroByte)) most))
-      (λ l. absurd (omega (arith, leb-true (v * 10 + (b - zeroByte)) most l)))
+      (λ g. cases (true-or-false (leb (v * base + (b - zeroByte)) most))
+      (λ l. absurd (omega (arith, leb-true (v * base + (b - zeroByte)) most l)))
       (λ l. inl (rw (g, l))))
       (λ g. inl (rw g))
   more-near (suc k) v (b ∷ s) x h =
       cases (true-or-false (isDigit b))
-      (λ g. cases (true-or-false (leb (v * 10 + (b - zeroByte)) most))
-      (λ l. cases (more-near k (v * 10 + (b - zeroByte)) s x (omega arith)) (λ c. inl (rw (g, l) c)) (λ c. inr (omega (arith, digit b g))))
+      (λ g. cases (true-or-false (leb (v * base + (b - zeroByte)) most))
+      (λ l. cases (more-near k (v * base + (b - zeroByte)) s x (omega arith)) (λ c. inl (rw (g, l) c)) (λ c. inr (omega (arith, digit b g))))
       (λ l. inl (rw (g, l))))
       (λ g. inl (rw g))
 
@@ -131,19 +132,19 @@ module _ (f : ℕ → ℕ) (d : ℕ) (digit : (b : ℕ) → isDigit b ≡ true �
   more-uses k v [] n u h e = omega arith
   more-uses zero v (b ∷ s) n u h e =
       cases (true-or-false (isDigit b))
-      (λ g. cases (true-or-false (leb (v * 10 + (b - zeroByte)) most))
-      (λ l. absurd (omega (arith, leb-true (v * 10 + (b - zeroByte)) most l)))
+      (λ g. cases (true-or-false (leb (v * base + (b - zeroByte)) most))
+      (λ l. absurd (omega (arith, leb-true (v * base + (b - zeroByte)) most l)))
       (λ l. let y : bad ≡ got n u = rw (g, l) at e in let z : _≡_ {A = ℕ} 0 1 = cc in absurd (omega arith)))
       (λ g. let y : got v (b ∷ s) ≡ got n u = rw g at e in let q : b ∷ s ≡ u = cc in rw (← q) (omega arith))
   more-uses (suc k) v (b ∷ s) n u h e =
       cases (true-or-false (isDigit b))
-      (λ g. cases (true-or-false (leb (v * 10 + (b - zeroByte)) most))
-      (λ l. omega (arith, digit b g, more-uses k (v * 10 + (b - zeroByte)) s n u (omega arith) (rw (g, l) at e)))
+      (λ g. cases (true-or-false (leb (v * base + (b - zeroByte)) most))
+      (λ l. omega (arith, digit b g, more-uses k (v * base + (b - zeroByte)) s n u (omega arith) (rw (g, l) at e)))
       (λ l. let y : bad ≡ got n u = rw (g, l) at e in let z : _≡_ {A = ℕ} 0 1 = cc in absurd (omega arith)))
       (λ g. let y : got v (b ∷ s) ≡ got n u = rw g at e in let q : b ∷ s ≡ u = cc in rw (← q) (omega arith))
 
   -- a first digit other than 0 has room for nine more
-  first-digit : (b : ℕ) → isDigit b ≡ true → (b ≡ zeroByte → ⊥) → limit 9 < b - zeroByte
+  first-digit : (b : ℕ) → isDigit b ≡ true → (b ≡ zeroByte → ⊥) → limit (pred digitCount) < b - zeroByte
   first-digit b g n = let h = digit-of b g in omega arith
 
   number-near : (s x : List ℕ) → (number (s ++ x) ≡ longer (number s) x) ⊎ (weight f s < suc (times digitCount d))
@@ -152,7 +153,7 @@ module _ (f : ℕ → ℕ) (d : ℕ) (digit : (b : ℕ) → isDigit b ≡ true �
       cases (true-or-false (isDigit b))
       (λ g. cases (true-or-false (eqb b zeroByte))
       (λ l. inl (rw (g, l)))
-      (λ l. cases (more-near 9 (b - zeroByte) s x (first-digit b g (eqb-false b zeroByte l)))
+      (λ l. cases (more-near (pred digitCount) (b - zeroByte) s x (first-digit b g (eqb-false b zeroByte l)))
       (λ c. inl (rw (g, l) c))
       (λ c. inr (omega (arith, digit b g)))))
       (λ g. inl (rw g))
@@ -163,7 +164,7 @@ module _ (f : ℕ → ℕ) (d : ℕ) (digit : (b : ℕ) → isDigit b ≡ true �
       cases (true-or-false (isDigit b))
       (λ g. cases (true-or-false (eqb b zeroByte))
       (λ l. let y : got 0 s ≡ got n u = rw (g, l) at e in let q : s ≡ u = cc in rw (← q) (omega (arith, digit b g)))
-      (λ l. omega (arith, digit b g, more-uses 9 (b - zeroByte) s n u (first-digit b g (eqb-false b zeroByte l)) (rw (g, l) at e))))
+      (λ l. omega (arith, digit b g, more-uses (pred digitCount) (b - zeroByte) s n u (first-digit b g (eqb-false b zeroByte l)) (rw (g, l) at e))))
       (λ g. let y : bad ≡ got n u = rw g at e in let z : _≡_ {A = ℕ} 0 1 = cc in absurd (omega arith))
 
   takes-number : Takes f number (suc (times digitCount d)) (times digitCount d)
@@ -205,23 +206,24 @@ module _ (f : ℕ → ℕ) (d : ℕ) (digit : (b : ℕ) → isDigit b ≡ true �
 
     -- a reference of four names
     abbrev four : ℕ
-    four = times digitCount d + names 3
+    four = times digitCount d + names (pred nameCount)
 
     reference-near : (s x : List ℕ) → (reference (s ++ x) ≡ longer (reference s) x) ⊎ (weight f s < suc four)
     reference-near [] x = inr (omega arith)
     reference-near (b ∷ s) x =
         cases (true-or-false (isDigit b))
-        (λ h. cases (takes-nameAnd 3 (takes-further 3) .near (b ∷ s) x) (λ c. inl (on h c)) (λ c. inr c))
+        (λ h. cases (takes-nameAnd (pred nameCount) (takes-further (pred nameCount)) .near (b ∷ s) x) (λ c. inl (on h c)) (λ c. inr c))
         (λ h. inl (rw h))
       where
-        on : isDigit b ≡ true → nameAnd 3 (b ∷ (s ++ x)) ≡ longer (nameAnd 3 (b ∷ s)) x → reference (b ∷ (s ++ x)) ≡ longer (reference (b ∷ s)) x
+        on : isDigit b ≡ true → nameAnd (pred nameCount) (b ∷ (s ++ x)) ≡ longer (nameAnd (pred nameCount) (b ∷ s)) x
+            → reference (b ∷ (s ++ x)) ≡ longer (reference (b ∷ s)) x
         on h c = reference-digit (b ∷ (s ++ x)) b (s ++ x) refl h ∙ c ∙ ap (λ r. longer r x) (sym (reference-digit (b ∷ s) b s refl h))
 
     reference-uses : (s ns u : List ℕ) → reference s ≡ got ns u → weight f s ≤ four + weight f u
     reference-uses [] ns u e = omega arith
     reference-uses (b ∷ s) ns u e =
         cases (true-or-false (isDigit b))
-        (λ h. takes-nameAnd 3 (takes-further 3) .uses (b ∷ s) ns u (sym (reference-digit (b ∷ s) b s refl h) ∙ e))
+        (λ h. takes-nameAnd (pred nameCount) (takes-further (pred nameCount)) .uses (b ∷ s) ns u (sym (reference-digit (b ∷ s) b s refl h) ∙ e))
         (λ h. let y : got [] (b ∷ s) ≡ got ns u = rw h at e in let q : b ∷ s ≡ u = cc in rw (← q) (omega arith))
 
     takes-reference : Takes f reference (suc four) four

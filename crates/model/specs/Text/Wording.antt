@@ -1,11 +1,12 @@
 -- Rules 11.1 and 11.2: the text of a request, its seven lines.
 use mathlib.Core.List.{List, [], _++_, _∷_}
-use Prim.Native.Nat.{ℕ}
+use Prim.Native.Nat.{suc, ℕ}
 use Rattle.model.specs.List.Listing.{entry}
 use Rattle.model.specs.Request.Words.{Request, names}
 use Rattle.model.specs.Text.Lines.{line, readLine}
 use Rattle.model.specs.Text.Numbers.{Read, bad, digits, got, number}
 use Rattle.model.specs.Text.References.{joined, reference}
+use Rattle.model.specs.Text.Unfinished.{lineTotal}
 
 -- What a text says: the values of its lines.
 pub record Wording : Type 0 where
@@ -39,7 +40,7 @@ bKey = 98 ∷ 61 ∷ []
 abbrev pub cKey : List ℕ
 cKey = 99 ∷ 61 ∷ []
 
--- Rule 11.1: the seven lines, written one behind another.
+-- Rule 11.1: the seven lines, written one after another.
 unfoldable pub textOf : Wording → List ℕ
 textOf m =
     line userKey (digits (m .user)) ++
@@ -50,7 +51,7 @@ textOf m =
     (line bKey (digits (m .b)) ++
     line cKey (digits (m .c)))))))
 
--- What reading seven lines gives: their wording and the bytes behind them, or the first line that is bad or missing.
+-- What reading seven lines gives: their wording and the bytes after them, or the first line that is bad or missing.
 pub data Lines : Type 0 where
   lines : Wording → List ℕ → Lines
   badLine : ℕ → Lines
@@ -74,13 +75,13 @@ readSeven s =
 -- Rule 11.4: the seventh is the last, and whatever follows it counts as an eighth.
 abbrev pub atEnd : Lines → Lines
 atEnd (lines m []) = lines m []
-atEnd (lines m (b ∷ s)) = badLine 8
+atEnd (lines m (b ∷ s)) = badLine (suc lineTotal)
 atEnd (badLine k) = badLine k
 
 unfoldable pub readText : List ℕ → Lines
 readText s = atEnd (readSeven s)
 
--- The sixteen words of a wording (rule 5.1): a reference is its length and four name words, zero behind its names, as in the list's entries.
+-- The sixteen words of a wording (rule 5.1): a reference is its length and four name words, zero after its names, as in the list's entries.
 unfoldable pub sixteen : Wording → List ℕ
 sixteen m = m .user ∷ m .operation ∷ (entry (m .first) ++ (entry (m .second) ++ (m .a ∷ m .b ∷ m .c ∷ 0 ∷ [])))
 

@@ -62,22 +62,22 @@ hasText-says q h =
 pub says-hasText : (q : Request) → Textual q → hasText q ≡ true
 says-hasText q t = holds-true (hasText q) (hasText-all q .from (t .first-few, (t .second-few, (t .first-zeros, (t .second-zeros, t .last-zero)))))
 
--- name words that are those of a list of names are zero behind it
-zeros-behind : (r : List ℕ) (f : ℕ → ℕ) → f 0 ≡ getD r 0 0 → f 1 ≡ getD r 1 0 → f 2 ≡ getD r 2 0 → f 3 ≡ getD r 3 0
+-- name words that are those of a list of names are zero after it
+zeros-after : (r : List ℕ) (f : ℕ → ℕ) → f 0 ≡ getD r 0 0 → f 1 ≡ getD r 1 0 → f 2 ≡ getD r 2 0 → f 3 ≡ getD r 3 0
     → (i : ℕ) → i < nameCount → length r ≤ i → f i ≡ 0
-zeros-behind r f a b c d zero h l = a ∙ List·getD-eq-default r 0 l
-zeros-behind r f a b c d (suc zero) h l = b ∙ List·getD-eq-default r 0 l
-zeros-behind r f a b c d (suc (suc zero)) h l = c ∙ List·getD-eq-default r 0 l
-zeros-behind r f a b c d (suc (suc (suc zero))) h l = d ∙ List·getD-eq-default r 0 l
-zeros-behind r f a b c d (suc (suc (suc (suc i)))) h l = absurd (omega arith)
+zeros-after r f a b c d zero h l = a ∙ List·getD-eq-default r 0 l
+zeros-after r f a b c d (suc zero) h l = b ∙ List·getD-eq-default r 0 l
+zeros-after r f a b c d (suc (suc zero)) h l = c ∙ List·getD-eq-default r 0 l
+zeros-after r f a b c d (suc (suc (suc zero))) h l = d ∙ List·getD-eq-default r 0 l
+zeros-after r f a b c d (suc (suc (suc (suc i)))) h l = absurd (omega arith)
 
 sixteen-says : (m : Wording) → length (m .first) ≤ nameCount → length (m .second) ≤ nameCount → Textual (requestOf (sixteen m))
 unfolding sixteen requestOf referenceAt
 sixteen-says m h k = record {
   first-few = h;
   second-few = k;
-  first-zeros = zeros-behind (m .first) (requestOf (sixteen m) .first .name) refl refl refl refl;
-  second-zeros = zeros-behind (m .second) (requestOf (sixteen m) .second .name) refl refl refl refl;
+  first-zeros = zeros-after (m .first) (requestOf (sixteen m) .first .name) refl refl refl refl;
+  second-zeros = zeros-after (m .second) (requestOf (sixteen m) .second .name) refl refl refl refl;
   last-zero = refl;
 }
 
@@ -87,7 +87,7 @@ sixteen-hasText m h k = says-hasText (requestOf (sixteen m)) (sixteen-says m h k
 
 -- ---- words that have a text are those of their wording
 
--- four name words, zero behind the first n, and the names that they are
+-- four name words, zero after the first n, and the names that they are
 entry-four : (n a b c d : ℕ) → n ≤ nameCount → (n ≤ 0 → a ≡ 0) → (n ≤ 1 → b ≡ 0) → (n ≤ 2 → c ≡ 0) → (n ≤ 3 → d ≡ 0)
     → entry (take n (a ∷ b ∷ c ∷ d ∷ [])) ≡ n ∷ a ∷ b ∷ c ∷ d ∷ []
 entry-four zero a b c d h z₀ z₁ z₂ z₃ = rw (z₀ (omega arith), z₁ (omega arith), z₂ (omega arith), z₃ (omega arith))

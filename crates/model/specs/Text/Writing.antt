@@ -11,14 +11,14 @@ use Rattle.model.specs.Request.Words.{Request, nameCount, requestOf, req
 use Rattle.model.specs.Text.Wording.{textOf, wordingOf}
 use Rattle.model.specs.Request.Refusals as refusal
 
--- Rule 11.3: the refusals of the writer beside 17. Its 5 is no refusal of a step, and leaves no notice.
+-- Rule 11.3: two refusals of the writer under the names by which other crates cite them.
 abbrev pub wrongSize : ℕ
-wrongSize = 1
+wrongSize = refusal.badLength
 
 abbrev pub withoutText : ℕ
-withoutText = 5
+withoutText = refusal.badRequest
 
--- Rule 11.3: a request that a text has: no reference longer than four names, the words behind its names zero, and word 15 zero.
+-- Rule 11.3: a request that a text has: no reference longer than four names, the words after its names zero, and word 15 zero.
 unfoldable pub hasText : Request → Bool
 hasText q =
     leb (q .first .length) nameCount && (leb (q .second .length) nameCount
@@ -28,20 +28,20 @@ hasText q =
 abbrev pub textOfWords : List ℕ → List ℕ
 textOfWords w = textOf (wordingOf (requestOf w))
 
--- Rules 11.3 and 7.17: 1, then 5, then 17, and else 0;
+-- Rules 11.3 and 7.17: 1, then 5, then 17, and else 0. This 5 is no refusal of a step, and leaves no notice.
 unfoldable pub writeAnswer : List ℕ → ℕ → ℕ
 writeAnswer w n =
     pick (eqb (length w) requestWords)
-    (pick (hasText (requestOf w)) (pick (leb (length (textOfWords w)) n) 0 refusal.tooShort) withoutText)
-    wrongSize
+    (pick (hasText (requestOf w)) (pick (leb (length (textOfWords w)) n) refusal.accepted refusal.tooShort) refusal.badRequest)
+    refusal.badLength
 
--- its number: the bytes written or needed, and none with another refusal;
+-- Its number: the bytes written or needed, and none with another refusal.
 unfoldable pub writeNumber : List ℕ → ℕ
 writeNumber w = pick (eqb (length w) requestWords) (pick (hasText (requestOf w)) (length (textOfWords w)) 0) 0
 
--- with 0 the text stands at the front and the bytes behind it stay; with a refusal all stay.
+-- With 0 the text stands at the front and the bytes after it stay; with a refusal all stay.
 abbrev pub bytesAfter : ℕ → List ℕ → List ℕ → List ℕ
-bytesAfter a w room = pick (eqb a 0) (textOfWords w ++ drop (length (textOfWords w)) room) room
+bytesAfter a w room = pick (eqb a refusal.accepted) (textOfWords w ++ drop (length (textOfWords w)) room) room
 
 -- Rule 11.3: what the writer is, said of any answer a, any number n and any bytes r in the room afterwards.
 pub record Writes (w room : List ℕ) (a n : ℕ) (r : List ℕ) : Type 0 where

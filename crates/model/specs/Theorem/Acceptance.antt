@@ -20,37 +20,38 @@ use Rattle.model.specs.State.WellFormed.{WellFormed}
 use Rattle.model.specs.Tables.Layout.{Bounded}
 use Rattle.model.specs.Tables.Words.{Tables}
 use Rattle.model.specs.Theorem.NoRefusal.{NoRefusal, noRefusal-allowed}
+use Rattle.model.specs.Request.Refusals as refusal
 
 -- Rules 7.2 and 7.3: where rungs 2 and 3 do not apply the tables are well-formed and secure.
-pub judged : (d : Tables) (q : Request) → Bounded d → applies 2 d q ≡ false → applies 3 d q ≡ false → Good d
+pub judged : (d : Tables) (q : Request) → Bounded d → applies refusal.notWellFormed d q ≡ false → applies refusal.notSecure d q ≡ false → Good d
 unfolding applies rungAt ladder
 judged d q b e f =
     let w = notWellFormed-fails d q b .to (is-false (notWellFormed d q) e) in
     (w, notSecure-fails d q w .to (is-false (notSecure d q) f))
 
 -- Rule 7.4: where rung 4 does not apply the requester is known.
-pub requester-known : (d : Tables) (q : Request) → applies 4 d q ≡ false → Known d (q .user)
+pub requester-known : (d : Tables) (q : Request) → applies refusal.unknownRequester d q ≡ false → Known d (q .user)
 unfolding applies rungAt ladder
 requester-known d q e = unknownUser-fails d q .to (is-false (unknownUser d q) e)
 
-module _ (d : Tables) (q : Request) (e : answer d q ≡ 0) where
+module _ (d : Tables) (q : Request) (e : answer d q ≡ refusal.accepted) where
   no : (n : ℕ) → applies n d q ≡ false
   no = answer-is d q .accepted e
 
   -- Rules 7.2 and 7.3.
   pub accepted-good : Bounded d → Good d
-  accepted-good b = judged d q b (no 2) (no 3)
+  accepted-good b = judged d q b (no refusal.notWellFormed) (no refusal.notSecure)
 
   -- Rule 7.5.
   understood : (o : Op) × (opOf (q .operation) ≡ some o) × Fits o q
   unfolding applies rungAt ladder
-  understood = notUnderstood-fails d q .to (is-false (notUnderstood d q) (no 5))
+  understood = notUnderstood-fails d q .to (is-false (notUnderstood d q) (no refusal.badRequest))
 
   module _ (o : Op) (named : opOf (q .operation) ≡ some o) (f : Fits o q) where
     -- Rule 7.6.
     logged-on : On o d (q .user)
     unfolding applies rungAt ladder
-    logged-on = notLoggedOn-fails d q o named .to (is-false (notLoggedOn d q) (no 6))
+    logged-on = notLoggedOn-fails d q o named .to (is-false (notLoggedOn d q) (no refusal.notLoggedOn))
 
     -- Rules 7.11 to 7.16: the operation's own conditions.
     own-clear : (n : ℕ) → ownRung n d q ≡ false → T (not (refused n (rowOf o .conditions) d (asked d q)))
@@ -61,27 +62,27 @@ module _ (d : Tables) (q : Request) (e : answer d q ≡ 0) where
     no-refusal = record {
       arguments = f .arguments;
       on = logged-on;
-      kinds = wrongKind-fails d q o named .to (is-false (wrongKind d q) (no 10));
-      no11 = own-clear 11 (no 11);
-      no12 = own-clear 12 (no 12);
-      no13 = own-clear 13 (no 13);
-      no14 = own-clear 14 (no 14);
-      no15 = own-clear 15 (no 15);
-      no16 = own-clear 16 (no 16);
+      kinds = wrongKind-fails d q o named .to (is-false (wrongKind d q) (no refusal.wrongKind));
+      no11 = own-clear refusal.noSuchUser (no refusal.noSuchUser);
+      no12 = own-clear refusal.roleMissing (no refusal.roleMissing);
+      no13 = own-clear refusal.levelOrRoles (no refusal.levelOrRoles);
+      no14 = own-clear refusal.noRoom (no refusal.noRoom);
+      no15 = own-clear refusal.arrangement (no refusal.arrangement);
+      no16 = own-clear refusal.notAcknowledged (no refusal.notAcknowledged);
     }
 
     accepted-by : WellFormed d → Accepted o d q
     unfolding applies rungAt ladder
     accepted-by w = record {
       meant = record {
-        known = requester-known d q (no 4);
+        known = requester-known d q (no refusal.unknownRequester);
         named = named;
         fitting = f;
-        leading = leadsNowhere-fails d q o named .to (is-false (leadsNowhere d q) (no 7));
+        leading = leadsNowhere-fails d q o named .to (is-false (leadsNowhere d q) (no refusal.noSuchName));
       };
       on = logged-on;
-      permitted = noAccess-fails d q o named .to (is-false (noAccess d q) (no 8));
-      cleared = notCleared-fails d q o named .to (is-false (notCleared d q) (no 9));
+      permitted = noAccess-fails d q o named .to (is-false (noAccess d q) (no refusal.noAccess));
+      cleared = notCleared-fails d q o named .to (is-false (notCleared d q) (no refusal.marked));
       allowed = noRefusal-allowed d w (asked d q) o no-refusal;
     }
 

@@ -18,15 +18,17 @@ use Rattle.model.specs.Theorem.Acceptance.{accepted}
 use Rattle.model.specs.Theorem.Fixed.{devices-fixed, users-fixed}
 use Rattle.model.specs.Theorem.Framed.{framed}
 use Rattle.model.specs.Theorem.MayChange.{Frame}
+use Rattle.model.specs.Request.Refusals as refusal
 
 -- Every word outside the row of the operation that is named is as before.
-pub accepted-framed : (d : Tables) → WellFormed d → (q : Request) → answer d q ≡ 0
+pub accepted-framed : (d : Tables) → WellFormed d → (q : Request) → answer d q ≡ refusal.accepted
     → (o : Op) × (opOf (q .operation) ≡ some o) × Frame o (asked d q) d (after d q)
 accepted-framed d w q e =
     let a = accepted d q e w in (
       a .0,
       a .1 .meant .named,
-      subst (Frame (a .0) (asked d q) d) (sym (after-accepted d q e ∙ effect-by d q (a .0) (a .1 .meant .named))) (framed (a .0) d w (asked d q) (a .1 .allowed)),
+      subst (Frame (a .0) (asked d q) d) (sym (after-accepted d q e ∙ effect-by d q (a .0) (a .1 .meant .named)))
+          (framed (a .0) d w (asked d q) (a .1 .allowed)),
     )
 
 -- What holds of each allowed effect, of each notice and of the tables before holds of the tables after.
@@ -35,7 +37,7 @@ after-has : (d : Tables) → WellFormed d → (q : Request) (P : Tables → Type
     → ((n : ℕ) → P (notice (q .user) n (noticedOp q) d)) → P d → P (after d q)
 after-has d w q P effects notices none = after-each d q P settled (λ l h. none) (λ h. notices (answer d q))
   where
-    settled : answer d q ≡ 0 → P (effect d q)
+    settled : answer d q ≡ refusal.accepted → P (effect d q)
     settled e =
         let a = accepted d q e w in
         subst P (sym (effect-by d q (a .0) (a .1 .meant .named))) (effects (a .0) (a .1 .allowed))

@@ -12,10 +12,11 @@ use Rattle.model.specs.Request.Conditions.{levelOf}
 use Rattle.model.specs.Request.Operations.{Op, numberOf, toCopy, toRelease, toShow}
 use Rattle.model.specs.Request.Words.{Request}
 use Rattle.model.specs.State.Secure.{Good}
+use Rattle.model.specs.Tables.Kinds.{Screen}
 use Rattle.model.specs.Tables.Layout.{Bounded}
-use Rattle.model.specs.Tables.Words.{EntityWord, Tables, UserWord, absentKind, authorised, clearance, usedPlaces, current, deviceKind}
-use Rattle.model.specs.Tables.Words.{devices, draftType, held, idBit, kinds, maximum, missed, places, releasedType, releaser, sums}
-use Rattle.model.specs.Tables.Words.{type, userTag}
+use Rattle.model.specs.Tables.Words.{EntityWord, Tables, UserWord, absentKind, authorised, clearance, current, devices, draftType}
+use Rattle.model.specs.Tables.Words.{held, idBit, kinds, maximum, missed, places, releasedType, releaser, sums, type, usedPlaces}
+use Rattle.model.specs.Tables.Words.{userTag}
 
 -- Definition 3 (rule 9.3): a desk is a transform of tables by requests, and the tables that it starts with.
 abbrev pub Transform : Type 0
@@ -59,9 +60,9 @@ abbrev pub CcrSecure : Tables → Request → Tables → Type 0
 CcrSecure d q d′ = Quiet d (q .user) d′
     ⊎ ((o : Op) × Meant o d q × ((k : ℕ) → Operand o k → Open d (q .user) (basisOf (asked d q) k)))
 
--- device v shows the ID of x
+-- the screen v shows the ID of x
 abbrev pub ShowsId : Tables → ℕ → ℕ → Type 0
-ShowsId d v x = (kinds d v ≡ deviceKind) × ((i : ℕ) × (i < usedPlaces d v) × (places d v i ≡ x) × T (bit idBit (sums d v i)))
+ShowsId d v x = (Screen (kinds d v)) × ((i : ℕ) × (i < usedPlaces d v) × (places d v i ≡ x) × T (bit idBit (sums d v i)))
 
 -- the request names x by a reference that passes no marked container above the requester's clearance
 abbrev pub NamedOpenly : Tables → Request → ℕ → Type 0

@@ -17,9 +17,10 @@ use Rattle.model.specs.State.Secure.{Good}
 use Rattle.model.specs.Tables.Words.{Tables}
 use Rattle.model.specs.Theorem.Acceptance.{accepted}
 use Rattle.model.specs.Theorem.Unrefused.{allowed-unrefused}
+use Rattle.model.specs.Request.Refusals as refusal
 
 -- What is accepted has the answer 0: no rung of the ladder applies (rules 7.2 to 7.16).
-pub accepted-answer : (d : Tables) → Good d → (q : Request) (o : Op) → Accepted o d q → answer d q ≡ 0
+pub accepted-answer : (d : Tables) → Good d → (q : Request) (o : Op) → Accepted o d q → answer d q ≡ refusal.accepted
 unfolding answer ladder
 accepted-answer d g q o h =
     let n = h .meant .named in
@@ -34,11 +35,11 @@ accepted-answer d g q o h =
     let no9 = notCleared-fails d q o n .from (h .cleared) in
     let no10 = wrongKind-fails d q o n .from (u .kinds) in
     let own : (k : ℕ) → T (not (ownRung k d q)) = λ k. ownRung-fails d q o n k .from (u .own k) in
-    lowest-none 2 ladder d q (search depth 20)
+    lowest-none refusal.notWellFormed ladder d q (search depth 20)
 
 -- The answer is 0 exactly where some operation is accepted (rule 7.0).
-pub answer-exact : (d : Tables) → Good d → (q : Request) → Agrees (eqb (answer d q) 0) ((o : Op) × Accepted o d q)
-answer-exact d g q = agrees-as (λ e. accepted d q e (g .0)) (λ z. accepted-answer d g q (z .0) (z .1)) (agrees-eq (answer d q) 0)
+pub answer-exact : (d : Tables) → Good d → (q : Request) → Agrees (eqb (answer d q) refusal.accepted) ((o : Op) × Accepted o d q)
+answer-exact d g q = agrees-as (λ e. accepted d q e (g .0)) (λ z. accepted-answer d g q (z .0) (z .1)) (agrees-eq (answer d q) refusal.accepted)
 
 -- A request is accepted by one operation at most, the one that it names (rule 6).
 pub operation-unique : (d : Tables) (q : Request) (o p : Op) → Accepted o d q → Accepted p d q → o ≡ p

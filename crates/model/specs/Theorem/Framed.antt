@@ -13,8 +13,8 @@ use Rattle.model.specs.Request.Operations.{toMove, toRelease, toRevoke, 
 use Rattle.model.specs.State.WellFormed.{WellFormed}
 use Rattle.model.specs.Tables.Edits.{_and_, row, word}
 use Rattle.model.specs.Tables.Rows.{replace, without}
-use Rattle.model.specs.Tables.Words.{Tables, authorised, clearance, used, current, device, held, heldOp, level, mark, maximum}
-use Rattle.model.specs.Tables.Words.{missed, place, placeCount, places, releaser, shown, sums, triple, triples, type, value}
+use Rattle.model.specs.Tables.Words.{Tables, authorised, clearance, current, device, held, heldOp, level, mark, maximum, missed}
+use Rattle.model.specs.Tables.Words.{place, placeCount, places, releaser, shown, sums, triple, triples, type, used, value}
 use Rattle.model.specs.Theorem.FramedPlaces.{create-framed, delete-framed, move-framed}
 use Rattle.model.specs.Theorem.MayChange.{Frame, screenWord, wordOrRow}
 use Rattle.model.specs.Theorem.Untouched.{TouchesOnly, both-only, entity-left, row-only, user-left, user-word-only, word-only}
@@ -24,7 +24,7 @@ regroup : (a b c : Bool) → T (a || (b || c)) → T ((a || b) || c)
 regroup true b c t = tt
 regroup false b c t = t
 
--- An edit of a screen touches its count, its places and their sums.
+-- An edit of a screen touches its places, their number and their sums.
 screen-only : (n : ℕ) (at sum : ℕ → ℕ) → TouchesOnly (word used n and row place at and row shown sum) screenWord
 screen-only n at sum =
     let parts = both-only (word-only used {v = n}) (both-only (row-only place at) (row-only shown sum)) in

@@ -14,8 +14,8 @@ use Rattle.model.specs.Tables.EditLaws.{case}
 use Rattle.model.specs.Tables.Edits.{blank, written}
 use Rattle.model.specs.Tables.RowLaws.{without-none}
 use Rattle.model.specs.Tables.Rows.{left, without}
-use Rattle.model.specs.Tables.Words.{EntityWord, Tables, containerKind, used, usedPlaces, kind, kinds, level, mark, maximum, place}
-use Rattle.model.specs.Tables.Words.{places, releaser, shown, sums, triple, triples, type, value}
+use Rattle.model.specs.Tables.Words.{EntityWord, Tables, containerKind, kind, kinds, level, mark, maximum, place, places, releaser}
+use Rattle.model.specs.Tables.Words.{shown, sums, triple, triples, type, used, usedPlaces, value}
 use Rattle.model.specs.Theorem.MayChange.{Frame, contentWord, holder, wordOrRow}
 use Rattle.model.specs.Theorem.Untouched.{TouchesOnly, both-only, entity-left, row-only, word-left, word-only}
 
@@ -34,7 +34,7 @@ alone : (b : Bool) → T (not (b && true)) → T (not b)
 alone true t = t
 alone false t = tt
 
--- Where e leaves, only a container that holds e changes, and of it the count and the places.
+-- Where e leaves, only a container that holds e changes, and of it the places and their number.
 pub leave-left : (d : Tables) → WellFormed d → (e x : ℕ) (f : EntityWord) → T (not (holder d e x && contentWord f))
     → leave e d .entity x f ≡ d .entity x f
 leave-left d w e x f t =
@@ -59,7 +59,7 @@ leave-left d w e x f t =
     stays (shown i) t k = refl
     stays (triple i) t k = refl
 
--- Where e is put into c, which shows nothing, only the count and the places of c change.
+-- Where e is put into c, which shows nothing, only the places of c and their number change.
 pub put-left : (d : Tables) (c e : ℕ) → ((i : ℕ) → sums d c i ≡ 0) → (x : ℕ) (f : EntityWord) → T (not (eqb x c && contentWord f))
     → put c e 0 d .entity x f ≡ d .entity x f
 put-left d c e none x f t = word-left (λ y. eqb y c) (λ y. putting c e 0 d) (d .entity) x f (stays f t)

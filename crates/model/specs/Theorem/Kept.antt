@@ -28,13 +28,16 @@ use Rattle.model.specs.Request.Operations.{toMove, toRelease, toRevoke, 
 use Rattle.model.specs.Request.Words.{Request}
 use Rattle.model.specs.State.Secure.{Good, Secure}
 use Rattle.model.specs.State.WellFormed.{WellFormed}
-use Rattle.model.specs.Tables.Words.{Tables, deviceKind, firstNoticed, kinds, present, value}
+use Rattle.model.specs.Tables.KindLaws.{terminal-shows}
+use Rattle.model.specs.Tables.Kinds.{Screen}
+use Rattle.model.specs.Tables.Words.{Tables, firstNoticed, kinds, present, value}
 use Rattle.model.specs.Theorem.Acceptance.{accepted, requester-known}
+use Rattle.model.specs.Request.Refusals as refusal
 
 -- Each operation's effect keeps them.
 module _ (d : Tables) (w : WellFormed d) (g : Secure d) (s : Asked) (p : d .user (s .user) present ≢ 0) where
-  on-screen : own d s ≢ 0 → kinds d (own d s) ≡ deviceKind
-  on-screen = w .links .deviceIs (s .user)
+  on-screen : own d s ≢ 0 → Screen (kinds d (own d s))
+  on-screen h = terminal-shows (kinds d (own d s)) (w .links .deviceIs (s .user) h)
 
   create-good : MayCreate s d → Good (rowOf toCreate .effect s d)
   create-good h = (
@@ -66,7 +69,7 @@ module _ (d : Tables) (w : WellFormed d) (g : Secure d) (s : Asked) (p : d .user
       show-good d w g (s .user) (own d s) (s .first) (s .a) refl (on-screen (h .on)) (h .thing) (h .sum) (h .label) (h .low) (h .clear) (h .room)
   effect-good toClear h = (clear-wellFormed d w (own d s) (omega (arith, on-screen h)), clear-secure d w (own d s) g)
   effect-good toLogin h =
-      (login-wellFormed d w g (s .user) (s .first) p (h .off) (h .screen) (h .free), login-secure d w g (s .user) (s .first) p (h .screen) (h .free))
+      (login-wellFormed d w g (s .user) (s .first) p (h .off) (h .terminal) (h .free), login-secure d w g (s .user) (s .first) p (h .terminal) (h .free))
   effect-good toLogout h = (logout-wellFormed d w g (s .user) p h, logout-secure d w g (s .user) p h)
   effect-good toCurrent h =
       (current-wellFormed d w (s .a) (s .b) (h .present) (h .rolesIn) (h .off), current-secure d g (s .a) (s .b) (h .authorised))
@@ -83,14 +86,14 @@ pub request-good : (d : Tables) → Good d → (q : Request) → Good (after d q
 unfolding asked
 request-good d g q = after-each d q Good settled (λ l h. g) noticed
   where
-    settled : answer d q ≡ 0 → Good (effect d q)
+    settled : answer d q ≡ refusal.accepted → Good (effect d q)
     settled e =
         let a = accepted d q e (g .0) in
         rw (effect-by d q (a .0) (a .1 .meant .named)) (effect-good d (g .0) (g .1) (asked d q) (a .1 .meant .known .there) (a .0) (a .1 .allowed))
 
     noticed : firstNoticed ≤ answer d q → Good (notice (q .user) (answer d q) (noticedOp q) d)
     noticed l =
-        let k = requester-known d q (answer-is d q .below 4 (omega arith)) in (
+        let k = requester-known d q (answer-is d q .below refusal.unknownRequester (omega arith)) in (
           notice-wellFormed d (g .0) (g .1) (q .user) (answer d q) (noticedOp q) (k .there) (l, answer-range d q) (noticedOp-range q),
           notice-secure d (g .0) (g .1) (q .user) (answer d q) (noticedOp q) (k .there) (l, answer-range d q) (noticedOp-range q),
         )

@@ -6,16 +6,18 @@ use lib.Dec.{T}
 use Rattle.model.specs.Effect.Notice.{notice}
 use Rattle.model.specs.Request.Words.{Request}
 use Rattle.model.specs.Tables.EditLaws.{elsewhere}
-use Rattle.model.specs.Tables.Words.{Tables, UserWord, authorised, clearance, used, current, device, devices, held, heldOp, kind}
-use Rattle.model.specs.Tables.Words.{level, maximum, missed, place, present, releaser, shown, spare, type}
+use Rattle.model.specs.Tables.Words.{Tables, UserWord, authorised, clearance, current, device, devices, held, heldOp, kind, level}
+use Rattle.model.specs.Tables.Words.{maximum, missed, place, present, releaser, shown, spare, type, used}
 use Rattle.model.specs.Theorem.Definitions.{Obeys, Quiet, ShowsId, noticeWord}
 use Rattle.model.specs.Theorem.LawfulSame.{downgrade-same, release-same, set-same}
 
 -- Devices show the same IDs where entities are as they were.
 quiet-ids : (d d′ : Tables) (u : ℕ) → Quiet d u d′ → (v x : ℕ) → ShowsId d′ v x → ShowsId d v x
 quiet-ids d d′ u c v x h =
-    let i = h .1 .0 in
-    (sym (c .entities v kind) ∙ h .0, (i, rw (c .entities v used) at (h .1 .1), sym (c .entities v (place i)) ∙ h .1 .2, rw (c .entities v (shown i)) at (h .1 .3)))
+    let i = h .1 .0 in (
+      sym (c .entities v kind) ∙ h .0,
+      (i, rw (c .entities v used) at (h .1 .1), sym (c .entities v (place i)) ∙ h .1 .2, rw (c .entities v (shown i)) at (h .1 .3)),
+    )
 
 -- Rules 9.5 to 9.11 where nothing but the notice has changed: all seven hold.
 pub quiet-obeys : (d d′ : Tables) (q : Request) → Quiet d (q .user) d′ → Obeys d q d′

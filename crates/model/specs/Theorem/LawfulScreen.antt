@@ -15,12 +15,13 @@ use Rattle.model.specs.Request.Operations.{toMove, toRelease, toRevoke, 
 use Rattle.model.specs.Request.Words.{Request}
 use Rattle.model.specs.State.WellFormed.{WellFormed}
 use Rattle.model.specs.Tables.EditLaws.{case}
-use Rattle.model.specs.Tables.Words.{Tables, deviceKind, devices, kinds}
+use Rattle.model.specs.Tables.Kinds.{Terminal}
+use Rattle.model.specs.Tables.Words.{Tables, devices, kinds}
 use Rattle.model.specs.Theorem.Definitions.{ShowsId}
 
 module _ (d : Tables) (w : WellFormed d) (u x : ℕ) where
   -- an idle device shows nothing
-  idle-shows : (v : ℕ) → kinds d v ≡ deviceKind → ((y : ℕ) → devices d y ≢ v) → ShowsId d v x → ⊥
+  idle-shows : (v : ℕ) → Terminal (kinds d v) → ((y : ℕ) → devices d y ≢ v) → ShowsId d v x → ⊥
   idle-shows v k free h = omega (arith, h .1 .1, w .links .idle v k free)
 
   -- there is no device 0
@@ -46,7 +47,7 @@ screen-kept toRevoke d w q a x h = h
 screen-kept toShow d w q a x h = h
 screen-kept toClear d w q a x h = h
 screen-kept toLogin d w q a x h =
-    device-set d w (q .user) x (asked d q .first) (idle-shows d w (q .user) x (asked d q .first) (a .allowed .screen) (a .allowed .free)) h
+    device-set d w (q .user) x (asked d q .first) (idle-shows d w (q .user) x (asked d q .first) (a .allowed .terminal) (a .allowed .free)) h
 screen-kept toLogout d w q a x h = device-set d w (q .user) x 0 (none-shows d w (q .user) x) h
 screen-kept toCurrent d w q a x h = h
 screen-kept toClearance d w q a x h = h

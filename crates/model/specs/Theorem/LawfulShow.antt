@@ -15,9 +15,10 @@ use Rattle.model.specs.Request.Asked.{asked}
 use Rattle.model.specs.Request.Operations.{toShow}
 use Rattle.model.specs.Request.Words.{Request}
 use Rattle.model.specs.Tables.EditLaws.{case}
+use Rattle.model.specs.Tables.Kinds.{Screen}
 use Rattle.model.specs.Tables.RowLaws.{sought}
 use Rattle.model.specs.Tables.Rows.{Sought, left, replace, without}
-use Rattle.model.specs.Tables.Words.{Tables, containerKind, usedPlaces, deviceKind, devices, idBit, kinds, places, sums}
+use Rattle.model.specs.Tables.Words.{Tables, containerKind, devices, idBit, kinds, places, sums, usedPlaces}
 use Rattle.model.specs.Theorem.Definitions.{NamedOpenly, ShowsId}
 use Rattle.model.specs.Theorem.Statements.{Ids}
 
@@ -54,7 +55,7 @@ put-ids c e t d box v x h = (h .0, go (eqb v c) (same v c) (h .1))
 pub erase-ids : (e : ℕ) (d : Tables) (v x : ℕ) → ShowsId (erase e d) v x → ShowsId d v x
 erase-ids e d v x h = go (eqb v e) (h .0) (h .1)
   where
-    go : (b : Bool) → pick b 0 (kinds d v) ≡ deviceKind → Shown (pick b 0 (usedPlaces d v)) (λ i. pick b 0 (places d v i)) (λ i. pick b 0 (sums d v i)) x
+    go : (b : Bool) → Screen (pick b 0 (kinds d v)) → Shown (pick b 0 (usedPlaces d v)) (λ i. pick b 0 (places d v i)) (λ i. pick b 0 (sums d v i)) x
         → ShowsId d v x
     go true k m = absurd (not-suc-le-zero (m .1))
     go false k m = (k, m)
@@ -68,9 +69,9 @@ clear-ids e d v x h = (h .0, go (eqb v e) (h .1))
     go false m = m
 
 -- To make an object or a container shows nothing new.
-pub fresh-ids : (e c k t l : ℕ) (d : Tables) → k ≢ deviceKind → (v x : ℕ) → ShowsId (fresh e c k t l d) v x → ShowsId d v x
+pub fresh-ids : (e c k t l : ℕ) (d : Tables) → (¬ Screen k) → (v x : ℕ) → ShowsId (fresh e c k t l d) v x → ShowsId d v x
 fresh-ids e c k t l d n v x h =
-    (case (λ (y : ℕ). y ≡ deviceKind → kinds d v ≡ deviceKind) v e k (kinds d v) (λ r z. absurd (n z)) (λ r z. z) (h .0), h .1)
+    (case (λ (y : ℕ). Screen y → Screen (kinds d v)) v e k (kinds d v) (λ r z. absurd (n z)) (λ r z. z) (h .0), h .1)
 
 -- A place of the screen after show is the place of e, or it is one that was used before.
 used-before : (k n i : ℕ) (t : Bool) → Below k n t → k ≤ n → i ≢ k → i < pick t n (suc n) → i < n

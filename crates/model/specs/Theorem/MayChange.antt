@@ -9,15 +9,15 @@ use Rattle.model.specs.Request.Operations.{Op, toAcknowledge, toAuthoris
 use Rattle.model.specs.Request.Operations.{toDelete, toDeviceLevel, toEdit, toGrant, toLevel, toLogin, toLogout, toMark, toMaximum}
 use Rattle.model.specs.Request.Operations.{toMove, toRelease, toRevoke, toShow}
 use Rattle.model.specs.State.Check.{inTest}
-use Rattle.model.specs.Tables.Words.{EntityWord, Tables, UserWord, authorised, clearance, used, usedPlaces, current, device, held}
-use Rattle.model.specs.Tables.Words.{heldOp, kind, kinds, level, mark, maximum, missed, place, places, releaser, shown, tag, triple}
-use Rattle.model.specs.Tables.Words.{type, userTag, value}
+use Rattle.model.specs.Tables.Words.{EntityWord, Tables, UserWord, authorised, clearance, current, device, held, heldOp, kind, kinds}
+use Rattle.model.specs.Tables.Words.{level, mark, maximum, missed, place, places, releaser, shown, tag, triple, type, used}
+use Rattle.model.specs.Tables.Words.{usedPlaces, userTag, value}
 
 -- e stands in the container x
 abbrev pub holder : Tables → ℕ → ℕ → Bool
 holder d e x = inTest (kinds d) (usedPlaces d) (places d) x e
 
--- the count and the places of a record; also what is shown
+-- the places of a record and their number; also what is shown
 abbrev pub contentWord : EntityWord → Bool
 contentWord f = eqb (tag f) (tag used) || eqb (tag f) (tag (place 0))
 

@@ -23,18 +23,19 @@ use Rattle.model.specs.Request.Operations.{toCopy, toCreate, toCurrent, 
 use Rattle.model.specs.Request.Operations.{toLogout, toMark, toMaximum, toMove, toRelease, toRevoke, toShow}
 use Rattle.model.specs.State.WellFormed.{GoodTriple, WellFormed}
 use Rattle.model.specs.Tables.Words.{Tables, operationCount, operationIn, positionCount, positionOf, tripleOf, whoMost, whoOf}
+use Rattle.model.specs.Request.Refusals as refusal
 
 -- What rungs 5, 6 and 10 to 16 leave when they do not apply.
 pub record NoRefusal (o : Op) (s : Asked) (d : Tables) : Type 0 where
   pub arguments : InRange o (s .a) (s .b) (s .c)
   pub on : On o d (s .user)
   pub kinds : AllOperands 1 (rowOf o .operands) (λ k x. T (x d (operand s k)))
-  pub no11 : T (not (refused 11 (rowOf o .conditions) d s))
-  pub no12 : T (not (refused 12 (rowOf o .conditions) d s))
-  pub no13 : T (not (refused 13 (rowOf o .conditions) d s))
-  pub no14 : T (not (refused 14 (rowOf o .conditions) d s))
-  pub no15 : T (not (refused 15 (rowOf o .conditions) d s))
-  pub no16 : T (not (refused 16 (rowOf o .conditions) d s))
+  pub no11 : T (not (refused refusal.noSuchUser (rowOf o .conditions) d s))
+  pub no12 : T (not (refused refusal.roleMissing (rowOf o .conditions) d s))
+  pub no13 : T (not (refused refusal.levelOrRoles (rowOf o .conditions) d s))
+  pub no14 : T (not (refused refusal.noRoom (rowOf o .conditions) d s))
+  pub no15 : T (not (refused refusal.arrangement (rowOf o .conditions) d s))
+  pub no16 : T (not (refused refusal.notAcknowledged (rowOf o .conditions) d s))
 
 -- a triple made of three numbers in their ranges is a good one
 triple-good : (w o p : ℕ) → Between 1 whoMost w → Between 1 operationCount o → Between 1 positionCount p → GoodTriple (tripleOf w o p)
@@ -109,7 +110,7 @@ module _ (d : Tables) (w : WellFormed d) (s : Asked) where
   noRefusal-allowed toLogin h =
       let k = device-agrees d (s .first) .to (h .kinds .0) in
       let f = loginTaken-fails d s w k .to (h .no15) in
-      record { screen = k; off = f .0; free = f .1 }
+      record { terminal = k; off = f .0; free = f .1 }
   noRefusal-allowed toLogout h = h .on logout-wants
   noRefusal-allowed toCurrent h =
       let p = rolesOff-fails d s .to (h .no11) in
@@ -155,4 +156,4 @@ module _ (d : Tables) (w : WellFormed d) (s : Asked) where
       record { box = k .0; draft = k .1; releaser = lacks-fails d s releasing .to (h .no12) }
   noRefusal-allowed toAcknowledge h =
       let n = notAcknowledged-fails d s .to (h .no16) in
-      record { holding = n .0; refusal = n .1 .0; used = n .1 .1 }
+      record { holding = n .0; refusal = n .1 .0; missed = n .1 .1 }

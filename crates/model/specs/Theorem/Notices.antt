@@ -8,7 +8,7 @@ use Prim.Native.Nat.{_≤_, suc, ℕ}
 use native.Mathlib.Omega.{arith}
 use lib.Dec.{eqb, ltb}
 use Rattle.model.specs.Basics.Choice.{Below, Same, below, it, other, pick, same}
-use Rattle.model.specs.Effect.Notice.{missedMore, keepFirst, notice}
+use Rattle.model.specs.Effect.Notice.{keepFirst, missedMore, notice}
 use Rattle.model.specs.Effect.Words.{acknowledge}
 use Rattle.model.specs.Request.After.{after, effect, noticedOp}
 use Rattle.model.specs.Request.AfterLaws.{after-accepted, after-each, effect-by}
@@ -26,6 +26,7 @@ use Rattle.model.specs.Theorem.Acceptance.{accepted}
 use Rattle.model.specs.Theorem.Fixed.{notices-left}
 use Rattle.model.specs.Theorem.Kept.{request-good}
 use Rattle.model.specs.Theorem.Statements.{SameNotice, StillHeld, Unacknowledged, afterAll}
+use Rattle.model.specs.Request.Refusals as refusal
 
 -- A refusal that is held stays held through every notice.
 notice-keeps : (d : Tables) (u r o x : ℕ) → d .user x held ≢ 0
@@ -42,7 +43,7 @@ notice-keeps d u r o x h = go (eqb x u) (same x u)
     go true (it e) = inner e (eqb (d .user u held) 0) (same (d .user u held) 0)
     go false (other e) = (refl, refl)
 
--- the count never falls by a notice
+-- the number missed never falls by a notice
 missed-grows : (d : Tables) (u r o x : ℕ) → d .user x missed ≤ missedMost → d .user x missed ≤ notice u r o d .user x missed
 missed-grows d u r o x h = go (eqb x u) (same x u)
   where
@@ -59,7 +60,7 @@ acknowledge-other : (d : Tables) (u x : ℕ) → x ≢ u → SameNotice d (ackno
 acknowledge-other d u x n = (elsewhere x u 0 (d .user x held) n, elsewhere x u 0 (d .user x heldOp) n, elsewhere x u 0 (d .user x missed) n)
 
 -- Rule 8.3: an accepted request that is no acknowledgement leaves every notice; an acknowledgement leaves every other user's.
-pub accepted-notices : (d : Tables) → WellFormed d → (q : Request) → answer d q ≡ 0 → (x : ℕ)
+pub accepted-notices : (d : Tables) → WellFormed d → (q : Request) → answer d q ≡ refusal.accepted → (x : ℕ)
     → (opOf (q .operation) ≡ some toAcknowledge → x ≢ q .user) → SameNotice d (after d q) x
 unfolding asked
 accepted-notices d w q e x n =
@@ -77,11 +78,11 @@ accepted-notices d w q e x n =
         go false (other z) = notices-left o d w (asked d q) h (λ k. z (ap numberOf k)) x
 
 pub held-kept : (d : Tables) → WellFormed d → (q : Request) (x : ℕ) → d .user x held ≢ 0
-    → (answer d q ≡ 0 → opOf (q .operation) ≡ some toAcknowledge → x ≢ q .user) → StillHeld d (after d q) x
+    → (answer d q ≡ refusal.accepted → opOf (q .operation) ≡ some toAcknowledge → x ≢ q .user) → StillHeld d (after d q) x
 held-kept d w q x h n =
     after-each d q (λ (d′ : Tables). StillHeld d d′ x) settled (λ l m. record { refusal = refl; operation = refl; more = omega arith }) noticed
   where
-    settled : answer d q ≡ 0 → StillHeld d (effect d q) x
+    settled : answer d q ≡ refusal.accepted → StillHeld d (effect d q) x
     settled e =
         let k = rw (after-accepted d q e) at (accepted-notices d w q e x (n e)) in
         record { refusal = k .0; operation = k .1; more = omega (arith, k .2) }

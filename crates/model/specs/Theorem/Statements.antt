@@ -11,12 +11,13 @@ use Rattle.model.specs.Request.Step.{afterOf}
 use Rattle.model.specs.Request.Words.{Request}
 use Rattle.model.specs.Tables.Words.{Tables, devices, held, heldOp, missed}
 use Rattle.model.specs.Theorem.Definitions.{Both, NamedOpenly, ShowsId}
+use Rattle.model.specs.Request.Refusals as refusal
 
 -- the notice of user u is the same in both tables
 abbrev pub SameNotice : Tables → Tables → ℕ → Type 0
 SameNotice d d′ u = (d′ .user u held ≡ d .user u held) × (d′ .user u heldOp ≡ d .user u heldOp) × (d′ .user u missed ≡ d .user u missed)
 
--- Rule 8.2: what is held stays held, with its operation, and the count does not fall, until its user's acknowledgement is accepted.
+-- Rule 8.2: what is held stays held, with its operation, and the number missed does not fall, until its user's acknowledgement is accepted.
 pub record StillHeld (d d′ : Tables) (x : ℕ) : Type 0 where
   pub refusal : d′ .user x held ≡ d .user x held
   pub operation : d′ .user x heldOp ≡ d .user x heldOp
@@ -39,4 +40,4 @@ afterWords t (q ∷ qs) = afterWords (afterOf t q) qs
 -- along a list of requests from d on, no acknowledgement of user x is accepted
 unfoldable pub Unacknowledged : Tables → ℕ → List Request → Type 0
 Unacknowledged d x [] = Unit {0}
-Unacknowledged d x (q ∷ qs) = (answer d q ≡ 0 → opOf (q .operation) ≡ some toAcknowledge → x ≢ q .user) × Unacknowledged (after d q) x qs
+Unacknowledged d x (q ∷ qs) = (answer d q ≡ refusal.accepted → opOf (q .operation) ≡ some toAcknowledge → x ≢ q .user) × Unacknowledged (after d q) x qs

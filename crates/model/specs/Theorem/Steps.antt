@@ -37,6 +37,7 @@ use Rattle.model.specs.Theorem.MayChange.{Frame}
 use Rattle.model.specs.Theorem.Statements.{afterWords}
 use Rattle.model.specs.Theorem.System.{request-obeys}
 use Rattle.model.specs.Theorem.Unchanged.{high-refusal-quiet, low-refusal}
+use Rattle.model.specs.Request.Refusals as refusal
 
 -- Rule 7.1: what a step on lists of the right sizes is.
 pub sized-agrees : (t q : List ℕ) → Agrees (sized t q) ((length t ≡ wordCount) × (length q ≡ requestWords))
@@ -44,15 +45,15 @@ unfolding sized
 sized-agrees t q = agrees-and (agrees-eq (length t) wordCount) (agrees-eq (length q) requestWords)
 
 -- Other sizes are answered 1, and nothing changes.
-pub unsized : (t q : List ℕ) → T (not (sized t q)) → (answerOf t q ≡ 1) × (afterOf t q ≡ t)
+pub unsized : (t q : List ℕ) → T (not (sized t q)) → (answerOf t q ≡ refusal.badLength) × (afterOf t q ≡ t)
 unfolding answerOf afterOf
 unsized t q n =
-    (pick-false (sized t q) (answer (tablesOf t) (requestOf q)) 1 n, pick-false (sized t q) (wordsOf (after (tablesOf t) (requestOf q))) t n)
+    (pick-false (sized t q) (answer (tablesOf t) (requestOf q)) refusal.badLength n, pick-false (sized t q) (wordsOf (after (tablesOf t) (requestOf q))) t n)
 
 -- On lists of the right sizes the step is the ladder's.
 pub answerOf-sized : (t q : List ℕ) → T (sized t q) → answerOf t q ≡ answer (tablesOf t) (requestOf q)
 unfolding answerOf
-answerOf-sized t q h = pick-true (sized t q) (answer (tablesOf t) (requestOf q)) 1 h
+answerOf-sized t q h = pick-true (sized t q) (answer (tablesOf t) (requestOf q)) refusal.badLength h
 
 pub afterOf-sized : (t q : List ℕ) → T (sized t q) → afterOf t q ≡ wordsOf (after (tablesOf t) (requestOf q))
 unfolding afterOf
@@ -64,7 +65,7 @@ after-bounded d b q = after-each d q Bounded
     (λ e. subst Bounded (after-accepted d q e) (left-good (accepted-good d q e b)))
     (λ l h. b)
     (λ l. subst Bounded (after-noticed d q (answer d q) refl l)
-    (left-good (judged d q b (answer-is d q .below 2 (omega arith)) (answer-is d q .below 3 (omega arith)))))
+    (left-good (judged d q b (answer-is d q .below refusal.notWellFormed (omega arith)) (answer-is d q .below refusal.notSecure (omega arith)))))
   where
     left-good : Good d → Bounded (after d q)
     left-good g = wellFormed-bounded (after d q) (request-good d g q .0)
@@ -84,7 +85,7 @@ afterOf-length t q = go (sized t q) (sized-agrees t q .to)
     go false f = refl
 
 -- Refusals 1 to 4 leave every word.
-pub low-refusal-words : (t q : List ℕ) → 1 ≤ answerOf t q → answerOf t q < firstNoticed → afterOf t q ≡ t
+pub low-refusal-words : (t q : List ℕ) → refusal.badLength ≤ answerOf t q → answerOf t q < firstNoticed → afterOf t q ≡ t
 low-refusal-words t q l h = go (sized t q) refl
   where
     go : (b : Bool) → sized t q ≡ b → afterOf t q ≡ t
@@ -95,23 +96,23 @@ low-refusal-words t q l h = go (sized t q) refl
     go false e = unsized t q (is-false (sized t q) e) .1
 
 -- Words that pass the state check pass it again after any request at all.
-pub check-kept : (t q : List ℕ) → check t ≡ 0 → check (afterOf t q) ≡ 0
+pub check-kept : (t q : List ℕ) → check t ≡ refusal.accepted → check (afterOf t q) ≡ refusal.accepted
 check-kept t q e = go (sized t q) refl
   where
     now : (length t ≡ wordCount) × Good (tablesOf t)
-    now = check-agrees t .to (agrees-eq (check t) 0 .from e)
+    now = check-agrees t .to (agrees-eq (check t) refusal.accepted .from e)
 
-    go : (b : Bool) → sized t q ≡ b → check (afterOf t q) ≡ 0
+    go : (b : Bool) → sized t q ≡ b → check (afterOf t q) ≡ refusal.accepted
     go true z =
         let s = is-true (sized t q) z in
-        eqb→eq (check (afterOf t q)) 0 (check-agrees (afterOf t q) .from (
+        eqb→eq (check (afterOf t q)) refusal.accepted (check-agrees (afterOf t q) .from (
           afterOf-length t q ∙ now .0,
           subst Good (sym (afterOf-tables t q s)) (request-good (tablesOf t) (now .1) (requestOf q)),
         ))
     go false z = ap check (unsized t q (is-false (sized t q) z) .1) ∙ e
 
 -- and so after every finite history of requests.
-pub history-checked : (t : List ℕ) (qs : List (List ℕ)) → check t ≡ 0 → check (afterWords t qs) ≡ 0
+pub history-checked : (t : List ℕ) (qs : List (List ℕ)) → check t ≡ refusal.accepted → check (afterWords t qs) ≡ refusal.accepted
 unfolding afterWords
 history-checked t [] e = e
 history-checked t (q ∷ qs) e = history-checked (afterOf t q) qs (check-kept t q e)
@@ -121,7 +122,7 @@ pub words-obey : (t q : List ℕ) → T (sized t q) → Obeys (tablesOf t) (requ
 words-obey t q h = subst (Obeys (tablesOf t) (requestOf q)) (sym (afterOf-tables t q h)) (request-obeys (tablesOf t) (bounded t) (requestOf q))
 
 -- An answer 0 of words gives every condition that the effect relies on.
-pub words-accepted : (t q : List ℕ) → answerOf t q ≡ 0 → (o : Op) × Accepted o (tablesOf t) (requestOf q)
+pub words-accepted : (t q : List ℕ) → answerOf t q ≡ refusal.accepted → (o : Op) × Accepted o (tablesOf t) (requestOf q)
 words-accepted t q e = go (sized t q) refl
   where
     go : (b : Bool) → sized t q ≡ b → (o : Op) × Accepted o (tablesOf t) (requestOf q)
@@ -131,7 +132,7 @@ words-accepted t q e = go (sized t q) refl
     go false z = absurd (omega (arith, unsized t q (is-false (sized t q) z) .0))
 
 -- Words that fail the state check are answered with its number, whatever is asked.
-pub check-answer : (t q : List ℕ) → T (sized t q) → check t ≢ 0 → answerOf t q ≡ check t
+pub check-answer : (t q : List ℕ) → T (sized t q) → check t ≢ refusal.accepted → answerOf t q ≡ check t
 check-answer t q h n =
     let c = check-tables t (sized-agrees t q .to h .0) in
     answerOf-sized t q h ∙ judge-answer (tablesOf t) (requestOf q) (λ z. n (c ∙ z)) ∙ sym c
@@ -148,7 +149,7 @@ high-refusal-words t q h = go (sized t q) refl
     go false z = absurd (omega (arith, unsized t q (is-false (sized t q) z) .0))
 
 -- An accepted request changes, in the words, the words of its row and no others.
-pub words-framed : (t q : List ℕ) → answerOf t q ≡ 0
+pub words-framed : (t q : List ℕ) → answerOf t q ≡ refusal.accepted
     → (o : Op) × (opOf (requestOf q .operation) ≡ some o) × Frame o (asked (tablesOf t) (requestOf q)) (tablesOf t) (tablesOf (afterOf t q))
 words-framed t q e = go (sized t q) refl
   where

@@ -14,13 +14,14 @@ use Rattle.model.specs.Theorem.Definitions.{History, HistorySecure, Obey
 use Rattle.model.specs.Theorem.Histories.{states-good}
 use Rattle.model.specs.Theorem.Lawful.{lawful}
 use Rattle.model.specs.Theorem.LawfulNotice.{notice-quiet, quiet-obeys, same-quiet}
+use Rattle.model.specs.Request.Refusals as refusal
 
 -- Rule 9.12, one request: whatever it is answered, the seven definitions hold of it.
 pub request-obeys : (d : Tables) → Bounded d → (q : Request) → Obeys d q (after d q)
 request-obeys d b q = after-each d q (Obeys d q) settled (λ l h. quiet-obeys d d q (same-quiet d (q .user)))
     (λ l. quiet-obeys d (notice (q .user) (answer d q) (noticedOp q) d) q (notice-quiet d (q .user) (answer d q) (noticedOp q)))
   where
-    settled : answer d q ≡ 0 → Obeys d q (effect d q)
+    settled : answer d q ≡ refusal.accepted → Obeys d q (effect d q)
     settled e =
         let w = accepted-good d q e b .0 in
         let a = accepted d q e w in

@@ -9,13 +9,14 @@ use Rattle.model.specs.Request.Words.{Request}
 use Rattle.model.specs.Tables.Words.{Tables, firstNoticed}
 use Rattle.model.specs.Theorem.Definitions.{Quiet}
 use Rattle.model.specs.Theorem.LawfulNotice.{notice-quiet}
+use Rattle.model.specs.Request.Refusals as refusal
 
 module _ (d : Tables) (q : Request) where
   -- Refusals 2 to 4 change nothing; 1 is judged on words (`low-refusal-words`).
-  pub low-refusal : 1 ≤ answer d q → answer d q < firstNoticed → after d q ≡ d
+  pub low-refusal : refusal.badLength ≤ answer d q → answer d q < firstNoticed → after d q ≡ d
   low-refusal l h = after-unchanged d q (answer d q) refl l h
 
-  -- Refusals 5 to 16 leave a notice: its first refusal and operation if nothing was held, and a count.
+  -- Refusals 5 to 16 leave a notice: its first refusal and operation if nothing was held, and the number missed.
   pub high-refusal : firstNoticed ≤ answer d q → after d q ≡ notice (q .user) (answer d q) (noticedOp q) d
   high-refusal h = after-noticed d q (answer d q) refl h
 

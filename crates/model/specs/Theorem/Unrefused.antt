@@ -71,7 +71,7 @@ module _ (d : Tables) (w : WellFormed d) (s : Asked) where
     (showAbove-fails d s .from (h .clear, h .low), (showNoRoom-fails d s .from (h .room), (showUnlabelled-fails d s .from (h .label), tt))),
   )
   parts toClear h = (tt, tt)
-  parts toLogin h = ((device-agrees d (s .first) .from (h .screen), tt), (loginTaken-fails d s w (h .screen) .from (h .off, h .free), tt))
+  parts toLogin h = ((device-agrees d (s .first) .from (h .terminal), tt), (loginTaken-fails d s w (h .terminal) .from (h .off, h .free), tt))
   parts toLogout h = (tt, tt)
   parts toCurrent h =
       let r = rolesUnauthorised-fails d s .from (h .authorised) in
@@ -90,7 +90,7 @@ module _ (d : Tables) (w : WellFormed d) (s : Asked) where
       let i = insecure-fails d s levelEffect (level-wellFormed d w (s .first) (s .a) (omega arith) (h .levelIn)) .from (h .secure) in
       ((device-agrees d (s .first) .from (h .screen), tt), (deviceLowered-fails d s .from (h .downgrade), (i, tt)))
   parts toRelease h = ((draft-agrees d (s .first) .from (h .box, h .draft), tt), (lacks-fails d s releasing .from (h .releaser), tt))
-  parts toAcknowledge h = (tt, (notAcknowledged-fails d s .from (h .holding, (h .refusal, h .used)), tt))
+  parts toAcknowledge h = (tt, (notAcknowledged-fails d s .from (h .holding, (h .refusal, h .missed)), tt))
 
 -- What is allowed is refused by none of rungs 10 to 16.
 pub allowed-unrefused : (o : Op) (d : Tables) → WellFormed d → (s : Asked) → Allowed o s d → Unrefused o s d

@@ -5,56 +5,62 @@ use Rattle.op_places.proofs.delete.Tie as tie
 use Rattle.op_places.proofs.delete.Reads as reads
 use Rattle.op_places.proofs.delete.Lts as lts
 use Rattle.ladder.proofs.kinds.is_entity.Reads as is-entity-reads
-use Rattle.ladder.proofs.refusal.refuse.Reads as refuse-reads
 use Rattle.op_places.proofs.filling.erase.Reads as erase-reads
 use Rattle.op_places.proofs.filling.leave.Reads as leave-reads
 use Rattle.op_places.proofs.places.holder.Reads as holder-reads
 use Rattle.op_places.proofs.places.on_screen.Reads as on-screen-reads
-use Rattle.tables.proofs.entities.used.Reads as used-reads
-use Rattle.tables.proofs.entities.type_of.Reads as type-of-reads
+use Rattle.tables.proofs.type_of.Reads as type-of-reads
+use Rattle.tables.proofs.used.Reads as used-reads
 
+-- src/lib.rt:41:9
 is-entity-requires : tie.Need-is-entity-requires
 is-entity-requires c κs = search needs
 
-refuse-requires : tie.Need-refuse-requires
-refuse-requires c κs = delete-kind _ _ _ _ (c .before .before .before .before .before .before .pre .0) (c .before .before .before .before .before .before .pre .1) _ (c .before .before .is-entity .ensures) (c .before .if1 .taken)
-
+-- src/lib.rt:42:9
 same-length : tie.Need-same-length
 same-length c = search needs
 
+-- src/lib.rt:42:9
 returns : tie.Need-returns
-returns c = search needs
+returns c = delete-kind _ _ _ _ (c .before .before .before .before .before .pre .0) (c .before .before .before .before .before .pre .1) _ (c .before .is-entity .ensures) (c .if1 .taken)
 
+-- src/lib.rt:44:10
 used-requires : tie.Need-used-requires
 used-requires c κs = search needs
 
+-- src/lib.rt:45:12
 on-screen-requires : tie.Need-on-screen-requires
 on-screen-requires c κs = (search needs, c .before .before .before .before .before .before .before .before .pre .0 .climbed .ready .good .0, c .before .before .before .before .before .before .before .before .pre .1 .low)
 
+-- src/lib.rt:45:39
 type-of-requires : tie.Need-type-of-requires
 type-of-requires c κs = search needs
 
-refuse-requires-2 : tie.Need-refuse-requires-2
-refuse-requires-2 c κs = delete-forbidden _ _ _ _ (c .before .before .before .before .before .before .before .before .before .before .before .before .before .pre .0) (c .before .before .before .before .before .before .before .before .before .before .before .before .before .pre .1) _ (c .before .before .before .before .before .before .before .before .before .is-entity .ensures) (c .before .before .before .before .before .before .before .before .if1 .left) _ _ _ (c .before .before .before .before .before .before .used .ensures) (c .before .before .before .before .on-screen .ensures) (c .before .before .type-of .ensures) (c .before .if2 .taken)
-
+-- src/lib.rt:47:9
 same-length-2 : tie.Need-same-length-2
 same-length-2 c = search needs
 
+-- src/lib.rt:47:9
 returns-2 : tie.Need-returns-2
-returns-2 c = search needs
+returns-2 c = delete-forbidden _ _ _ _ (c .before .before .before .before .before .before .before .before .before .before .before .before .pre .0) (c .before .before .before .before .before .before .before .before .before .before .before .before .pre .1) _ (c .before .before .before .before .before .before .before .before .is-entity .ensures) (c .before .before .before .before .before .before .before .if1 .left) _ _ _ (c .before .before .before .before .before .used .ensures) (c .before .before .before .on-screen .ensures) (c .before .type-of .ensures) (c .if2 .taken)
 
+-- src/lib.rt:49:23
 holder-requires : tie.Need-holder-requires
 holder-requires c κs = (search needs, c .before .before .before .before .before .before .before .before .before .before .before .before .before .before .pre .0 .climbed .ready .good .0, c .before .before .before .before .before .before .before .before .before .before .before .before .before .before .pre .1 .low)
 
+-- src/lib.rt:49:5
 leave-requires : tie.Need-leave-requires
 leave-requires c κs = search needs
 
+-- src/lib.rt:50:5
 erase-requires : tie.Need-erase-requires
 erase-requires c κs = search needs
 
+-- src/lib.rt:37:1
 same-length-3 : tie.Need-same-length-3
 same-length-3 c = search needs
 
+-- src/lib.rt:37:1
 returns-3 : tie.Need-returns-3
 returns-3 c = deleted _ _ _ _ (c .before .before .before .before .before .before .before .before .before .before .before .before .before .before .before .before .before .before .before .before .before .before .pre .0) (c .before .before .before .before .before .before .before .before .before .before .before .before .before .before .before .before .before .before .before .before .before .before .pre .1) _ (c .before .before .before .before .before .before .before .before .before .before .before .before .before .before .before .before .before .before .is-entity .ensures) (c .before .before .before .before .before .before .before .before .before .before .before .before .before .before .before .before .before .if1 .left) _ _ _ (c .before .before .before .before .before .before .before .before .before .before .before .before .before .before .before .used .ensures) (c .before .before .before .before .before .before .before .before .before .before .before .before .before .on-screen .ensures) (c .before .before .before .before .before .before .before .before .before .before .before .type-of .ensures) (c .before .before .before .before .before .before .before .before .before .before .if2 .left) _ _ (c .before .before .before .before .before .before .leave .ensures) (c .before .before .erase .ensures)
 
@@ -63,13 +69,11 @@ delete-spec =
     tie.close
     (tie.spec
     is-entity-requires
-    refuse-requires
     same-length
     returns
     used-requires
     on-screen-requires
     type-of-requires
-    refuse-requires-2
     same-length-2
     returns-2
     holder-requires

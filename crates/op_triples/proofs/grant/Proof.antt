@@ -8,53 +8,59 @@ use Rattle.op_triples.proofs.grant.Tie as tie
 use Rattle.op_triples.proofs.grant.Reads as reads
 use Rattle.op_triples.proofs.grant.Lts as lts
 use Rattle.ladder.proofs.kinds.is_any.Reads as is-any-reads
-use Rattle.ladder.proofs.refusal.refuse.Reads as refuse-reads
 use Rattle.op_triples.proofs.named_triple.Reads as named-triple-reads
 use Rattle.rows.proofs.triple_place.Reads as triple-place-reads
-use Rattle.tables.proofs.entities.set_triple.Reads as set-triple-reads
+use Rattle.tables.proofs.set_triple.Reads as set-triple-reads
 
+-- src/lib.rt:24:9
 is-any-requires : tie.Need-is-any-requires
 is-any-requires c κs = search needs
 
-refuse-requires : tie.Need-refuse-requires
-refuse-requires c κs = grant-wrong _ _ _ _ (c .before .before .before .before .before .before .pre) _ (c .before .before .is-any .ensures) (not-true _ (c .before .if1 .taken))
-
+-- src/lib.rt:25:9
 same-length : tie.Need-same-length
 same-length c = search needs
 
+-- src/lib.rt:25:9
 returns : tie.Need-returns
-returns c = search needs
+returns c = grant-wrong _ _ _ _ (c .before .before .before .before .before .pre) _ (c .before .is-any .ensures) (not-true _ (c .if1 .taken))
 
+-- src/lib.rt:27:9
 named-triple-requires : tie.Need-named-triple-requires
 named-triple-requires c κs = grant-named _ _ _ (c .before .before .before .before .before .pre .0)
 
+-- src/lib.rt:28:8
 triple-place-requires : tie.Need-triple-place-requires
 triple-place-requires c κs = search needs
 
+-- src/lib.rt:29:9
 same-length-2 : tie.Need-same-length-2
 same-length-2 c = search needs
 
+-- src/lib.rt:29:9
 returns-2 : tie.Need-returns-2
 returns-2 c = grant-there _ _ _ _ (c .before .before .before .before .before .before .before .before .before .pre) _ (c .before .before .before .before .before .is-any .ensures) (not-false _ (c .before .before .before .before .if1 .left)) _ _ (c .before .before .before .named-triple .ensures) (c .before .triple-place .ensures) (omega arith)
 
+-- src/lib.rt:31:9
 triple-place-requires-2 : tie.Need-triple-place-requires-2
 triple-place-requires-2 c κs = search needs
 
-refuse-requires-2 : tie.Need-refuse-requires-2
-refuse-requires-2 c κs = grant-full _ _ _ _ (c .before .before .before .before .before .before .before .before .before .before .before .before .before .pre) _ (c .before .before .before .before .before .before .before .before .before .is-any .ensures) (not-false _ (c .before .before .before .before .before .before .before .before .if1 .left)) _ _ (c .before .before .before .before .before .before .before .named-triple .ensures) (c .before .before .before .before .before .triple-place .ensures) (omega arith) _ (c .before .before .triple-place2 .ensures) (omega arith)
-
+-- src/lib.rt:33:9
 same-length-3 : tie.Need-same-length-3
 same-length-3 c = search needs
 
+-- src/lib.rt:33:9
 returns-3 : tie.Need-returns-3
-returns-3 c = search needs
+returns-3 c = grant-full _ _ _ _ (c .before .before .before .before .before .before .before .before .before .before .before .before .pre) _ (c .before .before .before .before .before .before .before .before .is-any .ensures) (not-false _ (c .before .before .before .before .before .before .before .if1 .left)) _ _ (c .before .before .before .before .before .before .named-triple .ensures) (c .before .before .before .before .triple-place .ensures) (omega arith) _ (c .before .triple-place2 .ensures) (omega arith)
 
+-- src/lib.rt:35:5
 set-triple-requires : tie.Need-set-triple-requires
 set-triple-requires c κs = search needs
 
+-- src/lib.rt:20:1
 same-length-4 : tie.Need-same-length-4
 same-length-4 c = search needs
 
+-- src/lib.rt:20:1
 returns-4 : tie.Need-returns-4
 returns-4 c = grant-new _ _ _ _ (c .before .before .before .before .before .before .before .before .before .before .before .before .before .before .before .before .pre) _ (c .before .before .before .before .before .before .before .before .before .before .before .before .is-any .ensures) (not-false _ (c .before .before .before .before .before .before .before .before .before .before .before .if1 .left)) _ _ (c .before .before .before .before .before .before .before .before .before .before .named-triple .ensures) (c .before .before .before .before .before .before .before .before .triple-place .ensures) (omega arith) _ (c .before .before .before .before .before .triple-place2 .ensures) _ (omega arith) (c .before .before .set-triple .ensures)
 
@@ -63,7 +69,6 @@ grant-spec =
     tie.close
     (tie.spec
     is-any-requires
-    refuse-requires
     same-length
     returns
     named-triple-requires
@@ -71,7 +76,6 @@ grant-spec =
     same-length-2
     returns-2
     triple-place-requires-2
-    refuse-requires-2
     same-length-3
     returns-3
     set-triple-requires

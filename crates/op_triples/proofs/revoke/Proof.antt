@@ -8,41 +8,47 @@ use Rattle.op_triples.proofs.revoke.Tie as tie
 use Rattle.op_triples.proofs.revoke.Reads as reads
 use Rattle.op_triples.proofs.revoke.Lts as lts
 use Rattle.ladder.proofs.kinds.is_any.Reads as is-any-reads
-use Rattle.ladder.proofs.refusal.refuse.Reads as refuse-reads
-use Rattle.rows.proofs.close_triples.Reads as close-triples-reads
 use Rattle.op_triples.proofs.named_triple.Reads as named-triple-reads
+use Rattle.rows.proofs.close_triples.Reads as close-triples-reads
 use Rattle.rows.proofs.triple_place.Reads as triple-place-reads
 
+-- src/lib.rt:44:9
 is-any-requires : tie.Need-is-any-requires
 is-any-requires c κs = search needs
 
-refuse-requires : tie.Need-refuse-requires
-refuse-requires c κs = revoke-wrong _ _ _ _ (c .before .before .before .before .before .before .pre) _ (c .before .before .is-any .ensures) (not-true _ (c .before .if1 .taken))
-
+-- src/lib.rt:45:9
 same-length : tie.Need-same-length
 same-length c = search needs
 
+-- src/lib.rt:45:9
 returns : tie.Need-returns
-returns c = search needs
+returns c = revoke-wrong _ _ _ _ (c .before .before .before .before .before .pre) _ (c .before .is-any .ensures) (not-true _ (c .if1 .taken))
 
+-- src/lib.rt:47:38
 named-triple-requires : tie.Need-named-triple-requires
 named-triple-requires c κs = revoke-named _ _ _ (c .before .before .before .before .before .before .pre .0)
 
+-- src/lib.rt:47:9
 triple-place-requires : tie.Need-triple-place-requires
 triple-place-requires c κs = search needs
 
+-- src/lib.rt:49:9
 same-length-2 : tie.Need-same-length-2
 same-length-2 c = search needs
 
+-- src/lib.rt:49:9
 returns-2 : tie.Need-returns-2
 returns-2 c = revoke-none _ _ _ _ (c .before .before .before .before .before .before .before .before .before .pre) _ (c .before .before .before .before .before .is-any .ensures) (not-false _ (c .before .before .before .before .if1 .left)) _ _ (c .before .before .named-triple .ensures) (c .before .triple-place .ensures) (omega arith)
 
+-- src/lib.rt:51:5
 close-triples-requires : tie.Need-close-triples-requires
 close-triples-requires c κs = search needs
 
+-- src/lib.rt:40:1
 same-length-3 : tie.Need-same-length-3
 same-length-3 c = search needs
 
+-- src/lib.rt:40:1
 returns-3 : tie.Need-returns-3
 returns-3 c = revoke-out _ _ _ _ (c .before .before .before .before .before .before .before .before .before .before .before .before .before .pre) _ (c .before .before .before .before .before .before .before .before .before .is-any .ensures) (not-false _ (c .before .before .before .before .before .before .before .before .if1 .left)) _ _ (c .before .before .before .before .before .before .named-triple .ensures) (c .before .before .before .before .before .triple-place .ensures) _ (c .before .before .close-triples .ensures)
 
@@ -51,7 +57,6 @@ revoke-spec =
     tie.close
     (tie.spec
     is-any-requires
-    refuse-requires
     same-length
     returns
     named-triple-requires

@@ -4,11 +4,6 @@ use Rattle.reference.specs.Ways.{bar}
 use borrow.Author.Needs.{needs}
 use Rattle.reference.proofs.is_bar.Statement.{statement}
 use Rattle.reference.proofs.is_bar.Tie as tie
-use Rattle.reference.proofs.is_bar.Reads as reads
-use Rattle.reference.proofs.is_bar.Lts as lts
-use Rattle.levels.proofs.at_most.Reads as at-most-reads
-use Rattle.tables.proofs.entities.level.Reads as level-reads
-use Rattle.tables.proofs.entities.mark.Reads as mark-reads
 
 mark-requires : tie.Need-mark-requires
 mark-requires c κs = search needs
@@ -25,7 +20,14 @@ at-most-requires c κs = search needs
 
 returns-2 : tie.Need-returns-2
 unfolding bar
-returns-2 c = rw (c .at-most .ensures, c .before .level .ensures, ← c .before .before .before .mark .ensures, ne-eqb (c .before .before .before .mark .result) 0 (c .before .before .if1 .left))
+returns-2 c =
+    rw (
+      c .at-most .ensures,
+      c .before .level .ensures,
+      ← c .before .before .before .mark .ensures,
+      ne-eqb (c .before .before .before .mark .result) 0
+          (c .before .before .if1 .left),
+    )
 
 pub is-bar-spec : {M : Type 1} → statement M
 is-bar-spec = tie.close (tie.spec mark-requires returns level-requires at-most-requires returns-2)

@@ -1,10 +1,7 @@
 use borrow.Author.Needs.{needs}
 use Rattle.reference.proofs.shuts.Statement.{statement}
 use Rattle.reference.proofs.shuts.Tie as tie
-use Rattle.reference.proofs.shuts.Reads as reads
-use Rattle.reference.proofs.shuts.Lts as lts
 use Rattle.reference.proofs.is_admitted.Reads as is-admitted-reads
-use Rattle.tables.proofs.entities.triple.Reads as triple-reads
 
 triple-requires : tie.Need-triple-requires
 triple-requires c κs = search needs

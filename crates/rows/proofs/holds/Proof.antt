@@ -5,19 +5,16 @@ use mathlib.Core.Path.{_≡_}
 use lib.Dec.{ltb}
 use Rattle.model.specs.Tables.Layout.{tablesOf}
 use Rattle.model.specs.Tables.Rows.{seek}
-use Rattle.model.specs.Tables.Words.{places}
+use Rattle.model.specs.Tables.Words.{placeCount, places}
 use Rattle.rows.specs.SweepLaws.{sweep-more, sweep-none, swept}
 use Rattle.rows.proofs.holds.Statement.{statement}
 use Rattle.rows.proofs.holds.Tie as tie
-use Rattle.rows.proofs.holds.Reads as reads
-use Rattle.rows.proofs.holds.Lts as lts
-use Rattle.tables.proofs.entities.place.Reads as place-reads
 
 abbrev Inv-loop : tie.InvT-loop
-Inv-loop t v e found₀ i₀ found i = (i ≤ 8) × (found ≡ ltb (seek (e .0) (places (tablesOf t) (v .0)) i) i)
+Inv-loop t v e found₀ i₀ found i = (i ≤ placeCount) × (found ≡ ltb (seek (e .0) (places (tablesOf t) (v .0)) i) i)
 
 abbrev μ-loop : tie.MeasureT-loop
-μ-loop t v e found₀ i₀ found i = 8 - i
+μ-loop t v e found₀ i₀ found i = placeCount - i
 
 loop-holds : tie.Need-loop-holds Inv-loop μ-loop
 loop-holds c = (omega arith, sweep-none _ _)

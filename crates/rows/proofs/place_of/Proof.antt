@@ -8,9 +8,6 @@ use Rattle.model.specs.Tables.Layout.{tablesOf}
 use Rattle.model.specs.Tables.Words.{places}
 use Rattle.rows.proofs.place_of.Statement.{statement}
 use Rattle.rows.proofs.place_of.Tie as tie
-use Rattle.rows.proofs.place_of.Reads as reads
-use Rattle.rows.proofs.place_of.Lts as lts
-use Rattle.tables.proofs.entities.place.Reads as place-reads
 
 abbrev Inv-loop : tie.InvT-loop
 Inv-loop t v e n i₀ i = (i ≤ n) × ((j : ℕ) → j < i → places (tablesOf t) (v .0) j ≢ e .0)
@@ -25,7 +22,10 @@ place-requires : tie.Need-place-requires Inv-loop μ-loop
 place-requires c κs = search needs
 
 returns : tie.Need-returns Inv-loop μ-loop
-returns c = seek-here _ _ _ _ (c .before .before .before .before .loop-test .taken) (sym (c .before .before .before .place .ensures) ∙ c .if1 .taken) (c .before .before .before .before .before .loop .inv .1)
+returns c =
+    let s4 = c .before .before .before .before in
+    let s5 = s4 .before in
+    seek-here _ _ _ _ (s4 .loop-test .taken) (sym (c .before .before .before .place .ensures) ∙ c .if1 .taken) (s5 .loop .inv .1)
 
 add-i : tie.Need-add-i Inv-loop μ-loop
 add-i c = omega arith
@@ -34,7 +34,9 @@ loop-less : tie.Need-loop-less Inv-loop μ-loop
 loop-less c = omega arith
 
 loop-again : tie.Need-loop-again Inv-loop μ-loop
-loop-again c = (omega arith, none-more _ _ _ (c .before .before .before .before .before .loop .inv .1) (λ z. c .if1 .left (c .before .before .before .place .ensures ∙ z)))
+loop-again c =
+    let s5 = c .before .before .before .before .before in
+    (omega arith, none-more _ _ _ (s5 .loop .inv .1) (λ z. c .if1 .left (c .before .before .before .place .ensures ∙ z)))
 
 returns-2 : tie.Need-returns-2 Inv-loop μ-loop
 returns-2 c = seek-none _ _ _ (λ j h. c .before .loop .inv .1 j (omega arith))

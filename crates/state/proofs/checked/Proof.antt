@@ -4,8 +4,6 @@ use Rattle.model.specs.State.Check.{check}
 use borrow.Author.Needs.{needs}
 use Rattle.state.proofs.checked.Statement.{statement}
 use Rattle.state.proofs.checked.Tie as tie
-use Rattle.state.proofs.checked.Reads as reads
-use Rattle.state.proofs.checked.Lts as lts
 use Rattle.state.proofs.judged.Reads as judged-reads
 
 returns : tie.Need-returns

@@ -4,8 +4,6 @@ use Rattle.state.specs.SecureLaws.{secure-fails, secure-rest}
 use borrow.Author.Needs.{needs}
 use Rattle.state.proofs.is_secure.Statement.{statement}
 use Rattle.state.proofs.is_secure.Tie as tie
-use Rattle.state.proofs.is_secure.Reads as reads
-use Rattle.state.proofs.is_secure.Lts as lts
 use Rattle.state.proofs.secure.entities_secure.Reads as entities-secure-reads
 use Rattle.state.proofs.secure.users_secure.Reads as users-secure-reads
 

@@ -4,8 +4,6 @@ use Rattle.model.specs.State.Check.{judge}
 use borrow.Author.Needs.{needs}
 use Rattle.state.proofs.judged.Statement.{statement}
 use Rattle.state.proofs.judged.Tie as tie
-use Rattle.state.proofs.judged.Reads as reads
-use Rattle.state.proofs.judged.Lts as lts
 use Rattle.state.proofs.is_secure.Reads as is-secure-reads
 use Rattle.state.proofs.well_formed.Reads as well-formed-reads
 

@@ -6,8 +6,6 @@ use Rattle.state.specs.PassLaws.{devices-fail, entities-fail, tree-left,
 use borrow.Author.Needs.{needs}
 use Rattle.state.proofs.well_formed.Statement.{statement}
 use Rattle.state.proofs.well_formed.Tie as tie
-use Rattle.state.proofs.well_formed.Reads as reads
-use Rattle.state.proofs.well_formed.Lts as lts
 use Rattle.state.proofs.entities.entities_fine.Reads as entities-fine-reads
 use Rattle.state.proofs.tree.tree_fine.Reads as tree-fine-reads
 use Rattle.state.proofs.users.devices_fine.Reads as devices-fine-reads

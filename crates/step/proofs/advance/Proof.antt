@@ -7,7 +7,7 @@ use Rattle.step.proofs.advance.Tie as tie
 use Rattle.step.proofs.advance.Reads as reads
 use Rattle.step.proofs.advance.Lts as lts
 use Rattle.step.proofs.attend.Reads as attend-reads
-use Rattle.tables.proofs.users.present.Reads as present-reads
+use Rattle.tables.proofs.present.Reads as present-reads
 
 shared-slice-read-n : tie.Need-shared-slice-read-n
 shared-slice-read-n c = search needs

@@ -11,7 +11,7 @@ use Rattle.ladder.proofs.form.well_made.Reads as well-made-reads
 use Rattle.ladder.proofs.refusal.refuse.Reads as refuse-reads
 use Rattle.step.proofs.noticed.Reads as noticed-reads
 use Rattle.step.proofs.serve.Reads as serve-reads
-use Rattle.tables.proofs.users.device.Reads as device-reads
+use Rattle.tables.proofs.device.Reads as device-reads
 
 shared-slice-read-op : tie.Need-shared-slice-read-op
 shared-slice-read-op c = search needs

@@ -1,6 +1,6 @@
 //! The disclosure list by its meaning [rule 10.3]: nothing here knows how a reference is read or what keeps an entity off the list.
 use generate::layout::{
-    answer, asked, entity_base, operation, shown, user, user_base, ENTITIES, ENTITY_WORDS, ENTRY_WORDS, NAMES, PLACES,
+    entity_base, op, refusal, request, shown, user, user_base, ENTITIES, ENTITY_WORDS, ENTRY_WORDS, NAMES, PLACES,
     REQUEST_WORDS, USER_WORDS,
 };
 use ordinary::Right;
@@ -37,9 +37,9 @@ impl<'a> Asking<'a> {
     pub fn new(step: Step, tables: &'a [u32], asker: u32) -> Asking<'a> {
         let record = user_base(asker);
         let mut request = [0; REQUEST_WORDS];
-        request[asked::USER] = asker;
-        request[asked::OPERATION] = operation::SHOW;
-        request[asked::A] = shown::VALUE | shown::LABEL;
+        request[request::USER] = asker;
+        request[request::OPERATION] = op::SHOW;
+        request[request::A] = shown::VALUE | shown::LABEL;
         let device = entity_base(tables[record + user::DEVICE]);
         Asking {
             step,
@@ -55,7 +55,7 @@ impl<'a> Asking<'a> {
 
     /// Answers for one reference, a length and four names; then puts the tables back.
     pub fn ask(&mut self, reference: &[u32]) -> u32 {
-        self.request[asked::FIRST..asked::SECOND].copy_from_slice(reference);
+        self.request[request::FIRST..request::SECOND].copy_from_slice(reference);
         let given = (self.step)(&mut self.tables, &self.request);
         self.put_back(self.record, USER_WORDS);
         self.put_back(self.device, ENTITY_WORDS);
@@ -74,7 +74,7 @@ impl<'a> Asking<'a> {
         if is_listed(given) {
             self.entries.extend_from_slice(&reference);
         }
-        if length == NAMES as usize || (self.cut_short && given == answer::NO_SUCH_NAME) {
+        if length == NAMES as usize || (self.cut_short && given == refusal::NO_SUCH_NAME) {
             return;
         }
         reference[0] += 1;
@@ -99,7 +99,7 @@ impl<'a> Asking<'a> {
 
 /// Is a reference on the list whose show is answered so?
 pub fn is_listed(given: u32) -> bool {
-    given == answer::ACCEPTED || given == answer::NO_ROOM
+    given == refusal::ACCEPTED || given == refusal::NO_ROOM
 }
 
 /// The list that follows from the ordinary step, asked about every reference.

@@ -2,7 +2,7 @@
 use super::difference::Difference;
 use super::lent::Lent;
 use crate::side::{ByHand, Side};
-use generate::layout::{answer, asked, user, user_base, NOTICE_WORDS};
+use generate::layout::{refusal, request, user, user_base, NOTICE_WORDS, STEP_MOST};
 use ordinary::Reply;
 
 /// Checks and steps of both desks, with what was lent for the last one.
@@ -28,7 +28,7 @@ impl<'a> Calls<'a> {
         self.proved.check(tables);
         let complaint = if self.ordinary.reply != self.proved.reply {
             "the answers differ"
-        } else if self.proved.reply.answer > answer::NOT_SECURE || self.proved.reply.number != 0 {
+        } else if self.proved.reply.answer > refusal::NOT_SECURE || self.proved.reply.number != 0 {
             "an answer that no check gives"
         } else if !self.ordinary.tables.holds(tables) || !self.proved.tables.holds(tables) {
             "the check wrote to its tables or beside them"
@@ -58,7 +58,7 @@ impl<'a> Calls<'a> {
         let Reply { answer, number } = proved.reply;
         if ordinary.reply != proved.reply {
             Some("the answers differ")
-        } else if answer > answer::LAST_OF_STEP || number != 0 {
+        } else if answer > STEP_MOST || number != 0 {
             Some("an answer that no step gives")
         } else if !ordinary.beside.holds(request) || !proved.beside.holds(request) {
             Some("the request or a word beside it was written to")
@@ -84,10 +84,10 @@ impl<'a> Calls<'a> {
 /// On refusals 1 to 4 nothing changes, on 5 to 16 nothing but the requester's notice.
 fn leaves_what_it_may_not_touch(given: u32, before: &[u32], after: &[u32], request: &[u32]) -> bool {
     match given {
-        answer::ACCEPTED => true,
-        answer::BAD_LENGTH..=answer::UNKNOWN_USER => before == after,
+        refusal::ACCEPTED => true,
+        refusal::BAD_LENGTH..=refusal::UNKNOWN_REQUESTER => before == after,
         _ => {
-            let notice = user_base(request[asked::USER]) + user::HELD;
+            let notice = user_base(request[request::USER]) + user::HELD;
             let behind = notice + NOTICE_WORDS;
             before[..notice] == after[..notice] && before[behind..] == after[behind..]
         }

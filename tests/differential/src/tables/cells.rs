@@ -1,11 +1,11 @@
 //! Which answers the steps of a run gave, by operation, and whether these are the ones that can be given.
 use crate::outcome::Out;
-use generate::layout::{answer, asked, OPERATIONS};
+use generate::layout::{refusal, request, OPERATION_MOST, STEP_MOST};
 
 /// Answers 0 to 16.
-const COLUMNS: usize = answer::LAST_OF_STEP as usize + 1;
+const COLUMNS: usize = STEP_MOST as usize + 1;
 /// The operations, and before them one row for whatever is none.
-const ROWS: usize = OPERATIONS as usize + 1;
+const ROWS: usize = OPERATION_MOST as usize + 1;
 
 /// What an operation asks for; from this it follows which answers it can get.
 struct Row {
@@ -52,24 +52,24 @@ fn can_be(operation: usize, given: usize) -> bool {
     let row = &TABLE[operation];
     match given as u32 {
         // Something that is no operation ends at the form of the request.
-        answer::ACCEPTED => operation != 0,
+        refusal::ACCEPTED => operation != 0,
         // Lengths, tables, requester and form are judged whatever is asked.
-        answer::BAD_LENGTH..=answer::BAD_REQUEST => true,
+        refusal::BAD_LENGTH..=refusal::BAD_REQUEST => true,
         // Only a login and an acknowledgement are open to somebody who is off.
-        answer::NOT_LOGGED_ON => operation != 0 && row.name != "login" && row.name != "acknowledge",
+        refusal::NOT_LOGGED_ON => operation != 0 && row.name != "login" && row.name != "acknowledge",
         // These are about operands: nowhere, no triple, behind a mark. A login gets 9 too: what it names can lie behind a mark, although no
         // device does, since the kind is judged later.
-        answer::NO_SUCH_NAME..=answer::MARKED_PATH => row.operands > 0,
+        refusal::NO_SUCH_NAME..=refusal::MARKED => row.operands > 0,
         // Any kind does for a grant and a revocation.
-        answer::WRONG_KIND => row.sorted,
+        refusal::WRONG_KIND => row.sorted,
         _ => row.own.contains(&given),
     }
 }
 
 /// The row of a request, which may be too short to have an operation.
 fn row_of(request: &[u32]) -> usize {
-    match request.get(asked::OPERATION) {
-        Some(&operation) if operation <= OPERATIONS => operation as usize,
+    match request.get(request::OPERATION) {
+        Some(&operation) if operation <= OPERATION_MOST => operation as usize,
         _ => 0,
     }
 }
@@ -92,7 +92,7 @@ impl Cells {
 
     /// How many steps were accepted.
     pub fn accepted(&self) -> u64 {
-        self.counts.iter().map(|row| row[answer::ACCEPTED as usize]).sum()
+        self.counts.iter().map(|row| row[refusal::ACCEPTED as usize]).sum()
     }
 
     /// How many cells were reached that can be.

@@ -1,7 +1,7 @@
 //! Corners of the rules that a run must have been to: a cell of operation and answer says nothing of them.
 use crate::outcome::Out;
 use generate::layout::{
-    answer, asked, at_most, entity, kind, operation, role, triple, user, ENTITIES, MAX_COUNT, NAMES, OPERATIONS,
+    at_most, entity, kind, op, refusal, request, role, triple, user, ENTITIES, MISSED_MOST, NAMES, OPERATION_MOST,
     PLACES, TRIPLES,
 };
 use generate::view::{contents, entity_record, is_full_container, place_in, triples, user_record, Holders};
@@ -17,22 +17,22 @@ pub struct Done<'a> {
 impl Done<'_> {
     /// Was it this operation, and answered so?
     fn is(&self, operation: u32, given: u32) -> bool {
-        self.request[asked::OPERATION] == operation && self.given == given
+        self.request[request::OPERATION] == operation && self.given == given
     }
 
     /// Was it this operation, and accepted?
     fn accepted(&self, operation: u32) -> bool {
-        self.is(operation, answer::ACCEPTED)
+        self.is(operation, refusal::ACCEPTED)
     }
 
     /// Was it refused so that a notice is left?
     fn is_refused(&self) -> bool {
-        self.given >= answer::BAD_REQUEST
+        self.given >= refusal::BAD_REQUEST
     }
 
     /// The requester's record before.
     fn requester(&self) -> &[u32] {
-        user_record(self.before, self.request[asked::USER])
+        user_record(self.before, self.request[request::USER])
     }
 
     /// Did the requester act with a role?
@@ -49,17 +49,17 @@ impl Done<'_> {
 
     /// The first operand's record before.
     fn first(&self) -> &[u32] {
-        entity_record(self.before, self.operand(asked::FIRST))
+        entity_record(self.before, self.operand(request::FIRST))
     }
 
     /// The second operand's record before.
     fn second(&self) -> &[u32] {
-        entity_record(self.before, self.operand(asked::SECOND))
+        entity_record(self.before, self.operand(request::SECOND))
     }
 
     /// The place of the first operand in its container, and the container's record.
     fn place(&self) -> Option<(u32, &[u32])> {
-        let number = self.operand(asked::FIRST);
+        let number = self.operand(request::FIRST);
         let record = entity_record(self.before, Holders::of(self.before).container_of(number)?);
         Some((place_in(record, number)?, record))
     }
@@ -74,7 +74,7 @@ impl Done<'_> {
 
     /// The triple that a grant or a revocation names.
     fn asked_triple(&self) -> u32 {
-        triple(self.request[asked::A], self.request[asked::B], self.request[asked::C])
+        triple(self.request[request::A], self.request[request::B], self.request[request::C])
     }
 
     /// Had the operand that triple before?
@@ -84,13 +84,13 @@ impl Done<'_> {
 
     /// Was the level asked for strictly lower than the old one?
     fn is_lower_than_first(&self) -> bool {
-        let (new, old) = (self.request[asked::A], self.first()[entity::LEVEL]);
+        let (new, old) = (self.request[request::A], self.first()[entity::LEVEL]);
         new != old && at_most(new, old)
     }
 
     /// Were the level asked for and the old one incomparable?
     fn is_beside_first(&self) -> bool {
-        let (new, old) = (self.request[asked::A], self.first()[entity::LEVEL]);
+        let (new, old) = (self.request[request::A], self.first()[entity::LEVEL]);
         !at_most(new, old) && !at_most(old, new)
     }
 }
@@ -104,75 +104,78 @@ const CORNERS: [Corner; 26] = [
         d.is_refused() && d.requester()[user::HELD] != 0 && d.requester()[user::HELD] != d.given
     }),
     ("a refusal where nothing is held [8.2]", |d| d.is_refused() && d.requester()[user::HELD] == 0),
-    ("a refusal that the count has no number for [8.2]", |d| d.is_refused() && d.requester()[user::COUNT] == MAX_COUNT),
-    ("a first refusal of what is no operation [8.2]", |d| {
-        d.requester()[user::HELD] == 0 && d.is_refused() && !(1..=OPERATIONS).contains(&d.request[asked::OPERATION])
+    ("a refusal where the most are missed already [8.2]", |d| {
+        d.is_refused() && d.requester()[user::MISSED] == MISSED_MOST
     }),
-    ("four names, accepted [5.2]", |d| d.given == answer::ACCEPTED && d.request[asked::FIRST] == NAMES),
+    ("a first refusal of what is no operation [8.2]", |d| {
+        d.requester()[user::HELD] == 0
+            && d.is_refused()
+            && !(1..=OPERATION_MOST).contains(&d.request[request::OPERATION])
+    }),
+    ("four names, accepted [5.2]", |d| d.given == refusal::ACCEPTED && d.request[request::FIRST] == NAMES),
     ("a reference through a device, accepted [5.3]", |d| {
-        let first = d.request[asked::FIRST + 1];
-        d.given == answer::ACCEPTED
-            && d.request[asked::FIRST] > 1
+        let first = d.request[request::FIRST + 1];
+        d.given == refusal::ACCEPTED
+            && d.request[request::FIRST] > 1
             && entity_record(d.before, first)[entity::KIND] == kind::DEVICE
     }),
     ("an operand that is marked itself, accepted [7.9]", |d| {
-        d.accepted(operation::EDIT)
+        d.accepted(op::EDIT)
             && d.first()[entity::MARK] != 0
             && !at_most(d.first()[entity::LEVEL], d.requester()[user::CLEARANCE])
     }),
-    ("a create that fills the container [6.1]", |d| {
-        d.accepted(operation::CREATE) && d.first()[entity::USED] == PLACES - 1
-    }),
+    ("a create that fills the container [6.1]", |d| d.accepted(op::CREATE) && d.first()[entity::USED] == PLACES - 1),
     ("a create that takes the last number [6.1]", |d| {
-        d.accepted(operation::CREATE) && (1..=ENTITIES).all(|number| entity_record(d.after, number)[entity::KIND] != 0)
+        d.accepted(op::CREATE)
+            && (1..=ENTITIES).all(|number| entity_record(d.after, number)[entity::KIND] != kind::ABSENT)
     }),
     ("a delete with others behind in the container [6.2]", |d| {
-        d.accepted(operation::DELETE) && d.place().map_or(false, |(place, record)| place < record[entity::USED])
+        d.accepted(op::DELETE) && d.place().map_or(false, |(place, record)| place < record[entity::USED])
     }),
-    ("a delete of what is in no container [6.2]", |d| d.accepted(operation::DELETE) && d.place().is_none()),
+    ("a delete of what is in no container [6.2]", |d| d.accepted(op::DELETE) && d.place().is_none()),
     ("a move within one full container [6.3]", |d| {
-        d.accepted(operation::MOVE) && is_full_container(d.second()) && d.place().is_some()
+        d.accepted(op::MOVE) && is_full_container(d.second()) && d.place().is_some()
     }),
-    ("a move of what is in no container [6.3]", |d| d.accepted(operation::MOVE) && d.place().is_none()),
+    ("a move of what is in no container [6.3]", |d| d.accepted(op::MOVE) && d.place().is_none()),
     ("a move from between others into another container [6.3]", |d| {
-        d.accepted(operation::MOVE)
+        d.accepted(op::MOVE)
             && d.place().map_or(false, |(place, record)| place < record[entity::USED] && record != d.second())
     }),
     ("a copy of something to itself [6.5]", |d| {
-        d.accepted(operation::COPY) && d.operand(asked::FIRST) == d.operand(asked::SECOND)
+        d.accepted(op::COPY) && d.operand(request::FIRST) == d.operand(request::SECOND)
     }),
-    ("a strictly lower level, by a downgrader [6.6]", |d| d.accepted(operation::SET_LEVEL) && d.is_lower_than_first()),
+    ("a strictly lower level, by a downgrader [6.6]", |d| d.accepted(op::SET_LEVEL) && d.is_lower_than_first()),
     ("a level beside the old one, without a downgrader [6.6]", |d| {
-        d.accepted(operation::SET_LEVEL) && d.is_beside_first() && !d.has_role(role::DOWNGRADER)
+        d.accepted(op::SET_LEVEL) && d.is_beside_first() && !d.has_role(role::DOWNGRADER)
     }),
     ("a grant of what is there among eight [6.8]", |d| {
-        d.accepted(operation::GRANT) && d.holds_asked_triple() && triples(d.first()).len() == TRIPLES as usize
+        d.accepted(op::GRANT) && d.holds_asked_triple() && triples(d.first()).len() == TRIPLES as usize
     }),
-    ("a revocation of what is not there [6.9]", |d| d.accepted(operation::REVOKE) && !d.holds_asked_triple()),
+    ("a revocation of what is not there [6.9]", |d| d.accepted(op::REVOKE) && !d.holds_asked_triple()),
     ("a revocation with others behind [6.9]", |d| {
-        d.accepted(operation::REVOKE) && d.holds_asked_triple() && triples(d.first()).last() != Some(&d.asked_triple())
+        d.accepted(op::REVOKE) && d.holds_asked_triple() && triples(d.first()).last() != Some(&d.asked_triple())
     }),
     ("a show of what a full screen shows already [6.10]", |d| {
-        d.accepted(operation::SHOW) && d.screen().len() == PLACES as usize
+        d.accepted(op::SHOW) && d.screen().len() == PLACES as usize
     }),
-    ("a logout from a screen that shows something [6.13]", |d| d.accepted(operation::LOGOUT) && !d.screen().is_empty()),
+    ("a logout from a screen that shows something [6.13]", |d| d.accepted(op::LOGOUT) && !d.screen().is_empty()),
     ("current roles of somebody else, by an officer [6.14]", |d| {
-        d.accepted(operation::SET_CURRENT) && d.request[asked::A] != d.request[asked::USER]
+        d.accepted(op::CURRENT_ROLES) && d.request[request::A] != d.request[request::USER]
     }),
     ("a lower level of the own device, without a downgrader [6.18]", |d| {
-        d.accepted(operation::SET_DEVICE_LEVEL)
+        d.accepted(op::DEVICE_LEVEL)
             && d.is_lower_than_first()
-            && d.operand(asked::FIRST) == d.requester()[user::DEVICE]
+            && d.operand(request::FIRST) == d.requester()[user::DEVICE]
             && !d.has_role(role::DOWNGRADER)
     }),
     ("an acknowledgement by somebody who is off [6.20]", |d| {
-        d.accepted(operation::ACKNOWLEDGE) && d.requester()[user::DEVICE] == 0
+        d.accepted(op::ACKNOWLEDGE) && d.requester()[user::DEVICE] == 0
     }),
     ("an acknowledgement of nothing where nothing is held [6.20]", |d| {
-        d.is(operation::ACKNOWLEDGE, answer::NOT_ACKNOWLEDGED)
+        d.is(op::ACKNOWLEDGE, refusal::NOT_ACKNOWLEDGED)
             && d.requester()[user::HELD] == 0
-            && d.request[asked::A] == 0
-            && d.request[asked::B] == 0
+            && d.request[request::A] == 0
+            && d.request[request::B] == 0
     }),
 ];
 

@@ -3,8 +3,8 @@ use super::difference::Difference;
 use super::lent::Lent;
 use crate::guarded::Guarded;
 use crate::side::{ByHand, Side};
-use generate::full::MOST_ENTRIES;
-use generate::layout::{answer, ENTITIES, ENTRY_WORDS, NAMES, PLACES};
+use generate::full::ENTRIES_MOST;
+use generate::layout::{refusal, ENTITIES, ENTRY_WORDS, NAMES, PLACES};
 use ordinary::Reply;
 
 /// Lists of both desks, with what was lent for the last one.
@@ -22,7 +22,7 @@ impl<'a> ListCalls<'a> {
     /// The entries of the last list, if it was answered 0.
     pub fn entries(&self) -> &[u32] {
         match self.proved.reply {
-            Reply { answer: answer::ACCEPTED, number } => &self.proved.beside.words()[..number as usize * ENTRY_WORDS],
+            Reply { answer: refusal::ACCEPTED, number } => &self.proved.beside.words()[..number as usize * ENTRY_WORDS],
             _ => &[],
         }
     }
@@ -60,15 +60,15 @@ impl<'a> ListCalls<'a> {
 fn fault(reply: Reply, room: &Guarded<u32>, length: usize) -> Option<&'static str> {
     let need = reply.number as usize * ENTRY_WORDS;
     match reply.answer {
-        _ if reply.number > MOST_ENTRIES => Some("more entries than any tables can give"),
-        answer::ACCEPTED if need > length => Some("more entries than the room can hold"),
-        answer::ACCEPTED if !room.untouched_from(need) => Some("words behind the entries were written to"),
-        answer::ACCEPTED if !in_order(&room.words()[..need]) => Some("entries out of shape or out of order"),
-        answer::ACCEPTED => None,
+        _ if reply.number > ENTRIES_MOST => Some("more entries than any tables can give"),
+        refusal::ACCEPTED if need > length => Some("more entries than the room can hold"),
+        refusal::ACCEPTED if !room.untouched_from(need) => Some("words behind the entries were written to"),
+        refusal::ACCEPTED if !in_order(&room.words()[..need]) => Some("entries out of shape or out of order"),
+        refusal::ACCEPTED => None,
         _ if !room.untouched_from(0) => Some("the room was written to on a refusal"),
-        answer::ROOM_TOO_SHORT if need <= length => Some("the room would have sufficed"),
-        answer::ROOM_TOO_SHORT => None,
-        answer::BAD_LENGTH..=answer::UNKNOWN_USER | answer::NOT_LOGGED_ON if reply.number == 0 => None,
+        refusal::TOO_SHORT if need <= length => Some("the room would have sufficed"),
+        refusal::TOO_SHORT => None,
+        refusal::BAD_LENGTH..=refusal::UNKNOWN_REQUESTER | refusal::NOT_LOGGED_ON if reply.number == 0 => None,
         _ => Some("an answer that no list gives"),
     }
 }

@@ -1,24 +1,24 @@
 //! What was seen of the lists in a run, and whether anything is missing.
 use crate::outcome::Out;
-use generate::layout::{answer, entity, kind, user, ENTRY_WORDS, NAMES, PLACES};
+use generate::layout::{entity, kind, refusal, user, ENTRY_WORDS, NAMES, PLACES};
 use generate::view::{contents, entity_record, user_record};
 use ordinary::Reply;
 
 /// What a list can answer.
 const ANSWERS: [u32; 7] = [
-    answer::ACCEPTED,
-    answer::BAD_LENGTH,
-    answer::NOT_WELL_FORMED,
-    answer::NOT_SECURE,
-    answer::UNKNOWN_USER,
-    answer::NOT_LOGGED_ON,
-    answer::ROOM_TOO_SHORT,
+    refusal::ACCEPTED,
+    refusal::BAD_LENGTH,
+    refusal::NOT_WELL_FORMED,
+    refusal::NOT_SECURE,
+    refusal::UNKNOWN_REQUESTER,
+    refusal::NOT_LOGGED_ON,
+    refusal::TOO_SHORT,
 ];
 
 /// Counts of what lists gave.
 #[derive(Default)]
 pub struct ListTally {
-    answers: [u64; answer::ROOM_TOO_SHORT as usize + 1],
+    answers: [u64; refusal::TOO_SHORT as usize + 1],
     one_word_short: u64,
     one_entry_short: u64,
     without_entries: u64,
@@ -51,11 +51,11 @@ impl ListTally {
     pub fn count(&mut self, reply: Reply, length: usize) {
         self.answers[reply.answer as usize] += 1;
         let need = reply.number as usize * ENTRY_WORDS;
-        if reply.answer == answer::ROOM_TOO_SHORT {
+        if reply.answer == refusal::TOO_SHORT {
             self.one_word_short += u64::from(length + 1 == need);
             self.one_entry_short += u64::from(length + ENTRY_WORDS == need);
         }
-        if reply.answer == answer::ACCEPTED {
+        if reply.answer == refusal::ACCEPTED {
             self.without_entries += u64::from(reply.number == 0);
             self.longest = self.longest.max(reply.number);
         }

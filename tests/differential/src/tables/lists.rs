@@ -4,7 +4,7 @@ use super::difference::Difference;
 use super::list_call::ListCalls;
 use super::list_tally::ListTally;
 use super::samples::some_references;
-use generate::full::MOST_ENTRIES;
+use generate::full::ENTRIES_MOST;
 use generate::layout::{user, ENTRY_WORDS, USERS};
 use generate::view::{any_of, is_off, is_on, users_where};
 use generate::Dice;
@@ -87,7 +87,7 @@ impl<'a> Lists<'a> {
             Some(asker) => asker,
             None => return Ok(()),
         };
-        self.one(tables, asker, MOST_ENTRIES as usize * ENTRY_WORDS)?;
+        self.one(tables, asker, ENTRIES_MOST as usize * ENTRY_WORDS)?;
         self.tally.count_entries(tables, asker, self.calls.entries());
         if by_ordinary_step(tables, asker).as_deref() != Some(self.calls.entries()) {
             return Err(

@@ -5,15 +5,15 @@ use super::s1::LISTS;
 use crate::guarded::Guarded;
 use crate::outcome::{Out, Outcome};
 use crate::side::Side;
-use generate::full::{full, fullest, MOST_ENTRIES};
-use generate::layout::{answer, entity, entity_base, user, user_base, ENTRY_WORDS, MAX_LEVEL, TABLE_WORDS, USERS};
+use generate::full::{full, fullest, ENTRIES_MOST};
+use generate::layout::{entity, entity_base, refusal, user, user_base, ENTRY_WORDS, LEVEL_MOST, TABLE_WORDS, USERS};
 use generate::{s1, Dice};
 use ordinary::{Reply, Right};
 
 /// Words more than are needed, at the most.
 const PAST: usize = 2 * ENTRY_WORDS + 1;
 /// The longest room that is lent.
-const LONGEST: usize = (MOST_ENTRIES as usize + 10) * ENTRY_WORDS;
+const ROOM_MOST: usize = (ENTRIES_MOST as usize + 10) * ENTRY_WORDS;
 /// Of full tables; the first are the fullest.
 const FULL_TABLES: u32 = 4;
 /// So many users of each are asked for, one after another from any of them on.
@@ -42,15 +42,15 @@ struct Progress {
 impl Wanted {
     /// What is to be answered in a room of so many words.
     fn reply_in(&self, length: usize) -> Reply {
-        let fits = self.answer != answer::ACCEPTED || length >= self.entries.len();
-        let answer = if fits { self.answer } else { answer::ROOM_TOO_SHORT };
+        let fits = self.answer != refusal::ACCEPTED || length >= self.entries.len();
+        let answer = if fits { self.answer } else { refusal::TOO_SHORT };
         Reply { answer, number: (self.entries.len() / ENTRY_WORDS) as u32 }
     }
 
     /// Was it answered right, and nothing written but the entries?
     fn is_met(&self, reply: Reply, tables: &Guarded<u32>, room: &Guarded<u32>) -> bool {
         let wanted = self.reply_in(room.words().len());
-        let written = if wanted.answer == answer::ACCEPTED { &self.entries[..] } else { &[] };
+        let written = if wanted.answer == refusal::ACCEPTED { &self.entries[..] } else { &[] };
         reply == wanted
             && tables.holds(&self.tables)
             && room.words().starts_with(written)
@@ -74,7 +74,7 @@ impl Progress {
             room.empty(length);
             let reply = side.list(tables.lent(), wanted.user, room.lent());
             self.calls += 1;
-            self.too_short += u64::from(wanted.reply_in(length).answer == answer::ROOM_TOO_SHORT);
+            self.too_short += u64::from(wanted.reply_in(length).answer == refusal::TOO_SHORT);
             if !wanted.is_met(reply, &tables, &room) {
                 let reply = format!("answer {} (number {})", reply.answer, reply.number);
                 let desk = side.name();
@@ -87,7 +87,7 @@ impl Progress {
     fn try_rooms(&mut self, wanted: &Wanted) {
         let most = wanted.entries.len() + PAST;
         for side in [Side::Ordinary(&Right), Side::Proved] {
-            self.try_desk(wanted, side, (0..=most).chain([LONGEST]));
+            self.try_desk(wanted, side, (0..=most).chain([ROOM_MOST]));
         }
         self.most = self.most.max(wanted.entries.len());
         self.out.line(format_args!(
@@ -96,7 +96,7 @@ impl Progress {
             wanted.answer,
             wanted.entries.len() / ENTRY_WORDS,
             most,
-            LONGEST
+            ROOM_MOST
         ));
     }
 
@@ -120,21 +120,21 @@ impl Progress {
         for count in [0, 1, TABLE_WORDS - 1, TABLE_WORDS + 1] {
             let mut tables = s1();
             tables.resize(count, 0);
-            self.expect_refusal(format!("S1, {} words of tables", count), tables, answer::BAD_LENGTH);
+            self.expect_refusal(format!("S1, {} words of tables", count), tables, refusal::BAD_LENGTH);
         }
     }
 
     /// S1 with one word changed so that it is no longer well-formed, or no longer secure.
     fn try_other_words(&mut self) {
         let changes = [
-            ("spare word of user 3", user_base(3) + user::SPARE, 1, answer::NOT_WELL_FORMED),
-            ("4 in itself", entity_base(4) + entity::CONTENTS + 1, 4, answer::NOT_WELL_FORMED),
-            ("a used place of 7 empty", entity_base(7) + entity::USED, 1, answer::NOT_WELL_FORMED),
-            ("users 1 and 2 on one device", user_base(1) + user::DEVICE, 2, answer::NOT_WELL_FORMED),
-            ("the last word of all not 0", TABLE_WORDS - 1, 1, answer::NOT_WELL_FORMED),
-            ("user 2 with a role without authority", user_base(2) + user::CURRENT, 1, answer::NOT_SECURE),
-            ("device 2 above its maximum", entity_base(2) + entity::MAXIMUM, 256, answer::NOT_SECURE),
-            ("5 above what holds it", entity_base(5) + entity::LEVEL, MAX_LEVEL, answer::NOT_SECURE),
+            ("spare word of user 3", user_base(3) + user::SPARE, 1, refusal::NOT_WELL_FORMED),
+            ("4 in itself", entity_base(4) + entity::CONTENTS + 1, 4, refusal::NOT_WELL_FORMED),
+            ("a used place of 7 empty", entity_base(7) + entity::USED, 1, refusal::NOT_WELL_FORMED),
+            ("users 1 and 2 on one device", user_base(1) + user::DEVICE, 2, refusal::NOT_WELL_FORMED),
+            ("the last word of all not 0", TABLE_WORDS - 1, 1, refusal::NOT_WELL_FORMED),
+            ("user 2 with a role without authority", user_base(2) + user::CURRENT, 1, refusal::NOT_SECURE),
+            ("device 2 above its maximum", entity_base(2) + entity::MAXIMUM, 256, refusal::NOT_SECURE),
+            ("5 above what holds it", entity_base(5) + entity::LEVEL, LEVEL_MOST, refusal::NOT_SECURE),
         ];
         for (what, word, value, answer) in changes {
             let mut tables = s1();
@@ -161,15 +161,15 @@ impl Progress {
         for user in (0..USERS_OF_EACH).map(|i| 1 + (first + i) % USERS) {
             let what = format!("full tables {}, user {}", number, user);
             if let Some(entries) = self.by_both_steps(&what, &tables, user) {
-                if number == 1 && entries.len() != MOST_ENTRIES as usize * ENTRY_WORDS {
+                if number == 1 && entries.len() != ENTRIES_MOST as usize * ENTRY_WORDS {
                     self.complain(format!("{}: not as many entries as there can be", what));
                 }
-                self.try_rooms(&Wanted { what, tables: tables.clone(), user, answer: answer::ACCEPTED, entries });
+                self.try_rooms(&Wanted { what, tables: tables.clone(), user, answer: refusal::ACCEPTED, entries });
             }
         }
         // Nobody is off in full tables, so 4 is the refusal there.
         let (what, user) = (format!("full tables {}, user {}", number, USERS + 1), USERS + 1);
-        self.try_rooms(&Wanted { what, tables, user, answer: answer::UNKNOWN_USER, entries: Vec::new() });
+        self.try_rooms(&Wanted { what, tables, user, answer: refusal::UNKNOWN_REQUESTER, entries: Vec::new() });
     }
 }
 

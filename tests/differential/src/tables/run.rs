@@ -7,7 +7,7 @@ use super::list_call::ListCalls;
 use super::lists::Lists;
 use super::Comparison;
 use crate::guarded;
-use generate::layout::{answer, asked, OPERATIONS, REQUEST_WORDS, TABLE_WORDS, USERS};
+use generate::layout::{refusal, request, OPERATION_MOST, REQUEST_WORDS, TABLE_WORDS, USERS};
 use generate::{dice_for, Dice};
 
 /// Long enough for tables to fill and to empty.
@@ -34,7 +34,7 @@ pub struct Run<'a> {
     pub cells: Cells,
     pub corners: Corners,
     /// The state check, by answer.
-    pub checks: [u64; answer::NOT_SECURE as usize + 1],
+    pub checks: [u64; refusal::NOT_SECURE as usize + 1],
     dice: Dice,
     list_dice: Dice,
     /// The tables in hand, which stay good, and the number of the request to them, from 1.
@@ -84,7 +84,7 @@ impl<'a> Run<'a> {
     fn see_that_good(&mut self) -> Result<(), Difference> {
         let tables = self.tables.clone();
         match self.check(&tables)? {
-            answer::ACCEPTED => Ok(()),
+            refusal::ACCEPTED => Ok(()),
             _ => Err(Difference::new("check", "tables meant to be good are not")),
         }
     }
@@ -106,12 +106,12 @@ impl<'a> Run<'a> {
     /// A step on the tables in hand, which are then those that it leaves.
     fn good_step(&mut self, request: &[u32]) -> Result<(), Difference> {
         let given = self.calls.step(&self.tables, request)?;
-        if (answer::BAD_LENGTH..=answer::NOT_SECURE).contains(&given) {
+        if (refusal::BAD_LENGTH..=refusal::NOT_SECURE).contains(&given) {
             return Err(Difference::new("step", "the step before left tables that are not good"));
         }
         self.cells.count(request, given);
         self.steps += 1;
-        if given != answer::UNKNOWN_USER {
+        if given != refusal::UNKNOWN_REQUESTER {
             self.corners.count(&Done { before: &self.tables, after: self.calls.left(), request, given });
         }
         self.tables.copy_from_slice(self.calls.left());
@@ -146,7 +146,7 @@ impl<'a> Run<'a> {
         let mut request = request.to_vec();
         generate::damage(&mut self.dice, &mut tables);
         if self.dice.chance(10) {
-            request[asked::OPERATION] = self.dice.below(OPERATIONS + 2);
+            request[request::OPERATION] = self.dice.below(OPERATION_MOST + 2);
         }
         self.check(&tables)?;
         self.step(&tables, &request)?;
@@ -167,7 +167,7 @@ impl<'a> Run<'a> {
     /// Steps on these tables with requests of all lengths that are tried.
     fn other_requests(&mut self, tables: &[u32]) -> Result<(), Difference> {
         for length in REQUEST_LENGTHS {
-            let operation = self.dice.between(1, OPERATIONS);
+            let operation = self.dice.between(1, OPERATION_MOST);
             let mut request = generate::request_for(&mut self.dice, &self.tables, operation).to_vec();
             request.push(0);
             self.step(tables, &request[..length])?;
@@ -182,9 +182,9 @@ impl<'a> Run<'a> {
         generate::random_words(&mut self.dice, &mut request);
         self.step(&good, &request)?;
         // With a good requester, and then a good operation: most would end at rung 4 and 5 else.
-        request[asked::USER] = self.dice.between(1, USERS);
+        request[request::USER] = self.dice.between(1, USERS);
         self.step(&good, &request)?;
-        request[asked::OPERATION] = self.dice.between(1, OPERATIONS);
+        request[request::OPERATION] = self.dice.between(1, OPERATION_MOST);
         self.step(&good, &request)?;
         let mut tables = good;
         generate::random_words(&mut self.dice, &mut tables);

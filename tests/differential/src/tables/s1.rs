@@ -5,7 +5,7 @@ use crate::guarded::Guarded;
 use crate::outcome::{Out, Outcome};
 use crate::side::Side;
 use generate::layout::{
-    answer, asked, entity, entity_base, kind, operation, type_of, user, user_base, ENTRY_WORDS, REQUEST_WORDS,
+    entity, entity_base, kind, op, refusal, request, types, user, user_base, ENTRY_WORDS, REQUEST_WORDS,
 };
 use generate::{s1, s1_unmarked};
 use ordinary::{Reply, Right};
@@ -65,52 +65,52 @@ pub const LISTS: [ListCase; 8] = [
 /// A request with these operands and arguments.
 pub fn request(requester: u32, operation: u32, operands: [&[u32]; 2], arguments: [u32; 2]) -> Words {
     let mut words = [0; REQUEST_WORDS];
-    words[asked::USER] = requester;
-    words[asked::OPERATION] = operation;
-    for (at, names) in [asked::FIRST, asked::SECOND].iter().zip(operands) {
+    words[request::USER] = requester;
+    words[request::OPERATION] = operation;
+    for (at, names) in [request::FIRST, request::SECOND].iter().zip(operands) {
         words[*at] = names.len() as u32;
         words[at + 1..at + 1 + names.len()].copy_from_slice(names);
     }
-    words[asked::A] = arguments[0];
-    words[asked::B] = arguments[1];
+    words[request::A] = arguments[0];
+    words[request::B] = arguments[1];
     words
 }
 
 /// A show with a = 3, unless it says otherwise.
 pub fn show(requester: u32, names: &[u32], sum: u32) -> Words {
-    request(requester, operation::SHOW, [names, &[]], [sum, 0])
+    request(requester, op::SHOW, [names, &[]], [sum, 0])
 }
 
 /// A show whose first reference claims five names.
 fn show_of_length_5() -> Words {
     let mut words = show(2, &[5], 3);
-    words[asked::FIRST] = 5;
+    words[request::FIRST] = 5;
     words
 }
 
 /// User 1 releases 6.
 fn release_6() -> Words {
-    request(1, operation::RELEASE, [&[6], &[]], [0, 0])
+    request(1, op::RELEASE, [&[6], &[]], [0, 0])
 }
 
 /// User 2 copies 5 to 7.
 fn copy_5_to_7() -> Words {
-    request(2, operation::COPY, [&[5], &[7]], [0, 0])
+    request(2, op::COPY, [&[5], &[7]], [0, 0])
 }
 
 /// User 2 creates an object in 7.
 fn create_in_7(level: u32) -> Words {
-    request(2, operation::CREATE, [&[7], &[]], [1, level])
+    request(2, op::CREATE, [&[7], &[]], [1, level])
 }
 
 /// User 1 sets the level of 7.
 fn level_of_7(level: u32) -> Words {
-    request(1, operation::SET_LEVEL, [&[7], &[]], [level, 0])
+    request(1, op::SET_LEVEL, [&[7], &[]], [level, 0])
 }
 
 /// User 2 acknowledges.
-fn acknowledge(refusal: u32, count: u32) -> Words {
-    request(2, operation::ACKNOWLEDGE, [&[], &[]], [refusal, count])
+fn acknowledge(held: u32, missed: u32) -> Words {
+    request(2, op::ACKNOWLEDGE, [&[], &[]], [held, missed])
 }
 
 /// The cases that are one request each to S1 as it is.
@@ -128,7 +128,7 @@ fn single_requests() -> Vec<(&'static str, Words, u32)> {
         ("user 1 level of 7 to 0", level_of_7(0), 12),
         ("user 1 level of 7 to 1", level_of_7(1), 0),
         ("user 3 show 5", show(3, &[5], 3), 6),
-        ("user 3 login 3", request(3, operation::LOGIN, [&[3], &[]], [0, 0]), 0),
+        ("user 3 login 3", request(3, op::LOGIN, [&[3], &[]], [0, 0]), 0),
         ("user 9 show 5", show(9, &[5], 3), 4),
     ]
 }
@@ -198,20 +198,20 @@ impl Trial<'_> {
     /// The release that is accepted after a change of roles.
     fn check_release(&mut self) {
         self.tables = s1();
-        let given = self.ask(&request(1, operation::SET_CURRENT, [&[], &[]], [1, 5]));
+        let given = self.ask(&request(1, op::CURRENT_ROLES, [&[], &[]], [1, 5]));
         self.expect("user 1 current roles 5", given, 0);
         let given = self.ask(&release_6());
         self.expect("user 1 release 6 after that", given, 0);
-        self.expect("type of 6 after that", self.entity(6, entity::TYPE), type_of::RELEASED);
+        self.expect("type of 6 after that", self.entity(6, entity::TYPE), types::RELEASED);
         self.expect("releaser of 6 after that", self.entity(6, entity::RELEASER), 1);
     }
 
-    /// Asks user 2's request, and expects the answer and what is then held and how often.
+    /// Asks user 2's request, and expects the answer and what is then held and how many were missed.
     fn expect_notice(&mut self, what: &str, request: &Words, wanted: [u32; 3]) {
         let given = self.ask(request);
         self.expect(what, given, wanted[0]);
         self.expect(&format!("held after {}", what), self.user(2, user::HELD), wanted[1]);
-        self.expect(&format!("count after {}", what), self.user(2, user::COUNT), wanted[2]);
+        self.expect(&format!("missed after {}", what), self.user(2, user::MISSED), wanted[2]);
     }
 
     /// Two refusals, a wrong acknowledgement and a right one.
@@ -240,7 +240,7 @@ impl Trial<'_> {
         let wanted = Reply { answer: case.answer, number: case.entries.len() as u32 };
         self.expect_true(case.what, reply == wanted);
         self.expect_true(case.what, room.holds(&words) && lent.holds(&tables));
-        if case.answer == answer::ACCEPTED {
+        if case.answer == refusal::ACCEPTED {
             let by_step = match self.side {
                 Side::Ordinary(_) => by_ordinary_step(&tables, case.user),
                 Side::Proved => by_proved_step(&tables, case.user),

@@ -1,6 +1,6 @@
 //! One call to both desks, and whether each did what the slow texts say, and nothing else.
 
-use generate::layout::{answer, REQUEST_WORDS};
+use generate::layout::{refusal, REQUEST_WORDS};
 use ordinary::Reply;
 
 use super::slow;
@@ -26,14 +26,14 @@ impl Writing<'_> {
     /// What must be answered, and what must then stand at the front of the room [rule 11.3].
     fn expected(&self) -> (Reply, Vec<u8>) {
         if self.count != REQUEST_WORDS {
-            return (Reply { answer: answer::BAD_LENGTH, number: 0 }, Vec::new());
+            return (Reply { answer: refusal::BAD_LENGTH, number: 0 }, Vec::new());
         }
         match slow::write(&self.words[..REQUEST_WORDS]) {
-            None => (Reply { answer: answer::BAD_REQUEST, number: 0 }, Vec::new()),
+            None => (Reply { answer: refusal::BAD_REQUEST, number: 0 }, Vec::new()),
             Some(text) => {
                 let number = text.len() as u32;
                 let fits = text.len() <= self.room;
-                let answer = if fits { answer::ACCEPTED } else { answer::ROOM_TOO_SHORT };
+                let answer = if fits { refusal::ACCEPTED } else { refusal::TOO_SHORT };
                 (Reply { answer, number }, if fits { text } else { Vec::new() })
             }
         }
@@ -71,11 +71,11 @@ impl Reading<'_> {
     /// What must be answered, and what must then stand in the words [rule 11.4].
     fn expected(&self) -> (Reply, Vec<u32>) {
         if self.count != REQUEST_WORDS {
-            return (Reply { answer: answer::BAD_LENGTH, number: 0 }, Vec::new());
+            return (Reply { answer: refusal::BAD_LENGTH, number: 0 }, Vec::new());
         }
         match slow::read(self.text) {
-            Ok(words) => (Reply { answer: answer::ACCEPTED, number: 0 }, words.to_vec()),
-            Err(line) => (Reply { answer: answer::NO_REQUEST, number: line as u32 }, Vec::new()),
+            Ok(words) => (Reply { answer: refusal::ACCEPTED, number: 0 }, words.to_vec()),
+            Err(line) => (Reply { answer: refusal::NOT_A_REQUEST, number: line as u32 }, Vec::new()),
         }
     }
 

@@ -1,12 +1,12 @@
 //! Requests to write as text: words that have one, and words that have none [rule 11.3].
 
-use generate::layout::{asked, NAMES, REQUEST_WORDS};
+use generate::layout::{request, NAMES, REQUEST_WORDS};
 use generate::Dice;
 
 pub type Words = [u32; REQUEST_WORDS];
 
 /// Digits of the largest number.
-const MOST_DIGITS: u32 = 10;
+const DIGITS_MOST: u32 = 10;
 
 /// Numbers beside which a digit comes or goes, and the largest.
 const EDGES: [u32; 10] = [0, 1, 9, 10, 99, 100, 999_999_999, 1_000_000_000, u32::MAX - 1, u32::MAX];
@@ -20,7 +20,7 @@ fn number(dice: &mut Dice) -> u32 {
     if dice.chance(30) {
         return dice.one_of(&EDGES);
     }
-    match dice.below(MOST_DIGITS) {
+    match dice.below(DIGITS_MOST) {
         0 => dice.below(10),
         zeros => {
             let least = 10_u32.pow(zeros);
@@ -37,17 +37,17 @@ pub fn shortest() -> Words {
 /// The words whose text is the longest that there is.
 pub fn longest() -> Words {
     let mut words = [u32::MAX; REQUEST_WORDS];
-    words[asked::FIRST] = NAMES;
-    words[asked::SECOND] = NAMES;
-    words[asked::SPARE] = 0;
+    words[request::FIRST] = NAMES;
+    words[request::SECOND] = NAMES;
+    words[request::SPARE] = 0;
     words
 }
 
 /// Words that have a text, with numbers of every length in them.
 pub fn good(dice: &mut Dice) -> Words {
     let mut words = longest();
-    words[..asked::SPARE].iter_mut().for_each(|word| *word = number(dice));
-    for at in [asked::FIRST, asked::SECOND] {
+    words[..request::SPARE].iter_mut().for_each(|word| *word = number(dice));
+    for at in [request::FIRST, request::SECOND] {
         let names = dice.below(NAMES + 1);
         words[at] = names;
         words[at + 1 + names as usize..=at + NAMES as usize].fill(0);
@@ -58,13 +58,13 @@ pub fn good(dice: &mut Dice) -> Words {
 /// Words that have none, for one reason or for several.
 pub fn bad(dice: &mut Dice) -> Words {
     let mut words = good(dice);
-    let at = dice.one_of(&[asked::FIRST, asked::SECOND]);
+    let at = dice.one_of(&[request::FIRST, request::SECOND]);
     match dice.below(5) {
-        0 => words[asked::SPARE] = not_zero(dice),
+        0 => words[request::SPARE] = not_zero(dice),
         1 => words[at] = dice.one_of(&BAD_LENGTHS),
         2 => name_behind(dice, &mut words, at),
         3 => {
-            words[asked::SPARE] = not_zero(dice);
+            words[request::SPARE] = not_zero(dice);
             name_behind(dice, &mut words, at);
         }
         _ => generate::random_words(dice, &mut words),

@@ -18,15 +18,15 @@ use call::{Difference, Reading, Writing};
 use tally::Tally;
 
 /// Rooms of every length up to this are written to; it is some bytes more than the longest text has.
-const MOST_ROOM: usize = 170;
+const ROOM_MOST: usize = 170;
 /// From one room for words that have no text to the next.
 const ROOM_STRIDE: usize = 10;
 /// Words in the longest slice that is lent for a request.
-const MOST_WORDS: usize = 20;
+const WORDS_MOST: usize = 20;
 /// From one damaged text that is also read into a slice of any length to the next.
 const LENGTH_STRIDE: usize = 16;
 /// Differences after which a run is given up.
-const MOST_REPORTS: u64 = 5;
+const REPORTS_MOST: u64 = 5;
 
 /// What a run is asked for.
 pub struct Comparison<'a> {
@@ -46,7 +46,7 @@ pub fn run(what: &Comparison, out: Out) -> Outcome {
     let sides = [Side::Ordinary(what.desk), Side::Proved];
     let seed = what.seed;
     out.line(format_args!("texts: seed {}, {} rounds{}", seed, what.rounds, what.options));
-    while done < what.rounds && outcome.differences < MOST_REPORTS {
+    while done < what.rounds && outcome.differences < REPORTS_MOST {
         done += 1;
         let mut round = Round { seed, number: done, dice: dice_for(seed, done), sides, tally: &mut tally };
         if let Err(difference) = round.compare() {
@@ -102,12 +102,12 @@ impl Round<'_> {
 
     /// Words with a text, in rooms of every length.
     fn compare_rooms(&mut self, words: &cases::Words) -> Result<(), Difference> {
-        (0..=MOST_ROOM).try_for_each(|room| self.write(words, REQUEST_WORDS, room))
+        (0..=ROOM_MOST).try_for_each(|room| self.write(words, REQUEST_WORDS, room))
     }
 
     /// Words without one, in rooms of some lengths: 5 comes before 17.
     fn compare_bad_words(&mut self) -> Result<(), Difference> {
-        for room in (0..=MOST_ROOM).step_by(ROOM_STRIDE) {
+        for room in (0..=ROOM_MOST).step_by(ROOM_STRIDE) {
             let bad = cases::bad(&mut self.dice);
             self.write(&bad, REQUEST_WORDS, room)?;
         }
@@ -116,10 +116,10 @@ impl Round<'_> {
 
     /// Slices that are too short or too long, in rooms that are long enough or hardly so: 1 comes before 17.
     fn compare_counts(&mut self, words: &cases::Words) -> Result<(), Difference> {
-        let mut more = [0; MOST_WORDS];
+        let mut more = [0; WORDS_MOST];
         more[..REQUEST_WORDS].copy_from_slice(words);
-        for count in 0..=MOST_WORDS {
-            self.write(&more, count, MOST_ROOM)?;
+        for count in 0..=WORDS_MOST {
+            self.write(&more, count, ROOM_MOST)?;
             self.write(&more, count, count)?;
         }
         Ok(())
@@ -127,7 +127,7 @@ impl Round<'_> {
 
     /// Slices of all lengths for the good text, which a wrong one is refused for before the text is looked at; then each damage.
     fn compare_readers(&mut self, text: &[u8]) -> Result<(), Difference> {
-        for count in 0..=MOST_WORDS {
+        for count in 0..=WORDS_MOST {
             self.read(text, &[], count)?;
         }
         damage::all().enumerate().try_for_each(|(kind, (_, act))| self.compare_damaged(text, kind, *act))
@@ -144,7 +144,7 @@ impl Round<'_> {
                 self.write_again(&text)?;
             }
             if at % LENGTH_STRIDE == 0 {
-                let count = self.dice.below(MOST_WORDS as u32 + 1) as usize;
+                let count = self.dice.below(WORDS_MOST as u32 + 1) as usize;
                 self.read(&text, &good[at..], count)?;
             }
         }

@@ -1,6 +1,6 @@
 //! The request text in the plainest way: a number is whatever prints as these digits, and a line is good if writing its value gives it back.
 
-use generate::layout::{asked, NAMES, REQUEST_WORDS};
+use generate::layout::{request, NAMES, REQUEST_WORDS};
 
 pub const LINES: usize = 7;
 
@@ -15,13 +15,13 @@ enum Place {
 }
 
 const FORM: [(&str, Place); LINES] = [
-    ("user", Place::Number(asked::USER)),
-    ("op", Place::Number(asked::OPERATION)),
-    ("ref", Place::Reference(asked::FIRST)),
-    ("ref2", Place::Reference(asked::SECOND)),
-    ("a", Place::Number(asked::A)),
-    ("b", Place::Number(asked::B)),
-    ("c", Place::Number(asked::C)),
+    ("user", Place::Number(request::USER)),
+    ("op", Place::Number(request::OPERATION)),
+    ("ref", Place::Reference(request::FIRST)),
+    ("ref2", Place::Reference(request::SECOND)),
+    ("a", Place::Number(request::A)),
+    ("b", Place::Number(request::B)),
+    ("c", Place::Number(request::C)),
 ];
 
 /// The words of a request text [rule 11.4]; else the first line that is bad or missing, or 8.
@@ -65,7 +65,7 @@ fn number(digits: &str) -> Option<u32> {
 pub fn write(words: &[u32]) -> Option<Vec<u8>> {
     let lines: Option<Vec<String>> =
         FORM.iter().map(|(key, place)| Some(format!("{}={}\n", key, value(words, *place)?))).collect();
-    lines.filter(|_| words[asked::SPARE] == 0).map(|lines| lines.concat().into_bytes())
+    lines.filter(|_| words[request::SPARE] == 0).map(|lines| lines.concat().into_bytes())
 }
 
 /// What stands behind the equals sign; nothing can where a name word behind a reference's length is not 0.
@@ -116,7 +116,8 @@ mod tests {
 
     #[test]
     fn words_without_a_text() {
-        for (at, word) in [(asked::SPARE, 1), (asked::FIRST, 5), (asked::FIRST + 3, 1), (asked::SECOND + 4, 7)] {
+        for (at, word) in [(request::SPARE, 1), (request::FIRST, 5), (request::FIRST + 3, 1), (request::SECOND + 4, 7)]
+        {
             let mut words = WORDS;
             words[at] = word;
             assert_eq!(write(&words), None);

@@ -1,14 +1,14 @@
 //! What a run of texts has reached.
 
-use generate::layout::answer;
+use generate::layout::refusal;
 
 use super::damage;
 use super::slow::{BEHIND, LINES};
 use crate::outcome::Out;
 
 /// The answers that the writer and the reader can give.
-const OF_WRITER: [u32; 4] = [answer::ACCEPTED, answer::BAD_LENGTH, answer::BAD_REQUEST, answer::ROOM_TOO_SHORT];
-const OF_READER: [u32; 3] = [answer::ACCEPTED, answer::BAD_LENGTH, answer::NO_REQUEST];
+const OF_WRITER: [u32; 4] = [refusal::ACCEPTED, refusal::BAD_LENGTH, refusal::BAD_REQUEST, refusal::TOO_SHORT];
+const OF_READER: [u32; 3] = [refusal::ACCEPTED, refusal::BAD_LENGTH, refusal::NOT_A_REQUEST];
 
 /// Counts by the line that is bad, 1 to 8; 0 is for a request text.
 type Lines = [u64; BEHIND + 1];
@@ -16,8 +16,8 @@ type Lines = [u64; BEHIND + 1];
 /// Counts of answers, and of bad lines by the damage that led to them.
 #[derive(Default)]
 pub struct Tally {
-    written: [u64; answer::NO_REQUEST as usize + 1],
-    read: [u64; answer::NO_REQUEST as usize + 1],
+    written: [u64; refusal::NOT_A_REQUEST as usize + 1],
+    read: [u64; refusal::NOT_A_REQUEST as usize + 1],
     lines: Vec<Lines>,
 }
 

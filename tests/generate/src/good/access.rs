@@ -1,46 +1,40 @@
 //! The access triples of good tables: for whom, and for what.
 use super::Plan;
 use crate::layout::{
-    entity, entity_base, kind, operation, triple, user, ENTITIES, FIRST_ROLE, LAST_WHO, OPERATIONS, TRIPLES,
+    entity, entity_base, kind, op, triple, user, ENTITIES, FIRST_ROLE, OPERATION_MOST, TRIPLES, WHO_MOST,
 };
 use crate::view::{any_of, entity_record, is_full_container, is_off, is_on, user_record, users_where, Holders};
 
 /// Operations and positions that an entity can stand in; those that are hard to come by stand twice.
 const OF_OBJECTS: &[(u32, u32)] = &[
-    (operation::DELETE, 1),
-    (operation::MOVE, 1),
-    (operation::EDIT, 1),
-    (operation::COPY, 1),
-    (operation::COPY, 2),
-    (operation::SET_LEVEL, 1),
-    (operation::GRANT, 1),
-    (operation::REVOKE, 1),
-    (operation::SHOW, 1),
+    (op::DELETE, 1),
+    (op::MOVE, 1),
+    (op::EDIT, 1),
+    (op::COPY, 1),
+    (op::COPY, 2),
+    (op::SET_LEVEL, 1),
+    (op::GRANT, 1),
+    (op::REVOKE, 1),
+    (op::SHOW, 1),
 ];
 const OF_CONTAINERS: &[(u32, u32)] = &[
-    (operation::CREATE, 1),
-    (operation::DELETE, 1),
-    (operation::MOVE, 1),
-    (operation::MOVE, 2),
-    (operation::MOVE, 2),
-    (operation::EDIT, 1),
-    (operation::COPY, 1),
-    (operation::COPY, 2),
-    (operation::SET_LEVEL, 1),
-    (operation::SET_MARK, 1),
-    (operation::GRANT, 1),
-    (operation::REVOKE, 1),
-    (operation::SHOW, 1),
-    (operation::RELEASE, 1),
+    (op::CREATE, 1),
+    (op::DELETE, 1),
+    (op::MOVE, 1),
+    (op::MOVE, 2),
+    (op::MOVE, 2),
+    (op::EDIT, 1),
+    (op::COPY, 1),
+    (op::COPY, 2),
+    (op::SET_LEVEL, 1),
+    (op::SET_MARK, 1),
+    (op::GRANT, 1),
+    (op::REVOKE, 1),
+    (op::SHOW, 1),
+    (op::RELEASE, 1),
 ];
-const OF_DEVICES: &[(u32, u32)] = &[
-    (operation::GRANT, 1),
-    (operation::REVOKE, 1),
-    (operation::LOGIN, 1),
-    (operation::LOGIN, 1),
-    (operation::SET_MAXIMUM, 1),
-    (operation::SET_DEVICE_LEVEL, 1),
-];
+const OF_DEVICES: &[(u32, u32)] =
+    &[(op::GRANT, 1), (op::REVOKE, 1), (op::LOGIN, 1), (op::LOGIN, 1), (op::MAXIMUM, 1), (op::DEVICE_LEVEL, 1)];
 
 impl Plan<'_> {
     /// Chooses up to four for whom most triples are: users who are on, or roles that these have.
@@ -50,7 +44,7 @@ impl Plan<'_> {
         for _ in 0..wanted {
             let number = self.dice.one_of(&on);
             let roles = user_record(&self.tables, number)[user::CURRENT];
-            let held: Vec<u32> = (FIRST_ROLE..=LAST_WHO).filter(|who| roles >> (who - FIRST_ROLE) & 1 != 0).collect();
+            let held: Vec<u32> = (FIRST_ROLE..=WHO_MOST).filter(|who| roles >> (who - FIRST_ROLE) & 1 != 0).collect();
             let role = any_of(self.dice, &held).filter(|_| self.dice.chance(40));
             self.favourites.push(role.unwrap_or(number));
         }
@@ -62,7 +56,7 @@ impl Plan<'_> {
         for number in 1..=ENTITIES {
             let holder = holders.container_of(number);
             let in_full = holder.map_or(false, |holder| is_full_container(entity_record(&self.tables, holder)));
-            if entity_record(&self.tables, number)[entity::KIND] != 0 {
+            if entity_record(&self.tables, number)[entity::KIND] != kind::ABSENT {
                 self.make_triples_of(number, in_full);
             }
         }
@@ -93,23 +87,23 @@ impl Plan<'_> {
             _ => (OF_DEVICES, OF_CONTAINERS),
         };
         match self.dice.below(100) {
-            0..=14 if is_full_container(record) => (operation::MOVE, 2),
-            0..=14 if in_full => (operation::MOVE, 1),
+            0..=14 if is_full_container(record) => (op::MOVE, 2),
+            0..=14 if in_full => (op::MOVE, 1),
             0..=74 => self.dice.one_of(useful),
             75..=84 => self.dice.one_of(of_others),
-            _ => (self.dice.between(1, OPERATIONS), self.dice.between(1, 2)),
+            _ => (self.dice.between(1, OPERATION_MOST), self.dice.between(1, 2)),
         }
     }
 
     /// Whom a triple is for. Whoever may log on must be off to make use of it, and has no roles then.
     fn choose_who(&mut self, of: u32) -> u32 {
-        if of == operation::LOGIN && self.dice.chance(75) {
+        if of == op::LOGIN && self.dice.chance(75) {
             let off = users_where(&self.tables, is_off);
             return any_of(self.dice, &off).unwrap_or(1);
         }
         if !self.favourites.is_empty() && self.dice.chance(70) {
             return self.dice.one_of(&self.favourites);
         }
-        self.dice.between(1, LAST_WHO)
+        self.dice.between(1, WHO_MOST)
     }
 }

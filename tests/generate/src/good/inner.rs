@@ -1,6 +1,6 @@
 //! The objects and containers of good tables, each in an earlier one or in none.
 use super::{Nesting, Plan};
-use crate::layout::{entity, kind, type_of, PLACES, USERS};
+use crate::layout::{entity, kind, types, PLACES, USERS};
 use crate::levels;
 use crate::view::{any_of, entity_record};
 
@@ -33,9 +33,9 @@ impl Plan<'_> {
         let marked = self.dice.chance(35);
         let releaser = self.dice.between(1, USERS);
         let (type_of, releaser) = match self.dice.below(100) {
-            0..=29 => (type_of::DRAFT, 0),
-            30..=50 => (type_of::RELEASED, releaser),
-            _ => (type_of::PLAIN, 0),
+            0..=29 => (types::DRAFT, 0),
+            30..=50 => (types::RELEASED, releaser),
+            _ => (types::PLAIN, 0),
         };
         let record = self.entity(number);
         record[entity::KIND] = kind::CONTAINER;

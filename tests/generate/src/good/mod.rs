@@ -3,7 +3,7 @@ mod access;
 mod inner;
 mod people;
 
-use crate::layout::{entity, entity_base, kind, ENTITIES, MAX_LEVEL, TABLE_WORDS, TRIPLES, USERS};
+use crate::layout::{entity, entity_base, kind, ENTITIES, LEVEL_MOST, TABLE_WORDS, TRIPLES, USERS};
 use crate::{levels, Dice};
 
 /// Where the next entity goes: into the newest open container, into the oldest, or into any.
@@ -66,7 +66,7 @@ impl<'a> Plan<'a> {
 
     /// A level of the plan's kind.
     fn level(&mut self) -> u32 {
-        self.dice.word() & self.level_mask & MAX_LEVEL
+        self.dice.word() & self.level_mask & LEVEL_MOST
     }
 
     /// The words of an entity, to be written.
@@ -76,7 +76,7 @@ impl<'a> Plan<'a> {
 
     /// Makes a device, with its level at most its maximum.
     fn make_device(&mut self, number: u32) {
-        let maximum = if self.dice.chance(50) { MAX_LEVEL } else { self.level() };
+        let maximum = if self.dice.chance(50) { LEVEL_MOST } else { self.level() };
         let level = levels::lower(self.dice, maximum);
         let record = self.entity(number);
         record[entity::KIND] = kind::DEVICE;

@@ -1,15 +1,16 @@
 //! The users of good tables, and what their screens show.
 use super::Plan;
 use crate::layout::{
-    answer, at_most, entity, role, user, user_base, MAX_COUNT, MAX_LEVEL, MAX_ROLES, OPERATIONS, PLACES, USERS,
+    at_most, entity, refusal, role, user, user_base, LEVEL_MOST, MISSED_MOST, OPERATION_MOST, PLACES, ROLES_MOST,
+    STEP_MOST, USERS,
 };
 use crate::view::{entity_record, is_on, user_record, users_where};
 
 /// The sums that show no value without its label.
 const LABELLED_SUMS: [u32; 5] = [2, 3, 4, 6, 7];
 
-/// Counts at the edges, where one more or one less matters.
-const EDGE_COUNTS: [u32; 5] = [1, 2, 3, MAX_COUNT - 1, MAX_COUNT];
+/// Numbers of a notice at the edges, where one more or one less matters.
+const EDGES: [u32; 5] = [1, 2, 3, MISSED_MOST - 1, MISSED_MOST];
 
 impl Plan<'_> {
     /// Makes one to sixteen users, and logs some of them on as long as there are devices.
@@ -34,8 +35,8 @@ impl Plan<'_> {
 
     /// Makes a user who is off: many may see everything, many may take on each of the desk's roles.
     fn make_user(&mut self, number: u32) {
-        let clearance = if self.dice.chance(35) { MAX_LEVEL } else { self.level() };
-        let mut roles = self.dice.word() & MAX_ROLES;
+        let clearance = if self.dice.chance(35) { LEVEL_MOST } else { self.level() };
+        let mut roles = self.dice.word() & ROLES_MOST;
         if self.dice.chance(40) {
             roles |= role::OFFICER | role::DOWNGRADER | role::RELEASER;
         }
@@ -50,18 +51,18 @@ impl Plan<'_> {
         if self.dice.chance(45) {
             return;
         }
-        let held = self.dice.between(answer::BAD_REQUEST, answer::LAST_OF_STEP);
-        let operation = self.dice.between(0, OPERATIONS);
-        let count = if self.dice.chance(50) { self.dice.one_of(&EDGE_COUNTS) } else { self.dice.between(1, MAX_COUNT) };
+        let held = self.dice.between(refusal::BAD_REQUEST, STEP_MOST);
+        let operation = self.dice.between(0, OPERATION_MOST);
+        let missed = if self.dice.chance(50) { self.dice.one_of(&EDGES) } else { self.dice.between(1, MISSED_MOST) };
         let record = self.user(number);
         record[user::HELD] = held;
         record[user::HELD_OPERATION] = operation;
-        record[user::COUNT] = count;
+        record[user::MISSED] = missed;
     }
 
     /// Logs a user on, with all or some of the roles, where there is a device.
     fn log_on(&mut self, number: u32, device: Option<u32>) {
-        let kept = if self.dice.chance(60) { self.dice.word() } else { MAX_ROLES };
+        let kept = if self.dice.chance(60) { self.dice.word() } else { ROLES_MOST };
         let record = self.user(number);
         if let Some(device) = device {
             record[user::DEVICE] = device;

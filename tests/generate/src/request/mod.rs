@@ -5,7 +5,7 @@ mod reference;
 mod second;
 mod spoil;
 
-use crate::layout::{asked, operation, user, OPERATIONS, REQUEST_WORDS};
+use crate::layout::{op, request, user, OPERATION_MOST, REQUEST_WORDS};
 use crate::view::{allows, present_user, user_record, Holders};
 use crate::Dice;
 use operands::Aim;
@@ -30,10 +30,10 @@ struct Drawing<'a> {
 
 /// How many operands an operation takes.
 fn operands_of(of: u32) -> u32 {
-    use operation::*;
+    use op::*;
     match of {
         MOVE | COPY => 2,
-        CLEAR | LOGOUT | SET_CURRENT | SET_CLEARANCE | SET_AUTHORISED | ACKNOWLEDGE => 0,
+        CLEAR | LOGOUT | CURRENT_ROLES | CLEARANCE | AUTHORISED_ROLES | ACKNOWLEDGE => 0,
         _ => 1,
     }
 }
@@ -41,7 +41,7 @@ fn operands_of(of: u32) -> u32 {
 /// Is the user of this record where one has to be for an operation: off to log on, anywhere to acknowledge, else on?
 fn in_place_to_ask(record: &[u32], of: u32) -> bool {
     let off = record[user::DEVICE] == 0;
-    record[user::PRESENT] != 0 && (of == operation::ACKNOWLEDGE || off == (of == operation::LOGIN))
+    record[user::PRESENT] != 0 && (of == op::ACKNOWLEDGE || off == (of == op::LOGIN))
 }
 
 impl Drawing<'_> {
@@ -51,16 +51,16 @@ impl Drawing<'_> {
         let operands = operands_of(self.operation);
         let (requester, first, second) = self.choose(operands, aim);
         let mut hopeful = in_place_to_ask(user_record(self.tables, requester), self.operation);
-        self.words[asked::USER] = requester;
-        self.words[asked::OPERATION] = self.operation;
+        self.words[request::USER] = requester;
+        self.words[request::OPERATION] = self.operation;
         if operands > 0 {
             let from_above = aim == Aim::Hidden || self.dice.chance(40);
-            self.refer_to(first, from_above, asked::FIRST);
+            self.refer_to(first, from_above, request::FIRST);
             hopeful = hopeful && allows(self.tables, first, requester, self.operation, 1);
         }
         if operands > 1 {
             let from_above = self.dice.chance(40);
-            self.refer_to(second, from_above, asked::SECOND);
+            self.refer_to(second, from_above, request::SECOND);
             hopeful = hopeful && allows(self.tables, second, requester, self.operation, 2);
         }
         self.fill_arguments(first);
@@ -70,7 +70,7 @@ impl Drawing<'_> {
 
     /// Who asks, and the operands; 1 stands for an operand that the operation does not take.
     fn choose(&mut self, operands: u32, aim: Aim) -> (u32, u32, u32) {
-        if self.operation == operation::MOVE && self.dice.chance(WITHIN_FULL) {
+        if self.operation == op::MOVE && self.dice.chance(WITHIN_FULL) {
             if let Some(all) = self.choose_within_full() {
                 return all;
             }
@@ -86,10 +86,10 @@ impl Drawing<'_> {
     /// A requester for an operation without operands.
     fn choose_requester(&mut self) -> u32 {
         match self.operation {
-            operation::SET_CURRENT | operation::SET_CLEARANCE | operation::SET_AUTHORISED if self.dice.chance(65) => {
+            op::CURRENT_ROLES | op::CLEARANCE | op::AUTHORISED_ROLES if self.dice.chance(65) => {
                 operands::officer(self.dice, self.tables)
             }
-            operation::ACKNOWLEDGE => present_user(self.dice, self.tables),
+            op::ACKNOWLEDGE => present_user(self.dice, self.tables),
             _ => operands::somebody_on(self.dice, self.tables),
         }
     }
@@ -104,8 +104,8 @@ fn draw(dice: &mut Dice, tables: &[u32], operation: u32) -> ([u32; REQUEST_WORDS
 
 /// All operations alike, but fewer logouts than logins: a logout nearly always succeeds, a login seldom, and soon nobody would be left on.
 fn choose_operation(dice: &mut Dice) -> u32 {
-    match dice.between(1, OPERATIONS) {
-        operation::LOGOUT if dice.chance(65) => operation::LOGIN,
+    match dice.between(1, OPERATION_MOST) {
+        op::LOGOUT if dice.chance(65) => op::LOGIN,
         chosen => chosen,
     }
 }
@@ -128,7 +128,7 @@ pub fn request(dice: &mut Dice, tables: &[u32]) -> [u32; REQUEST_WORDS] {
         }
     };
     if dice.chance(1) {
-        words[asked::OPERATION] = dice.one_of(&NO_OPERATIONS);
+        words[request::OPERATION] = dice.one_of(&NO_OPERATIONS);
     }
     words
 }

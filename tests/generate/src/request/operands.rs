@@ -1,8 +1,6 @@
 //! Who asks, and about what first. Refusals deep in the ladder are reached by looking for them, since chance seldom gets there.
 use super::{in_place_to_ask, Drawing};
-use crate::layout::{
-    at_most, entity, kind, operation, right, right_of, type_of, user, who_of, ENTITIES, FIRST_ROLE, USERS,
-};
+use crate::layout::{at_most, entity, kind, op, right, right_of, types, user, who_of, ENTITIES, FIRST_ROLE, USERS};
 use crate::view::{
     any_of, entity_record, is_off, is_on, present_entity, present_user, stands_for, triples, user_record, users_where,
     Holders,
@@ -25,7 +23,7 @@ impl Aim {
     /// What has a triple for an operation on devices and lies behind a mark is rare, and is looked for more often.
     pub(super) fn choose(dice: &mut Dice, of: u32) -> Aim {
         let (accepted, other_kind, hidden) = match of {
-            operation::LOGIN | operation::SET_MAXIMUM | operation::SET_DEVICE_LEVEL => (65, 70, 95),
+            op::LOGIN | op::MAXIMUM | op::DEVICE_LEVEL => (65, 70, 95),
             _ => (80, 85, 92),
         };
         match dice.below(100) {
@@ -65,12 +63,12 @@ pub(super) fn officer(dice: &mut Dice, tables: &[u32]) -> u32 {
 
 /// Is an entity of the sort that an operation takes first?
 fn kind_suits(record: &[u32], of: u32) -> bool {
-    use operation::*;
+    use op::*;
     match of {
         CREATE | SET_MARK => record[entity::KIND] == kind::CONTAINER,
         GRANT | REVOKE => true,
-        LOGIN | SET_MAXIMUM | SET_DEVICE_LEVEL => record[entity::KIND] == kind::DEVICE,
-        RELEASE => record[entity::TYPE] == type_of::DRAFT,
+        LOGIN | MAXIMUM | DEVICE_LEVEL => record[entity::KIND] == kind::DEVICE,
+        RELEASE => record[entity::TYPE] == types::DRAFT,
         _ => record[entity::KIND] != kind::DEVICE,
     }
 }
@@ -87,7 +85,7 @@ impl Drawing<'_> {
     /// A requester and a first operand that has a triple for the requester, if any has; where nothing meets the aim, what was looked at last.
     pub(super) fn choose_first(&mut self, aim: Aim) -> (u32, u32) {
         let of_triples = self.with_triples();
-        let logs_on = self.operation == operation::LOGIN;
+        let logs_on = self.operation == op::LOGIN;
         let requester =
             if logs_on { somebody_off(self.dice, self.tables) } else { somebody_on(self.dice, self.tables) };
         let mut chosen = (requester, present_entity(self.dice, self.tables));

@@ -1,6 +1,6 @@
 //! What comes second, where two entities are asked about: a copy, or a move.
 use super::Drawing;
-use crate::layout::{at_most, entity, kind, operation, ENTITIES, PLACES};
+use crate::layout::{at_most, entity, kind, op, ENTITIES, PLACES};
 use crate::view::{allows, contents, entity_record, is_full_container, is_on, place_in, present_entity, users_where};
 use crate::Dice;
 
@@ -19,7 +19,7 @@ impl Goal {
     fn choose(dice: &mut Dice, of: u32) -> Goal {
         match dice.below(100) {
             0..=14 => Goal::Any,
-            _ if of == operation::COPY => Goal::Roomy,
+            _ if of == op::COPY => Goal::Roomy,
             15..=59 => Goal::Roomy,
             60..=69 => Goal::Crowded,
             70..=86 => Goal::SameHolder,
@@ -75,8 +75,7 @@ impl Drawing<'_> {
     /// All who may move something of a container to its end, each with what it is and the container.
     fn movers_within(&self, holder: u32) -> Vec<(u32, u32, u32)> {
         let movers = users_where(self.tables, is_on);
-        let may =
-            |number: u32, mover: u32, position: u32| allows(self.tables, number, mover, operation::MOVE, position);
+        let may = |number: u32, mover: u32, position: u32| allows(self.tables, number, mover, op::MOVE, position);
         let held = contents(entity_record(self.tables, holder));
         let movers = movers.iter().filter(|&&mover| may(holder, mover, 2));
         movers

@@ -1,7 +1,7 @@
 //! Requests with something amiss: a name that leads nowhere, a word out of its range, a requester who is none.
 use super::Drawing;
 use crate::layout::{
-    asked, operation, shown, ENTITIES, LAST_WHO, MAX_LEVEL, MAX_ROLES, NAMES, OPERATIONS, PLACES, USERS,
+    op, request, sort, ENTITIES, LEVEL_MOST, NAMES, OPERATION_MOST, PLACES, ROLES_MOST, SUM_MOST, USERS, WHO_MOST,
 };
 
 /// Numbers at the edges of the ranges there are, and of the word.
@@ -36,20 +36,20 @@ const ODD: [u32; 26] = [
 
 /// The least and the most of each argument; an argument that is not used lies from 0 to 0.
 fn ranges(of: u32) -> [(u32, u32); 3] {
-    use operation::*;
+    use op::*;
     const NONE: (u32, u32) = (0, 0);
     const ANY: (u32, u32) = (0, u32::MAX);
-    const LEVEL: (u32, u32) = (0, MAX_LEVEL);
+    const LEVEL: (u32, u32) = (0, LEVEL_MOST);
     const USER: (u32, u32) = (1, USERS);
     match of {
-        CREATE => [(1, 3), LEVEL, NONE],
+        CREATE => [(sort::OBJECT, sort::DRAFT), LEVEL, NONE],
         EDIT => [ANY, NONE, NONE],
-        SET_LEVEL | SET_MAXIMUM | SET_DEVICE_LEVEL => [LEVEL, NONE, NONE],
+        SET_LEVEL | MAXIMUM | DEVICE_LEVEL => [LEVEL, NONE, NONE],
         SET_MARK => [(0, 1), NONE, NONE],
-        GRANT | REVOKE => [(1, LAST_WHO), (1, OPERATIONS), (1, 2)],
-        SHOW => [(1, shown::ALL), NONE, NONE],
-        SET_CURRENT | SET_AUTHORISED => [USER, (0, MAX_ROLES), NONE],
-        SET_CLEARANCE => [USER, LEVEL, NONE],
+        GRANT | REVOKE => [(1, WHO_MOST), (1, OPERATION_MOST), (1, 2)],
+        SHOW => [(1, SUM_MOST), NONE, NONE],
+        CURRENT_ROLES | AUTHORISED_ROLES => [USER, (0, ROLES_MOST), NONE],
+        CLEARANCE => [USER, LEVEL, NONE],
         ACKNOWLEDGE => [ANY, ANY, NONE],
         _ => [NONE; 3],
     }
@@ -68,17 +68,17 @@ impl Drawing<'_> {
     /// Spoils a request now and then, in one way or in several.
     pub(super) fn spoil(&mut self, operands: u32) {
         if operands > 0 && self.dice.chance(3) {
-            self.spoil_names(asked::FIRST);
+            self.spoil_names(request::FIRST);
         }
         if operands > 1 && self.dice.chance(3) {
-            self.spoil_names(asked::SECOND);
+            self.spoil_names(request::SECOND);
         }
         if self.dice.chance(4) {
             self.spoil_shape();
         }
         if self.dice.chance(2) {
             let any_user = self.dice.chance(50);
-            self.words[asked::USER] = if any_user { self.dice.between(1, USERS) } else { self.odd_word() };
+            self.words[request::USER] = if any_user { self.dice.between(1, USERS) } else { self.odd_word() };
         }
     }
 
@@ -99,13 +99,13 @@ impl Drawing<'_> {
     /// Gives a request the wrong shape, most of the time.
     fn spoil_shape(&mut self) {
         let name = 1 + self.dice.below(NAMES) as usize;
-        let argument = asked::A + self.dice.below(3) as usize;
+        let argument = request::A + self.dice.below(3) as usize;
         let at = match self.dice.below(8) {
-            0 => asked::FIRST,
-            1 => asked::SECOND,
-            2 => asked::SPARE,
-            3 => asked::FIRST + name,
-            4 => asked::SECOND + name,
+            0 => request::FIRST,
+            1 => request::SECOND,
+            2 => request::SPARE,
+            3 => request::FIRST + name,
+            4 => request::SECOND + name,
             5 => argument,
             _ => return self.spoil_argument(),
         };
@@ -118,6 +118,6 @@ impl Drawing<'_> {
         let (least, most) = ranges(self.operation)[which];
         let past = self.dice.below(2);
         let low = self.dice.chance(50);
-        self.words[asked::A + which] = if low { least.wrapping_sub(past) } else { most.wrapping_add(past) };
+        self.words[request::A + which] = if low { least.wrapping_sub(past) } else { most.wrapping_add(past) };
     }
 }

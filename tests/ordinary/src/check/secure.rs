@@ -18,12 +18,12 @@ fn user_is_secure<R: Rules>(tables: &Tables, user: User) -> bool {
         && screen_is_at_most::<R>(tables, user, Level(words[user::CLEARANCE]))
 }
 
-/// Contents are at most the holder's level; a device is at most its maximum, and shows no value without the label
+/// Contents are at most the holder's level; a screen is at most its maximum, and shows no value without the label
 /// [rules 4.1, 4.3, 4.5].
 fn entity_is_secure<R: Rules>(tables: &Tables, words: &EntityWords) -> bool {
     let level = Level(words[entity::LEVEL]);
     contents_are_at_most::<R>(tables, words, level)
-        && (words[entity::KIND] != kind::DEVICE
+        && (!is_screen(words[entity::KIND])
             || level.at_most::<R>(Level(words[entity::MAXIMUM]))
                 && words[entity::SHOWN].iter().all(|sum| value_has_label(*sum)))
 }

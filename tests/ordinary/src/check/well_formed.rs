@@ -1,19 +1,21 @@
 //! Whether any 2,304 words are well-formed tables [section 3 of the rules].
 
+use crate::refusal::Refusal;
 use crate::set::EntitySet;
 use crate::tables::*;
 use crate::words::*;
+use std::ops::RangeInclusive;
 
 /// The first and the last refusal that can be held.
-const HELD: std::ops::RangeInclusive<u32> = 5..=16;
+const HELD: RangeInclusive<u32> = Refusal::BadRequest as u32..=Refusal::NotAcknowledged as u32;
 
 /// Well-formed: each record by itself, and all of them together.
 pub fn holds(tables: &Tables) -> bool {
-    devices_in_use(tables).map_or(false, |in_use| entities_fit(tables, in_use))
+    terminals_in_use(tables).map_or(false, |in_use| entities_fit(tables, in_use))
 }
 
-/// The devices that users are on, or none if a user's record is at fault or two users are on one device [rule 3.16].
-fn devices_in_use(tables: &Tables) -> Option<EntitySet> {
+/// The terminals that users are on, or none if a user's record is at fault or two users are on one [rule 3.16].
+fn terminals_in_use(tables: &Tables) -> Option<EntitySet> {
     let mut in_use = EntitySet::default();
     for user in User::all() {
         let words = user_words(tables, user);
@@ -31,25 +33,25 @@ fn user_fits(words: &UserWords) -> bool {
         return all_zero(words);
     }
     words[user::PRESENT] == 1
-        && words[user::CLEARANCE] <= HIGHEST_LEVEL
-        && words[user::AUTHORISED] <= ALL_ROLES
-        && words[user::CURRENT] <= ALL_ROLES
+        && words[user::CLEARANCE] <= LEVEL_MOST
+        && words[user::AUTHORISED] <= ROLES_MOST
+        && words[user::CURRENT] <= ROLES_MOST
         && words[user::DEVICE] <= ENTITIES
         && (words[user::DEVICE] != 0 || words[user::CURRENT] == 0)
         && notice_fits(words)
         && all_zero(&words[user::SPARE..])
 }
 
-/// Either nothing is held and nothing counted, or a refusal of the ladder with its operation [rules 3.19 to 3.21].
+/// Either nothing is held and nothing missed, or a refusal of the ladder with its operation [rules 3.19 to 3.21].
 fn notice_fits(words: &UserWords) -> bool {
-    let (held, operation, count) = (words[user::HELD], words[user::HELD_OPERATION], words[user::COUNT]);
+    let (held, operation, missed) = (words[user::HELD], words[user::HELD_OPERATION], words[user::MISSED]);
     if held == 0 {
-        return operation == 0 && count == 0;
+        return operation == 0 && missed == 0;
     }
-    HELD.contains(&held) && operation <= OPERATIONS && (1..=MOST_COUNTED).contains(&count)
+    HELD.contains(&held) && operation <= OPERATION_MOST && (1..=MISSED_MOST).contains(&missed)
 }
 
-/// All entities' records, each by itself and then what they say of each other and of the devices in use.
+/// All entities' records, each by itself and then what they say of each other and of the terminals in use.
 fn entities_fit(tables: &Tables, in_use: EntitySet) -> bool {
     let mut census = Census::default();
     for entity in Entity::all() {
@@ -69,23 +71,23 @@ fn entities_fit(tables: &Tables, in_use: EntitySet) -> bool {
 /// The first eight words of a present entity [rules 3.3, 3.7 to 3.11].
 fn fields_fit(words: &EntityWords) -> bool {
     let kind = words[entity::KIND];
-    let (container, device) = (kind == kind::CONTAINER, kind == kind::DEVICE);
-    let released = words[entity::TYPE] == sort::RELEASED;
-    kind <= kind::DEVICE
-        && words[entity::TYPE] <= if container { sort::RELEASED } else { sort::PLAIN }
-        && words[entity::LEVEL] <= HIGHEST_LEVEL
+    let (container, screen) = (kind == kind::CONTAINER, is_screen(kind));
+    let released = words[entity::TYPE] == types::RELEASED;
+    kind <= KIND_MOST
+        && words[entity::TYPE] <= if container { types::RELEASED } else { types::PLAIN }
+        && words[entity::LEVEL] <= LEVEL_MOST
         && words[entity::MARK] <= u32::from(container)
-        && (!device || words[entity::VALUE] == 0)
+        && (!screen || words[entity::VALUE] == 0)
         && (words[entity::RELEASER] != 0) == released
         && words[entity::RELEASER] <= USERS
-        && words[entity::MAXIMUM] <= if device { HIGHEST_LEVEL } else { 0 }
+        && words[entity::MAXIMUM] <= if screen { LEVEL_MOST } else { 0 }
         && words[entity::USED] <= if kind == kind::OBJECT { 0 } else { PLACES as u32 }
 }
 
 /// Triples first and no two alike, zeros behind [rule 3.5].
 fn triples_fit(words: &[u32]) -> bool {
-    let held = words.iter().position(|word| *word == 0).unwrap_or(words.len());
-    let (triples, rest) = words.split_at(held);
+    let end = words.iter().position(|word| *word == 0).unwrap_or(words.len());
+    let (triples, rest) = words.split_at(end);
     all_zero(rest) && triples.iter().all(|triple| is_triple(*triple)) && all_differ(triples)
 }
 
@@ -97,7 +99,9 @@ fn all_differ(words: &[u32]) -> bool {
 /// Who 1 to 24, operation 1 to 20, position 1 or 2 [rule 3.22].
 fn is_triple(word: u32) -> bool {
     let (who, operation, position) = (word >> 16, word >> 8 & 0xff, word & 0xff);
-    (1..=WHOS).contains(&who) && (1..=OPERATIONS).contains(&operation) && (1..=POSITIONS).contains(&position)
+    (1..=WHO_MOST).contains(&who)
+        && (1..=OPERATION_MOST).contains(&operation)
+        && (1..=POSITION_MOST).contains(&position)
 }
 
 /// No bit set in any word. Without an early exit, since most records are absent and this way they go by quickly.
@@ -107,9 +111,10 @@ fn all_zero(words: &[u32]) -> bool {
 
 /// What the entities say of each other, gathered in one pass.
 struct Census {
+    /// All that is no screen.
     entities: EntitySet,
-    devices: EntitySet,
-    /// Devices that show something.
+    terminals: EntitySet,
+    /// Terminals that show something.
     showing: EntitySet,
     /// All that stands in any place.
     placed: EntitySet,
@@ -120,7 +125,7 @@ struct Census {
 impl Default for Census {
     fn default() -> Census {
         let none = EntitySet::default();
-        Census { entities: none, devices: none, showing: none, placed: none, containers: [None; ENTITIES as usize] }
+        Census { entities: none, terminals: none, showing: none, placed: none, containers: [None; ENTITIES as usize] }
     }
 }
 
@@ -133,15 +138,17 @@ impl Census {
         if !all_zero(behind) || !all_zero(sums_behind) {
             return false;
         }
-        if words[entity::KIND] != kind::DEVICE {
-            self.entities.insert(entity);
-            return all_zero(sums) && contents.iter().all(|number| self.put(*number, entity));
+        if is_terminal(words[entity::KIND]) {
+            self.terminals.insert(entity);
+            if used > 0 {
+                self.showing.insert(entity);
+            }
         }
-        self.devices.insert(entity);
-        if used > 0 {
-            self.showing.insert(entity);
+        if is_screen(words[entity::KIND]) {
+            return self.shows(contents) && sums.iter().all(|sum| (1..=SUM_MOST).contains(sum));
         }
-        self.shows(contents) && sums.iter().all(|sum| (1..=shown::ALL).contains(sum))
+        self.entities.insert(entity);
+        all_zero(sums) && contents.iter().all(|number| self.put(*number, entity))
     }
 
     /// Notes what stands in a container, unless it is no entity's number or stands in a container already [rule 3.13].
@@ -155,7 +162,7 @@ impl Census {
         }
     }
 
-    /// Notes what a device shows, unless that has no entity's number or stands there twice.
+    /// Notes what a screen shows, unless that has no entity's number or stands there twice.
     fn shows(&mut self, contents: &[u32]) -> bool {
         let mut here = EntitySet::default();
         let fits = contents.iter().all(|number| Entity::new(*number).map_or(false, |entity| here.insert(entity)));
@@ -163,11 +170,11 @@ impl Census {
         fits
     }
 
-    /// What is placed is present and no device, users are on devices, only those show, and containers don't go round
-    /// [rules 3.6, 3.14, 3.15, 3.18].
+    /// What is placed is present and no screen, users are on terminals, of these only such as are in use show anything,
+    /// and containers don't go round [rules 3.6, 3.14, 3.15, 3.18].
     fn agrees(&self, in_use: EntitySet) -> bool {
         self.placed.is_within(self.entities)
-            && in_use.is_within(self.devices)
+            && in_use.is_within(self.terminals)
             && self.showing.is_within(in_use)
             && self.none_inside_itself()
     }

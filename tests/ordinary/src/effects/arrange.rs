@@ -7,10 +7,6 @@ use crate::tables::*;
 use crate::words::*;
 use crate::Rules;
 
-/// What argument a of create asks for.
-const SORT_CONTAINER: u32 = 2;
-const SORT_DRAFT: u32 = 3;
-
 /// Makes a new entity in the last place of the container, with the container's triples [rule 6.1].
 pub fn create<R: Rules>(turn: &mut Turn, container: Entity) -> Result<(), Refusal> {
     let level = turn.b();
@@ -19,16 +15,16 @@ pub fn create<R: Rules>(turn: &mut Turn, container: Entity) -> Result<(), Refusa
     let absent = |entity: &Entity| kind_of(turn.tables, *entity) == kind::ABSENT;
     let new = Entity::all().find(absent).ok_or(Refusal::NoRoom)?;
 
-    let (kind, sort) = match turn.a() {
-        SORT_CONTAINER => (kind::CONTAINER, sort::PLAIN),
-        SORT_DRAFT => (kind::CONTAINER, sort::DRAFT),
-        _ => (kind::OBJECT, sort::PLAIN),
+    let (kind, type_of) = match turn.a() {
+        sort::CONTAINER => (kind::CONTAINER, types::PLAIN),
+        sort::DRAFT => (kind::CONTAINER, types::DRAFT),
+        _ => (kind::OBJECT, types::PLAIN),
     };
     // An absent record is all zero, so that only these words are to be written.
     let parent = *turn.entity(container);
     let words = turn.entity_mut(new);
     words[entity::KIND] = kind;
-    words[entity::TYPE] = sort;
+    words[entity::TYPE] = type_of;
     words[entity::LEVEL] = level;
     words[entity::TRIPLES].copy_from_slice(&parent[entity::TRIPLES]);
     put_last(turn.entity_mut(container), new);
@@ -39,7 +35,7 @@ pub fn create<R: Rules>(turn: &mut Turn, container: Entity) -> Result<(), Refusa
 pub fn delete(turn: &mut Turn, entity: Entity) -> Result<(), Refusal> {
     let words = turn.entity(entity);
     let shown = logged_on(turn.tables).any(|(_, device)| holds(turn.entity(device), entity));
-    let released = words[entity::TYPE] == sort::RELEASED;
+    let released = words[entity::TYPE] == types::RELEASED;
     Refusal::Arrangement.unless(words[entity::USED] == 0 && !released && !shown)?;
 
     if let Some(container) = container_of(turn.tables, entity) {

@@ -83,7 +83,7 @@ pub fn release<R: Rules>(turn: &mut Turn, draft: Entity) -> Result<(), Refusal> 
     Refusal::RoleMissing.unless(turn.has_role::<R>(role::RELEASER))?;
     let releaser = turn.requester.number();
     let words = turn.entity_mut(draft);
-    words[entity::TYPE] = sort::RELEASED;
+    words[entity::TYPE] = types::RELEASED;
     words[entity::RELEASER] = releaser;
     Ok(())
 }

@@ -43,13 +43,13 @@ pub fn authorised_roles<R: Rules>(turn: &mut Turn) -> Result<(), Refusal> {
     Ok(())
 }
 
-/// Wipes the requester's notice, if the arguments tell what is held and how many were counted [rule 6.20].
+/// Wipes the requester's notice, if the arguments tell what is held and how many were missed [rule 6.20].
 pub fn acknowledge(turn: &mut Turn) -> Result<(), Refusal> {
-    let (held, count) = (turn.a(), turn.b());
+    let (held, missed) = (turn.a(), turn.b());
     let words = turn.user_mut(turn.requester);
-    let agrees = words[user::HELD] != 0 && words[user::HELD] == held && words[user::COUNT] == count;
-    Refusal::Acknowledgement.unless(agrees)?;
-    words[user::HELD..=user::COUNT].fill(0);
+    let agrees = words[user::HELD] != 0 && words[user::HELD] == held && words[user::MISSED] == missed;
+    Refusal::NotAcknowledged.unless(agrees)?;
+    words[user::HELD..=user::MISSED].fill(0);
     Ok(())
 }
 

@@ -9,12 +9,12 @@ use crate::Rules;
 /// Digits of the greatest word.
 const DIGITS: usize = 10;
 /// Bytes of the longest text: keys, the 13 numbers, three dots in each reference, and the ends of the lines.
-const LONGEST: usize = (5 + 3 + 4 + 5 + 2 + 2 + 2) + 13 * DIGITS + 2 * (NAMES - 1) + LINES.len();
+const TEXT_MOST: usize = (5 + 3 + 4 + 5 + 2 + 2 + 2) + 13 * DIGITS + 2 * (NAMES - 1) + LINES.len();
 
 /// Writes a request that has a text into a room that is long enough; else leaves the room as it is.
 pub fn whole<R: Rules>(request: &Request, room: &mut [u8]) -> Reply {
     if !has_text::<R>(request) {
-        return Reply::to(Err(Refusal::Form));
+        return Reply::to(Err(Refusal::BadRequest));
     }
     let text = Text::of(request);
     let need = text.length;
@@ -34,14 +34,14 @@ fn has_text<R: Rules>(request: &Request) -> bool {
 
 /// A text in the making. It has bytes of its own, so that the room stays as it is until the need is known.
 struct Text {
-    bytes: [u8; LONGEST],
+    bytes: [u8; TEXT_MOST],
     length: usize,
 }
 
 impl Text {
     /// The text of a request whose references have at most four names.
     fn of(request: &Request) -> Text {
-        let mut text = Text { bytes: [0; LONGEST], length: 0 };
+        let mut text = Text { bytes: [0; TEXT_MOST], length: 0 };
         for (key, value) in LINES {
             text.push(key);
             match value {
@@ -79,7 +79,7 @@ impl Text {
         self.push(&digits[start..]);
     }
 
-    /// Puts one byte behind what is there; there is room, since no text is longer than `LONGEST`.
+    /// Puts one byte behind what is there; there is room, since no text is longer than `TEXT_MOST`.
     fn push_byte(&mut self, byte: u8) {
         self.bytes[self.length] = byte;
         self.length += 1;

@@ -3,7 +3,7 @@
 
 pub mod random;
 
-use generate::layout::{asked, entity, entity_base, triple, user, user_base, ENTITY_WORDS, NOTICE_WORDS};
+use generate::layout::{entity, entity_base, request, triple, user, user_base, ENTITY_WORDS, NOTICE_WORDS};
 use ordinary::{Reply, REQUEST_WORDS};
 
 pub type Tables = Vec<u32>;
@@ -29,7 +29,7 @@ pub fn entity_word(tables: &Tables, number: u32, word: usize) -> u32 {
     tables[entity_base(number) + word]
 }
 
-/// What a user has held, with its operation, and how many refusals are counted.
+/// What a user has held, with its operation, and how many refusals were missed.
 pub fn notice(tables: &Tables, number: u32) -> [u32; NOTICE_WORDS] {
     let words = &tables[user_base(number) + user::HELD..][..NOTICE_WORDS];
     words.try_into().expect("the words of a notice")
@@ -38,13 +38,13 @@ pub fn notice(tables: &Tables, number: u32) -> [u32; NOTICE_WORDS] {
 /// A request of two references and arguments.
 pub fn request(user: u32, operation: u32, first: &[u32], second: &[u32], arguments: [u32; 3]) -> Vec<u32> {
     let mut words = vec![0; REQUEST_WORDS];
-    words[asked::USER] = user;
-    words[asked::OPERATION] = operation;
-    for (at, names) in [(asked::FIRST, first), (asked::SECOND, second)] {
+    words[request::USER] = user;
+    words[request::OPERATION] = operation;
+    for (at, names) in [(request::FIRST, first), (request::SECOND, second)] {
         words[at] = names.len() as u32;
         words[at + 1..][..names.len()].copy_from_slice(names);
     }
-    words[asked::A..=asked::C].copy_from_slice(&arguments);
+    words[request::A..=request::C].copy_from_slice(&arguments);
     words
 }
 

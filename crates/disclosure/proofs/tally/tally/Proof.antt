@@ -4,8 +4,6 @@ use Rattle.disclosure.specs.TallyLaws.{tallied-less, tally-last, tally-m
 use borrow.Author.Needs.{needs}
 use Rattle.disclosure.proofs.tally.tally.Statement.{statement}
 use Rattle.disclosure.proofs.tally.tally.Tie as tie
-use Rattle.disclosure.proofs.tally.tally.Reads as reads
-use Rattle.disclosure.proofs.tally.tally.Lts as lts
 use Rattle.disclosure.proofs.tally.tally_places.Reads as tally-places-reads
 
 cast-shown : tie.Need-cast-shown

@@ -10,9 +10,6 @@ use Rattle.disclosure.specs.Visited.{inside}
 use Rattle.model.specs.List.Walk.{through}
 use Rattle.disclosure.proofs.tally.tally_places.Statement.{statement}
 use Rattle.disclosure.proofs.tally.tally_places.Tie as tie
-use Rattle.disclosure.proofs.tally.tally_places.Reads as reads
-use Rattle.disclosure.proofs.tally.tally_places.Lts as lts
-use Rattle.tables.proofs.entities.place.Reads as place-reads
 
 abbrev Inv-loop : tie.InvT-loop
 Inv-loop t v b k e n s₀ p₀ s p = (p ≤ n) × (s ≡ length (inside t v k (e .0) p))

@@ -5,8 +5,6 @@ use Rattle.disclosure.specs.Tallied.{Tallied}
 use borrow.Author.Needs.{needs}
 use Rattle.disclosure.proofs.tally.tally_row.Statement.{statement}
 use Rattle.disclosure.proofs.tally.tally_row.Tie as tie
-use Rattle.disclosure.proofs.tally.tally_row.Reads as reads
-use Rattle.disclosure.proofs.tally.tally_row.Lts as lts
 use Rattle.disclosure.proofs.tally.tally.Reads as tally-reads
 
 abbrev Inv-loop : tie.InvT-loop

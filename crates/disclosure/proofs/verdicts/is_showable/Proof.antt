@@ -3,12 +3,6 @@ use Rattle.model.specs.List.Ways.{showable}
 use borrow.Author.Needs.{needs}
 use Rattle.disclosure.proofs.verdicts.is_showable.Statement.{statement}
 use Rattle.disclosure.proofs.verdicts.is_showable.Tie as tie
-use Rattle.disclosure.proofs.verdicts.is_showable.Reads as reads
-use Rattle.disclosure.proofs.verdicts.is_showable.Lts as lts
-use Rattle.ladder.proofs.kinds.is_entity.Reads as is-entity-reads
-use Rattle.levels.proofs.at_most.Reads as at-most-reads
-use Rattle.reference.proofs.is_permitted.Reads as is-permitted-reads
-use Rattle.tables.proofs.entities.level.Reads as level-reads
 
 is-entity-requires : tie.Need-is-entity-requires
 is-entity-requires c κs = search needs

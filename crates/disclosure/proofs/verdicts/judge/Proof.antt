@@ -4,12 +4,8 @@ use Rattle.disclosure.specs.VerdictLaws.{verdict-weighed}
 use borrow.Author.Needs.{needs}
 use Rattle.disclosure.proofs.verdicts.judge.Statement.{statement}
 use Rattle.disclosure.proofs.verdicts.judge.Tie as tie
-use Rattle.disclosure.proofs.verdicts.judge.Reads as reads
-use Rattle.disclosure.proofs.verdicts.judge.Lts as lts
 use Rattle.disclosure.proofs.verdicts.is_showable.Reads as is-showable-reads
 use Rattle.disclosure.proofs.verdicts.weigh.Reads as weigh-reads
-use Rattle.reference.proofs.is_bar.Reads as is-bar-reads
-use Rattle.tables.proofs.entities.used.Reads as used-reads
 
 is-bar-requires : tie.Need-is-bar-requires
 is-bar-requires c κs = search needs

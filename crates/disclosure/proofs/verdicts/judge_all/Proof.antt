@@ -8,12 +8,7 @@ use Rattle.model.specs.Tables.Layout.{tablesOf}
 use Rattle.model.specs.Request.Conditions.{levelOf}
 use Rattle.disclosure.proofs.verdicts.judge_all.Statement.{statement}
 use Rattle.disclosure.proofs.verdicts.judge_all.Tie as tie
-use Rattle.disclosure.proofs.verdicts.judge_all.Reads as reads
-use Rattle.disclosure.proofs.verdicts.judge_all.Lts as lts
 use Rattle.disclosure.proofs.verdicts.judge.Reads as judge-reads
-use Rattle.tables.proofs.users.clearance.Reads as clearance-reads
-use Rattle.tables.proofs.users.device.Reads as device-reads
-use Rattle.tables.proofs.entities.level.Reads as level-reads
 
 abbrev Inv-loop : tie.InvT-loop
 Inv-loop t u v₀ clearance screen i₀ v i = (i ≤ 64) × Judged (tablesOf t) (u .0) i v

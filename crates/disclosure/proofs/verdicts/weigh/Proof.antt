@@ -3,8 +3,6 @@ use Rattle.disclosure.specs.VerdictLaws.{bit-small}
 use borrow.Author.Needs.{needs}
 use Rattle.disclosure.proofs.verdicts.weigh.Statement.{statement}
 use Rattle.disclosure.proofs.verdicts.weigh.Tie as tie
-use Rattle.disclosure.proofs.verdicts.weigh.Reads as reads
-use Rattle.disclosure.proofs.verdicts.weigh.Lts as lts
 use Rattle.disclosure.proofs.verdicts.bit.Reads as bit-reads
 
 bit-requires : tie.Need-bit-requires

@@ -20,7 +20,7 @@ use Rattle.disclosure.proofs.walk.visit_places.Reads as visit-places
 use Rattle.disclosure.proofs.walk.visit_places.Kinds as visit-places-kinds
 use Rattle.disclosure.proofs.walk.+visit_entity+visit_places.Lts-visit_places as visit-places-lts
 use Rattle.disclosure.proofs.walk.visit_here.Reads as visit-here-reads
-use Rattle.tables.proofs.entities.place.Reads as place-reads
+use Rattle.tables.proofs.place.Reads as place-reads
 use Rattle.disclosure.proofs.walk.+visit_entity+visit_places.{statement}
 use Rattle.disclosure.proofs.walk.+visit_entity+visit_places.Tie.{close}
 

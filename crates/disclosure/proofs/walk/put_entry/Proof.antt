@@ -5,8 +5,6 @@ use Rattle.disclosure.specs.EntryLaws.{entry-stored}
 use borrow.Author.Needs.{needs}
 use Rattle.disclosure.proofs.walk.put_entry.Statement.{statement}
 use Rattle.disclosure.proofs.walk.put_entry.Tie as tie
-use Rattle.disclosure.proofs.walk.put_entry.Reads as reads
-use Rattle.disclosure.proofs.walk.put_entry.Lts as lts
 
 sub-room : tie.Need-sub-room
 sub-room c = search needs

@@ -9,8 +9,6 @@ use Rattle.disclosure.specs.VisitLaws.{all-done, all-none, all-room, all
 use Rattle.disclosure.specs.Visited.{Visited, followed}
 use Rattle.disclosure.proofs.walk.visit_all.Statement.{statement}
 use Rattle.disclosure.proofs.walk.visit_all.Tie as tie
-use Rattle.disclosure.proofs.walk.visit_all.Reads as reads
-use Rattle.disclosure.proofs.walk.visit_all.Lts as lts
 use Rattle.disclosure.proofs.walk.visit_entity.Reads as visit-entity-reads
 
 abbrev Inv-loop : tie.InvT-loop

@@ -3,8 +3,6 @@ use Rattle.disclosure.specs.VisitLaws.{here-next, here-no, here-yes}
 use borrow.Author.Needs.{needs}
 use Rattle.disclosure.proofs.walk.visit_here.Statement.{statement}
 use Rattle.disclosure.proofs.walk.visit_here.Tie as tie
-use Rattle.disclosure.proofs.walk.visit_here.Reads as reads
-use Rattle.disclosure.proofs.walk.visit_here.Lts as lts
 use Rattle.disclosure.proofs.walk.put_entry.Reads as put-entry-reads
 
 returns : tie.Need-returns

@@ -1,38 +1,40 @@
-use lib.Dec.{eqb}
-use lib.ListN.{getD}
 use Rattle.ladder.specs.ShapeLaws.{one-form}
-use Rattle.model.specs.Request.Conditions.{aFlag, aLevel, aPosition, aSort, aSum, aUser, aWho, anOperation, between, free, someRoles, unused}
+use Rattle.model.specs.Request.Conditions.{unused}
 use Rattle.model.specs.Request.Ladder.{fits, lengthFits, rangeAt}
-use Rattle.model.specs.Request.Words.{referenceAt, requestOf}
+use Rattle.model.specs.Request.Words.{requestOf}
 use borrow.Author.Needs.{needs}
 use Rattle.ladder.proofs.form.fits_entity.Statement.{statement}
 use Rattle.ladder.proofs.form.fits_entity.Tie as tie
 use Rattle.ladder.proofs.form.fits_entity.Reads as reads
 use Rattle.ladder.proofs.form.fits_entity.Lts as lts
 use Rattle.ladder.proofs.form.takes_one.Reads as takes-one-reads
+use Rattle.request.proofs.a.Reads as a-reads
+use Rattle.request.proofs.b.Reads as b-reads
+use Rattle.request.proofs.c.Reads as c-reads
 
+-- src/form.rt:66:5
 takes-one-requires : tie.Need-takes-one-requires
 takes-one-requires c κs = search needs
 
-shared-slice-read-result : tie.Need-shared-slice-read-result
-shared-slice-read-result c = search needs
+-- src/form.rt:66:22
+a-requires : tie.Need-a-requires
+a-requires c κs = search needs
 
-shared-slice-read-result-2 : tie.Need-shared-slice-read-result-2
-shared-slice-read-result-2 c = search needs
+-- src/form.rt:66:46
+b-requires : tie.Need-b-requires
+b-requires c κs = search needs
 
-shared-slice-read-result-3 : tie.Need-shared-slice-read-result-3
-shared-slice-read-result-3 c = search needs
+-- src/form.rt:66:69
+c-requires : tie.Need-c-requires
+c-requires c κs = search needs
 
+-- src/form.rt:62:1
 returns : tie.Need-returns
-unfolding fits lengthFits rangeAt free unused aLevel someRoles aUser aSort aFlag aSum aWho anOperation aPosition between requestOf referenceAt
-returns c = rw (c .before .before .before .takes-one .ensures) (one-form (requestOf (c .before .before .before .before .before .args .q .now)) (eqb (getD (c .before .before .before .before .before .args .q .now) 12 0) 0) (eqb (getD (c .before .before .before .before .before .args .q .now) 13 0) 0) (eqb (getD (c .before .before .before .before .before .args .q .now) 14 0) 0))
+unfolding fits lengthFits rangeAt unused
+returns c =
+    let q = requestOf (c .before .before .before .before .before .args .q .now) in
+    rw (c .before .before .before .takes-one .ensures, c .before .before .a .ensures, c .before .b .ensures, c .c .ensures)
+    (one-form q (unused (q .a)) (unused (q .b)) (unused (q .c)))
 
 pub fits-entity-spec : {M : Type 1} → statement M
-fits-entity-spec =
-    tie.close
-    (tie.spec
-    takes-one-requires
-    shared-slice-read-result
-    shared-slice-read-result-2
-    shared-slice-read-result-3
-    returns)
+fits-entity-spec = tie.close (tie.spec takes-one-requires a-requires b-requires c-requires returns)

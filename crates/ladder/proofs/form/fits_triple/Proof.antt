@@ -1,51 +1,40 @@
-use mathlib.Core.Bool.{_&&_}
-use lib.Dec.{leb}
-use lib.ListN.{getD}
 use Rattle.ladder.specs.ShapeLaws.{one-form}
-use Rattle.model.specs.Request.Conditions.{aFlag, aLevel, aPosition, aSort, aSum, aUser, aWho, anOperation, between, free, someRoles, unused}
+use Rattle.model.specs.Request.Conditions.{aPosition, aWho, anOperation, between}
 use Rattle.model.specs.Request.Ladder.{fits, lengthFits, rangeAt}
-use Rattle.model.specs.Request.Words.{referenceAt, requestOf}
+use Rattle.model.specs.Request.Words.{requestOf}
 use borrow.Author.Needs.{needs}
 use Rattle.ladder.proofs.form.fits_triple.Statement.{statement}
 use Rattle.ladder.proofs.form.fits_triple.Tie as tie
 use Rattle.ladder.proofs.form.fits_triple.Reads as reads
 use Rattle.ladder.proofs.form.fits_triple.Lts as lts
 use Rattle.ladder.proofs.form.takes_one.Reads as takes-one-reads
+use Rattle.request.proofs.a.Reads as a-reads
+use Rattle.request.proofs.b.Reads as b-reads
+use Rattle.request.proofs.c.Reads as c-reads
 
+-- src/form.rt:107:9
+a-requires : tie.Need-a-requires
+a-requires c κs = search needs
+
+-- src/form.rt:108:9
+b-requires : tie.Need-b-requires
+b-requires c κs = search needs
+
+-- src/form.rt:109:9
+c-requires : tie.Need-c-requires
+c-requires c κs = search needs
+
+-- src/form.rt:110:5
 takes-one-requires : tie.Need-takes-one-requires
 takes-one-requires c κs = search needs
 
-shared-slice-read-result : tie.Need-shared-slice-read-result
-shared-slice-read-result c = search needs
-
-shared-slice-read-result-2 : tie.Need-shared-slice-read-result-2
-shared-slice-read-result-2 c = search needs
-
-shared-slice-read-result-3 : tie.Need-shared-slice-read-result-3
-shared-slice-read-result-3 c = search needs
-
-shared-slice-read-result-4 : tie.Need-shared-slice-read-result-4
-shared-slice-read-result-4 c = search needs
-
-shared-slice-read-result-5 : tie.Need-shared-slice-read-result-5
-shared-slice-read-result-5 c = search needs
-
-shared-slice-read-result-6 : tie.Need-shared-slice-read-result-6
-shared-slice-read-result-6 c = search needs
-
+-- src/form.rt:103:1
 returns : tie.Need-returns
-unfolding fits lengthFits rangeAt free unused aLevel someRoles aUser aSort aFlag aSum aWho anOperation aPosition between requestOf referenceAt
-returns c = rw (c .before .before .before .before .before .before .takes-one .ensures) (one-form (requestOf (c .before .before .before .before .before .before .before .before .args .q .now)) (leb 1 (getD (c .before .before .before .before .before .before .before .before .args .q .now) 12 0) && leb (getD (c .before .before .before .before .before .before .before .before .args .q .now) 12 0) 24) (leb 1 (getD (c .before .before .before .before .before .before .before .before .args .q .now) 13 0) && leb (getD (c .before .before .before .before .before .before .before .before .args .q .now) 13 0) 20) (leb 1 (getD (c .before .before .before .before .before .before .before .before .args .q .now) 14 0) && leb (getD (c .before .before .before .before .before .before .before .before .args .q .now) 14 0) 2))
+unfolding fits lengthFits rangeAt aPosition aWho anOperation between
+returns c =
+    let q = requestOf (c .before .before .before .before .before .args .q .now) in
+    rw (c .takes-one .ensures, c .before .before .before .a .ensures, c .before .before .b .ensures, c .before .c .ensures)
+    (one-form q (aWho (q .a)) (anOperation (q .b)) (aPosition (q .c)))
 
 pub fits-triple-spec : {M : Type 1} → statement M
-fits-triple-spec =
-    tie.close
-    (tie.spec
-    takes-one-requires
-    shared-slice-read-result
-    shared-slice-read-result-2
-    shared-slice-read-result-3
-    shared-slice-read-result-4
-    shared-slice-read-result-5
-    shared-slice-read-result-6
-    returns)
+fits-triple-spec = tie.close (tie.spec a-requires b-requires c-requires takes-one-requires returns)

@@ -1,8 +1,8 @@
 use mathlib.Core.Path.{_∙_}
-use Rattle.ladder.specs.ShapeLaws.{fits-named, unnamed}
+use Rattle.ladder.specs.DispatchLaws.{fits-named, none-named, numbersOf}
 use Rattle.model.specs.Request.Ladder.{fits, lengthFits, rangeAt}
 use Rattle.model.specs.Request.Operations.{toAcknowledge, toAuthorised, toClear, toClearance, toCopy, toCreate, toCurrent, toDelete, toDeviceLevel, toEdit}
-use Rattle.model.specs.Request.Operations.{toGrant, toLevel, toLogin, toLogout, toMark, toMaximum, toMove, toRelease, toRevoke, toShow}
+use Rattle.model.specs.Request.Operations.{operations, toGrant, toLevel, toLogin, toLogout, toMark, toMaximum, toMove, toRelease, toRevoke, toShow}
 use borrow.Author.Needs.{needs}
 use Rattle.ladder.proofs.form.well_made.Statement.{statement}
 use Rattle.ladder.proofs.form.well_made.Tie as tie
@@ -162,7 +162,8 @@ unfolding fits lengthFits rangeAt
 returns-20 c = c .fits-acknowledge .ensures ∙ fits-named _ toAcknowledge (c .before .before .before .pre .1 ∙ c .before .match .keys20)
 
 returns-21 : tie.Need-returns-21
-returns-21 c = unnamed _ _ (rw (← c .before .before .pre .1) at (c .match .rest))
+unfolding numbersOf operations
+returns-21 c = none-named _ _ (rw (← c .before .before .pre .1) at (c .match .rest))
 
 pub well-made-spec : {M : Type 1} → statement M
 well-made-spec =

@@ -4,7 +4,7 @@ use Rattle.ladder.proofs.kinds.is_container.Statement.{statement}
 use Rattle.ladder.proofs.kinds.is_container.Tie as tie
 use Rattle.ladder.proofs.kinds.is_container.Reads as reads
 use Rattle.ladder.proofs.kinds.is_container.Lts as lts
-use Rattle.tables.proofs.entities.kind.Reads as kind-reads
+use Rattle.tables.proofs.kind.Reads as kind-reads
 
 kind-requires : tie.Need-kind-requires
 kind-requires c κs = search needs

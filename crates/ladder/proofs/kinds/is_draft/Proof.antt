@@ -4,8 +4,8 @@ use Rattle.ladder.proofs.kinds.is_draft.Statement.{statement}
 use Rattle.ladder.proofs.kinds.is_draft.Tie as tie
 use Rattle.ladder.proofs.kinds.is_draft.Reads as reads
 use Rattle.ladder.proofs.kinds.is_draft.Lts as lts
-use Rattle.tables.proofs.entities.kind.Reads as kind-reads
-use Rattle.tables.proofs.entities.type_of.Reads as type-of-reads
+use Rattle.tables.proofs.kind.Reads as kind-reads
+use Rattle.tables.proofs.type_of.Reads as type-of-reads
 
 kind-requires : tie.Need-kind-requires
 kind-requires c κs = search needs

@@ -8,9 +8,9 @@ use Rattle.op_places.proofs.filling.bear.Lts as lts
 use Rattle.op_places.proofs.filling.copy_triples.Reads as copy-triples-reads
 use Rattle.op_places.proofs.filling.sort_kind.Reads as sort-kind-reads
 use Rattle.op_places.proofs.filling.sort_type.Reads as sort-type-reads
-use Rattle.tables.proofs.entities.set_kind.Reads as set-kind-reads
-use Rattle.tables.proofs.entities.set_level.Reads as set-level-reads
-use Rattle.tables.proofs.entities.set_type.Reads as set-type-reads
+use Rattle.tables.proofs.set_kind.Reads as set-kind-reads
+use Rattle.tables.proofs.set_level.Reads as set-level-reads
+use Rattle.tables.proofs.set_type.Reads as set-type-reads
 
 sort-kind-requires : tie.Need-sort-kind-requires
 sort-kind-requires c κs = search needs

@@ -11,8 +11,8 @@ use Rattle.op_places.proofs.filling.copy_triples.Statement.{statement}
 use Rattle.op_places.proofs.filling.copy_triples.Tie as tie
 use Rattle.op_places.proofs.filling.copy_triples.Reads as reads
 use Rattle.op_places.proofs.filling.copy_triples.Lts as lts
-use Rattle.tables.proofs.entities.set_triple.Reads as set-triple-reads
-use Rattle.tables.proofs.entities.triple.Reads as triple-reads
+use Rattle.tables.proofs.set_triple.Reads as set-triple-reads
+use Rattle.tables.proofs.triple.Reads as triple-reads
 
 abbrev Inv-loop : tie.InvT-loop
 Inv-loop t₀ e c i₀ t i = (length t ≡ length t₀) × (i ≤ 8) × (tablesOf t ≡ copiedTo (e .0) (c .0) (tablesOf t₀) i)

@@ -12,7 +12,7 @@ use Rattle.op_places.proofs.filling.erase.Statement.{statement}
 use Rattle.op_places.proofs.filling.erase.Tie as tie
 use Rattle.op_places.proofs.filling.erase.Reads as reads
 use Rattle.op_places.proofs.filling.erase.Lts as lts
-use Rattle.tables.proofs.entities.set_entity_at.Reads as set-entity-at-reads
+use Rattle.tables.proofs.set_entity_at.Reads as set-entity-at-reads
 
 abbrev Inv-loop : tie.InvT-loop
 Inv-loop t₀ e f₀ t f = (length t ≡ length t₀) × (f ≤ 32) × (tablesOf t ≡ onEntity (e .0) (blankTo f) (tablesOf t₀))

@@ -8,8 +8,8 @@ use Rattle.op_places.proofs.filling.leave.Reads as reads
 use Rattle.op_places.proofs.filling.leave.Lts as lts
 use Rattle.rows.proofs.close_places.Reads as close-places-reads
 use Rattle.rows.proofs.place_of.Reads as place-of-reads
-use Rattle.tables.proofs.entities.used.Reads as used-reads
-use Rattle.tables.proofs.entities.set_used.Reads as set-used-reads
+use Rattle.tables.proofs.used.Reads as used-reads
+use Rattle.tables.proofs.set_used.Reads as set-used-reads
 
 returns : tie.Need-returns
 returns c = leave-none _ (c .before .before .before .pre .1) _ _ (c .before .before .before .pre .2) (c .if1 .taken)

@@ -5,9 +5,9 @@ use Rattle.op_places.proofs.filling.put_last.Statement.{statement}
 use Rattle.op_places.proofs.filling.put_last.Tie as tie
 use Rattle.op_places.proofs.filling.put_last.Reads as reads
 use Rattle.op_places.proofs.filling.put_last.Lts as lts
-use Rattle.tables.proofs.entities.used.Reads as used-reads
-use Rattle.tables.proofs.entities.set_used.Reads as set-used-reads
-use Rattle.tables.proofs.entities.set_place.Reads as set-place-reads
+use Rattle.tables.proofs.used.Reads as used-reads
+use Rattle.tables.proofs.set_used.Reads as set-used-reads
+use Rattle.tables.proofs.set_place.Reads as set-place-reads
 
 used-requires : tie.Need-used-requires
 used-requires c κs = search needs

@@ -6,7 +6,7 @@ use Rattle.op_places.proofs.places.is_inside.Tie as tie
 use Rattle.op_places.proofs.places.is_inside.Reads as reads
 use Rattle.op_places.proofs.places.is_inside.Lts as lts
 use Rattle.op_places.proofs.places.inside.Reads as inside-reads
-use Rattle.tables.proofs.entities.used.Reads as used-reads
+use Rattle.tables.proofs.used.Reads as used-reads
 
 used-requires : tie.Need-used-requires
 used-requires c κs = search needs

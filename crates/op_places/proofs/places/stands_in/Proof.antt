@@ -5,7 +5,7 @@ use Rattle.op_places.proofs.places.stands_in.Tie as tie
 use Rattle.op_places.proofs.places.stands_in.Reads as reads
 use Rattle.op_places.proofs.places.stands_in.Lts as lts
 use Rattle.rows.proofs.holds.Reads as holds-reads
-use Rattle.tables.proofs.entities.kind.Reads as kind-reads
+use Rattle.tables.proofs.kind.Reads as kind-reads
 
 holds-requires : tie.Need-holds-requires
 holds-requires c κs = search needs

@@ -10,7 +10,7 @@ use Rattle.op_places.proofs.places.vacant.Statement.{statement}
 use Rattle.op_places.proofs.places.vacant.Tie as tie
 use Rattle.op_places.proofs.places.vacant.Reads as reads
 use Rattle.op_places.proofs.places.vacant.Lts as lts
-use Rattle.tables.proofs.entities.kind.Reads as kind-reads
+use Rattle.tables.proofs.kind.Reads as kind-reads
 
 abbrev Inv-loop : tie.InvT-loop
 Inv-loop t i₀ i = (i ≤ 64) × ((j : ℕ) → j < i → kinds (tablesOf t) (suc j) ≢ 0)

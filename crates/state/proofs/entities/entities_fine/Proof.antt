@@ -10,8 +10,6 @@ use Rattle.model.specs.Tables.Layout.{tablesOf}
 use Rattle.state.specs.Passes.{ownTest}
 use Rattle.state.proofs.entities.entities_fine.Statement.{statement}
 use Rattle.state.proofs.entities.entities_fine.Tie as tie
-use Rattle.state.proofs.entities.entities_fine.Reads as reads
-use Rattle.state.proofs.entities.entities_fine.Lts as lts
 use Rattle.state.proofs.entities.entity_fine.Reads as entity-fine-reads
 
 abbrev Inv-loop : tie.InvT-loop

@@ -10,8 +10,6 @@ use Rattle.laws.specs.Loops.{every-gather, every-gathered, every-none}
 use Rattle.state.specs.Passes.{entityBlank}
 use Rattle.state.proofs.entities.entity_blank.Statement.{statement}
 use Rattle.state.proofs.entities.entity_blank.Tie as tie
-use Rattle.state.proofs.entities.entity_blank.Reads as reads
-use Rattle.state.proofs.entities.entity_blank.Lts as lts
 use Rattle.state.proofs.entities.word_zero.Reads as word-zero-reads
 
 abbrev Inv-loop : tie.InvT-loop

@@ -4,11 +4,8 @@ use Rattle.state.specs.EntityLaws.{own-absent}
 use borrow.Author.Needs.{needs}
 use Rattle.state.proofs.entities.entity_fine.Statement.{statement}
 use Rattle.state.proofs.entities.entity_fine.Tie as tie
-use Rattle.state.proofs.entities.entity_fine.Reads as reads
-use Rattle.state.proofs.entities.entity_fine.Lts as lts
 use Rattle.state.proofs.entities.entity_blank.Reads as entity-blank-reads
 use Rattle.state.proofs.entities.present_fine.Reads as present-fine-reads
-use Rattle.tables.proofs.entities.kind.Reads as kind-reads
 
 kind-requires : tie.Need-kind-requires
 kind-requires c κs = search needs

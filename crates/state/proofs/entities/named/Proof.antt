@@ -2,8 +2,6 @@ use mathlib.Core.Path.{refl}
 use Rattle.model.specs.State.Tests.{tripleTest}
 use Rattle.state.proofs.entities.named.Statement.{statement}
 use Rattle.state.proofs.entities.named.Tie as tie
-use Rattle.state.proofs.entities.named.Reads as reads
-use Rattle.state.proofs.entities.named.Lts as lts
 
 returns : tie.Need-returns
 unfolding tripleTest

@@ -2,11 +2,6 @@ use Rattle.state.specs.RowLaws.{place-beyond, place-within}
 use borrow.Author.Needs.{needs}
 use Rattle.state.proofs.entities.place_fine.Statement.{statement}
 use Rattle.state.proofs.entities.place_fine.Tie as tie
-use Rattle.state.proofs.entities.place_fine.Reads as reads
-use Rattle.state.proofs.entities.place_fine.Lts as lts
-use Rattle.tables.proofs.entities.kind_or_zero.Reads as kind-or-zero-reads
-use Rattle.tables.proofs.entities.place.Reads as place-reads
-use Rattle.tables.proofs.entities.shown.Reads as shown-reads
 
 place-requires : tie.Need-place-requires
 place-requires c κs = search needs

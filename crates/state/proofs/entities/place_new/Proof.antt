@@ -12,10 +12,7 @@ use Rattle.model.specs.Tables.Words.{places}
 use Rattle.state.specs.RowLaws.{new-of, new-zero}
 use Rattle.state.proofs.entities.place_new.Statement.{statement}
 use Rattle.state.proofs.entities.place_new.Tie as tie
-use Rattle.state.proofs.entities.place_new.Reads as reads
-use Rattle.state.proofs.entities.place_new.Lts as lts
 use Rattle.state.proofs.entities.place_other.Reads as place-other-reads
-use Rattle.tables.proofs.entities.place.Reads as place-reads
 
 abbrev Inv-loop : tie.InvT-loop
 Inv-loop t e i x j₀ j = (j ≤ i) × (every j (λ k. not (eqb (places (tablesOf t) (e .0) k) x)) ≡ true)

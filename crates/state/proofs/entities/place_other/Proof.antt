@@ -1,9 +1,6 @@
 use borrow.Author.Needs.{needs}
 use Rattle.state.proofs.entities.place_other.Statement.{statement}
 use Rattle.state.proofs.entities.place_other.Tie as tie
-use Rattle.state.proofs.entities.place_other.Reads as reads
-use Rattle.state.proofs.entities.place_other.Lts as lts
-use Rattle.tables.proofs.entities.place.Reads as place-reads
 
 place-requires : tie.Need-place-requires
 place-requires c κs = search needs

@@ -10,8 +10,6 @@ use Rattle.model.specs.Tables.Layout.{tablesOf}
 use Rattle.state.specs.Passes.{placeTest}
 use Rattle.state.proofs.entities.places_fine.Statement.{statement}
 use Rattle.state.proofs.entities.places_fine.Tie as tie
-use Rattle.state.proofs.entities.places_fine.Reads as reads
-use Rattle.state.proofs.entities.places_fine.Lts as lts
 use Rattle.state.proofs.entities.place_fine.Reads as place-fine-reads
 
 abbrev Inv-loop : tie.InvT-loop

@@ -13,8 +13,6 @@ use Rattle.state.specs.UnlikeLaws.{places-unlike, unlike-few}
 use Rattle.state.specs.Passes.{newAt}
 use Rattle.state.proofs.entities.places_new.Statement.{statement}
 use Rattle.state.proofs.entities.places_new.Tie as tie
-use Rattle.state.proofs.entities.places_new.Reads as reads
-use Rattle.state.proofs.entities.places_new.Lts as lts
 use Rattle.state.proofs.entities.place_new.Reads as place-new-reads
 
 abbrev Inv-loop : tie.InvT-loop

@@ -8,21 +8,11 @@ use Rattle.state.specs.OwnLaws.{own-count, own-places, own-quiet, own-ro
 use borrow.Author.Needs.{needs}
 use Rattle.state.proofs.entities.present_fine.Statement.{statement}
 use Rattle.state.proofs.entities.present_fine.Tie as tie
-use Rattle.state.proofs.entities.present_fine.Reads as reads
-use Rattle.state.proofs.entities.present_fine.Lts as lts
 use Rattle.state.proofs.entities.used_fine.Reads as used-fine-reads
 use Rattle.state.proofs.entities.places_fine.Reads as places-fine-reads
 use Rattle.state.proofs.entities.places_new.Reads as places-new-reads
 use Rattle.state.proofs.entities.shape_fine.Reads as shape-fine-reads
 use Rattle.state.proofs.entities.triples_fine.Reads as triples-fine-reads
-use Rattle.tables.proofs.users.nobody_on.Reads as nobody-on-reads
-use Rattle.tables.proofs.entities.used.Reads as used-reads
-use Rattle.tables.proofs.entities.level.Reads as level-reads
-use Rattle.tables.proofs.entities.mark.Reads as mark-reads
-use Rattle.tables.proofs.entities.maximum.Reads as maximum-reads
-use Rattle.tables.proofs.entities.releaser.Reads as releaser-reads
-use Rattle.tables.proofs.entities.type_of.Reads as type-of-reads
-use Rattle.tables.proofs.entities.value.Reads as value-reads
 
 type-of-requires : tie.Need-type-of-requires
 type-of-requires c κs = search needs

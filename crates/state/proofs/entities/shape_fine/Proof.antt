@@ -1,8 +1,6 @@
 use Rattle.state.specs.EntityLaws.{shape-form}
 use Rattle.state.proofs.entities.shape_fine.Statement.{statement}
 use Rattle.state.proofs.entities.shape_fine.Tie as tie
-use Rattle.state.proofs.entities.shape_fine.Reads as reads
-use Rattle.state.proofs.entities.shape_fine.Lts as lts
 
 returns : tie.Need-returns
 returns c = shape-form _ _ _ _ _ _ _

@@ -5,11 +5,8 @@ use Rattle.state.specs.RowLaws.{triple-last, triple-named, triple-next, 
 use borrow.Author.Needs.{needs}
 use Rattle.state.proofs.entities.triple_fine.Statement.{statement}
 use Rattle.state.proofs.entities.triple_fine.Tie as tie
-use Rattle.state.proofs.entities.triple_fine.Reads as reads
-use Rattle.state.proofs.entities.triple_fine.Lts as lts
 use Rattle.state.proofs.entities.named.Reads as named-reads
 use Rattle.state.proofs.entities.triple_unlike.Reads as triple-unlike-reads
-use Rattle.tables.proofs.entities.triple.Reads as triple-reads
 
 triple-requires : tie.Need-triple-requires
 triple-requires c κs = search needs

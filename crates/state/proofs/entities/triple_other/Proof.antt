@@ -1,9 +1,6 @@
 use borrow.Author.Needs.{needs}
 use Rattle.state.proofs.entities.triple_other.Statement.{statement}
 use Rattle.state.proofs.entities.triple_other.Tie as tie
-use Rattle.state.proofs.entities.triple_other.Reads as reads
-use Rattle.state.proofs.entities.triple_other.Lts as lts
-use Rattle.tables.proofs.entities.triple.Reads as triple-reads
 
 triple-requires : tie.Need-triple-requires
 triple-requires c κs = search needs

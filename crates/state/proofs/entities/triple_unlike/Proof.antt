@@ -11,8 +11,6 @@ use lib.Dec.{eqb}
 use Rattle.model.specs.Tables.Words.{triples}
 use Rattle.state.proofs.entities.triple_unlike.Statement.{statement}
 use Rattle.state.proofs.entities.triple_unlike.Tie as tie
-use Rattle.state.proofs.entities.triple_unlike.Reads as reads
-use Rattle.state.proofs.entities.triple_unlike.Lts as lts
 use Rattle.state.proofs.entities.triple_other.Reads as triple-other-reads
 
 abbrev Inv-loop : tie.InvT-loop

@@ -11,8 +11,6 @@ use Rattle.model.specs.Tables.Words.{triples}
 use Rattle.state.specs.Passes.{tripleNew}
 use Rattle.state.proofs.entities.triples_fine.Statement.{statement}
 use Rattle.state.proofs.entities.triples_fine.Tie as tie
-use Rattle.state.proofs.entities.triples_fine.Reads as reads
-use Rattle.state.proofs.entities.triples_fine.Lts as lts
 use Rattle.state.proofs.entities.triple_fine.Reads as triple-fine-reads
 
 abbrev Inv-loop : tie.InvT-loop

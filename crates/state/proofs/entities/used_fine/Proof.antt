@@ -1,8 +1,6 @@
 use Rattle.state.specs.EntityLaws.{used-form}
 use Rattle.state.proofs.entities.used_fine.Statement.{statement}
 use Rattle.state.proofs.entities.used_fine.Tie as tie
-use Rattle.state.proofs.entities.used_fine.Reads as reads
-use Rattle.state.proofs.entities.used_fine.Lts as lts
 
 returns : tie.Need-returns
 returns c = used-form _ _

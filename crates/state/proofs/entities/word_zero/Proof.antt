@@ -1,9 +1,6 @@
 use borrow.Author.Needs.{needs}
 use Rattle.state.proofs.entities.word_zero.Statement.{statement}
 use Rattle.state.proofs.entities.word_zero.Tie as tie
-use Rattle.state.proofs.entities.word_zero.Reads as reads
-use Rattle.state.proofs.entities.word_zero.Lts as lts
-use Rattle.tables.proofs.entities.entity_at.Reads as entity-at-reads
 
 entity-at-requires : tie.Need-entity-at-requires
 entity-at-requires c κs = search needs

@@ -2,8 +2,6 @@ use native.Mathlib.Omega.{arith}
 use Rattle.state.specs.SecureLaws.{capped-over, capped-within}
 use Rattle.state.proofs.secure.at_most_eight.Statement.{statement}
 use Rattle.state.proofs.secure.at_most_eight.Tie as tie
-use Rattle.state.proofs.secure.at_most_eight.Reads as reads
-use Rattle.state.proofs.secure.at_most_eight.Lts as lts
 
 returns : tie.Need-returns
 returns c = capped-over _ (c .if1 .taken)

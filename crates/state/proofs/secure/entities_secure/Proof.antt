@@ -10,8 +10,6 @@ use Rattle.model.specs.Tables.Layout.{tablesOf}
 use Rattle.state.specs.Passes.{entitySecure}
 use Rattle.state.proofs.secure.entities_secure.Statement.{statement}
 use Rattle.state.proofs.secure.entities_secure.Tie as tie
-use Rattle.state.proofs.secure.entities_secure.Reads as reads
-use Rattle.state.proofs.secure.entities_secure.Lts as lts
 use Rattle.state.proofs.secure.entity_secure.Reads as entity-secure-reads
 
 abbrev Inv-loop : tie.InvT-loop

@@ -7,15 +7,8 @@ use Rattle.state.specs.SecureLaws.{capped-low, entity-device, entity-fai
 use borrow.Author.Needs.{needs}
 use Rattle.state.proofs.secure.entity_secure.Statement.{statement}
 use Rattle.state.proofs.secure.entity_secure.Tie as tie
-use Rattle.state.proofs.secure.entity_secure.Reads as reads
-use Rattle.state.proofs.secure.entity_secure.Lts as lts
-use Rattle.levels.proofs.at_most.Reads as at-most-reads
 use Rattle.state.proofs.secure.at_most_eight.Reads as at-most-eight-reads
 use Rattle.state.proofs.secure.places_secure.Reads as places-secure-reads
-use Rattle.tables.proofs.entities.used.Reads as used-reads
-use Rattle.tables.proofs.entities.kind.Reads as kind-reads
-use Rattle.tables.proofs.entities.level.Reads as level-reads
-use Rattle.tables.proofs.entities.maximum.Reads as maximum-reads
 
 used-requires : tie.Need-used-requires
 used-requires c κs = search needs

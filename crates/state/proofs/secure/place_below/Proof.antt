@@ -1,11 +1,6 @@
 use borrow.Author.Needs.{needs}
 use Rattle.state.proofs.secure.place_below.Statement.{statement}
 use Rattle.state.proofs.secure.place_below.Tie as tie
-use Rattle.state.proofs.secure.place_below.Reads as reads
-use Rattle.state.proofs.secure.place_below.Lts as lts
-use Rattle.levels.proofs.at_most.Reads as at-most-reads
-use Rattle.tables.proofs.entities.level_or_zero.Reads as level-or-zero-reads
-use Rattle.tables.proofs.entities.place.Reads as place-reads
 
 place-requires : tie.Need-place-requires
 place-requires c κs = search needs

@@ -2,13 +2,6 @@ use Rattle.state.specs.SecureLaws.{place-secure}
 use borrow.Author.Needs.{needs}
 use Rattle.state.proofs.secure.place_secure.Statement.{statement}
 use Rattle.state.proofs.secure.place_secure.Tie as tie
-use Rattle.state.proofs.secure.place_secure.Reads as reads
-use Rattle.state.proofs.secure.place_secure.Lts as lts
-use Rattle.levels.proofs.at_most.Reads as at-most-reads
-use Rattle.tables.proofs.sums.is_labelled.Reads as is-labelled-reads
-use Rattle.tables.proofs.entities.level_or_zero.Reads as level-or-zero-reads
-use Rattle.tables.proofs.entities.place.Reads as place-reads
-use Rattle.tables.proofs.entities.shown.Reads as shown-reads
 
 place-requires : tie.Need-place-requires
 place-requires c κs = search needs

@@ -11,8 +11,6 @@ use Rattle.model.specs.Level.{atMost}
 use Rattle.model.specs.Tables.Words.{level, places}
 use Rattle.state.proofs.secure.places_below.Statement.{statement}
 use Rattle.state.proofs.secure.places_below.Tie as tie
-use Rattle.state.proofs.secure.places_below.Reads as reads
-use Rattle.state.proofs.secure.places_below.Lts as lts
 use Rattle.state.proofs.secure.place_below.Reads as place-below-reads
 
 abbrev Inv-loop : tie.InvT-loop

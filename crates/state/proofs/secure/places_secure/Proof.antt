@@ -10,8 +10,6 @@ use Rattle.model.specs.Tables.Layout.{tablesOf}
 use Rattle.state.specs.Passes.{placeSecure}
 use Rattle.state.proofs.secure.places_secure.Statement.{statement}
 use Rattle.state.proofs.secure.places_secure.Tie as tie
-use Rattle.state.proofs.secure.places_secure.Reads as reads
-use Rattle.state.proofs.secure.places_secure.Lts as lts
 use Rattle.state.proofs.secure.place_secure.Reads as place-secure-reads
 
 abbrev Inv-loop : tie.InvT-loop

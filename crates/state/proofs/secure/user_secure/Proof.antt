@@ -5,18 +5,8 @@ use Rattle.state.specs.SecureLaws.{capped-low, user-below, user-beyond, 
 use borrow.Author.Needs.{needs}
 use Rattle.state.proofs.secure.user_secure.Statement.{statement}
 use Rattle.state.proofs.secure.user_secure.Tie as tie
-use Rattle.state.proofs.secure.user_secure.Reads as reads
-use Rattle.state.proofs.secure.user_secure.Lts as lts
-use Rattle.levels.proofs.at_most.Reads as at-most-reads
-use Rattle.levels.proofs.roles_within.Reads as roles-within-reads
 use Rattle.state.proofs.secure.at_most_eight.Reads as at-most-eight-reads
 use Rattle.state.proofs.secure.places_below.Reads as places-below-reads
-use Rattle.tables.proofs.users.authorised.Reads as authorised-reads
-use Rattle.tables.proofs.users.clearance.Reads as clearance-reads
-use Rattle.tables.proofs.entities.used.Reads as used-reads
-use Rattle.tables.proofs.users.current.Reads as current-reads
-use Rattle.tables.proofs.users.device.Reads as device-reads
-use Rattle.tables.proofs.entities.level.Reads as level-reads
 
 current-requires : tie.Need-current-requires
 current-requires c κs = search needs

@@ -10,8 +10,6 @@ use Rattle.model.specs.Tables.Layout.{tablesOf}
 use Rattle.state.specs.Passes.{userSecure}
 use Rattle.state.proofs.secure.users_secure.Statement.{statement}
 use Rattle.state.proofs.secure.users_secure.Tie as tie
-use Rattle.state.proofs.secure.users_secure.Reads as reads
-use Rattle.state.proofs.secure.users_secure.Lts as lts
 use Rattle.state.proofs.secure.user_secure.Reads as user-secure-reads
 
 abbrev Inv-loop : tie.InvT-loop

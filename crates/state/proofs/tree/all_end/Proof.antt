@@ -4,8 +4,6 @@ use Rattle.state.specs.JumpLaws.{climbed-all, climbed-ends, climbed-low,
 use borrow.Author.Needs.{needs}
 use Rattle.state.proofs.tree.all_end.Statement.{statement}
 use Rattle.state.proofs.tree.all_end.Tie as tie
-use Rattle.state.proofs.tree.all_end.Reads as reads
-use Rattle.state.proofs.tree.all_end.Lts as lts
 use Rattle.state.proofs.tree.jump.Reads as jump-reads
 
 jump-requires : tie.Need-jump-requires

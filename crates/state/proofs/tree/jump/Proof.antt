@@ -5,8 +5,6 @@ use Rattle.state.specs.Jumps.{Jumped}
 use Rattle.state.specs.JumpLaws.{jumped-end, jumped-more, jumped-none}
 use Rattle.state.proofs.tree.jump.Statement.{statement}
 use Rattle.state.proofs.tree.jump.Tie as tie
-use Rattle.state.proofs.tree.jump.Reads as reads
-use Rattle.state.proofs.tree.jump.Lts as lts
 
 abbrev Inv-loop : tie.InvT-loop
 Inv-loop a b d₀ none₀ i₀ d none i = (i ≤ 65) × Jumped a b i none d

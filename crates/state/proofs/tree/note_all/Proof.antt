@@ -6,8 +6,6 @@ use Rattle.state.specs.Holders.{Filled}
 use Rattle.state.specs.HolderLaws.{filled-end, filled-next, stopped-in, went-on}
 use Rattle.state.proofs.tree.note_all.Statement.{statement}
 use Rattle.state.proofs.tree.note_all.Tie as tie
-use Rattle.state.proofs.tree.note_all.Reads as reads
-use Rattle.state.proofs.tree.note_all.Lts as lts
 use Rattle.state.proofs.tree.note_row.Reads as note-row-reads
 
 abbrev Inv-loop : tie.InvT-loop

@@ -7,11 +7,6 @@ use Rattle.state.specs.Holders.{Filled}
 use Rattle.state.specs.HolderLaws.{used-low, filled-put, filled-rest, filled-skip, filled-start, held-twice, slot-at, slot-entity, stopped, went-on}
 use Rattle.state.proofs.tree.note_row.Statement.{statement}
 use Rattle.state.proofs.tree.note_row.Tie as tie
-use Rattle.state.proofs.tree.note_row.Reads as reads
-use Rattle.state.proofs.tree.note_row.Lts as lts
-use Rattle.tables.proofs.entities.used.Reads as used-reads
-use Rattle.tables.proofs.entities.kind.Reads as kind-reads
-use Rattle.tables.proofs.entities.place.Reads as place-reads
 
 abbrev Inv-loop : tie.InvT-loop
 Inv-loop t h₀ c n i₀ h i = (i ≤ n) × (n ≤ 8) × Filled (tablesOf t) ((c .0 - 1) * 8 + i) h

@@ -5,8 +5,6 @@ use mathlib.Core.Path.{refl}
 use Rattle.state.specs.HolderLaws.{filled-low, filled-none, filled-top, tree-ends, tree-refused}
 use Rattle.state.proofs.tree.tree_fine.Statement.{statement}
 use Rattle.state.proofs.tree.tree_fine.Tie as tie
-use Rattle.state.proofs.tree.tree_fine.Reads as reads
-use Rattle.state.proofs.tree.tree_fine.Lts as lts
 use Rattle.state.proofs.tree.all_end.Reads as all-end-reads
 use Rattle.state.proofs.tree.note_all.Reads as note-all-reads
 

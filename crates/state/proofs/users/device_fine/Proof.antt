@@ -3,11 +3,6 @@ use Rattle.state.specs.UserLaws.{on-alone, on-none, on-other}
 use borrow.Author.Needs.{needs}
 use Rattle.state.proofs.users.device_fine.Statement.{statement}
 use Rattle.state.proofs.users.device_fine.Tie as tie
-use Rattle.state.proofs.users.device_fine.Reads as reads
-use Rattle.state.proofs.users.device_fine.Lts as lts
-use Rattle.tables.proofs.users.nobody_on.Reads as nobody-on-reads
-use Rattle.tables.proofs.users.device.Reads as device-reads
-use Rattle.tables.proofs.entities.kind_or_zero.Reads as kind-or-zero-reads
 
 device-requires : tie.Need-device-requires
 device-requires c κs = search needs

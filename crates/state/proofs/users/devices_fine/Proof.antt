@@ -10,8 +10,6 @@ use Rattle.model.specs.Tables.Layout.{tablesOf}
 use Rattle.state.specs.Passes.{onDevice}
 use Rattle.state.proofs.users.devices_fine.Statement.{statement}
 use Rattle.state.proofs.users.devices_fine.Tie as tie
-use Rattle.state.proofs.users.devices_fine.Reads as reads
-use Rattle.state.proofs.users.devices_fine.Lts as lts
 use Rattle.state.proofs.users.device_fine.Reads as device-fine-reads
 
 abbrev Inv-loop : tie.InvT-loop

@@ -1,8 +1,6 @@
 use Rattle.state.specs.UserLaws.{notice-form}
 use Rattle.state.proofs.users.notice_fine.Statement.{statement}
 use Rattle.state.proofs.users.notice_fine.Tie as tie
-use Rattle.state.proofs.users.notice_fine.Reads as reads
-use Rattle.state.proofs.users.notice_fine.Lts as lts
 
 returns : tie.Need-returns
 returns c = notice-form _ _ _

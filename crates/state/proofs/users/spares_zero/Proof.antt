@@ -10,8 +10,6 @@ use Rattle.model.specs.Tables.Words.{spare}
 use Rattle.state.specs.UserLaws.{spare-zero}
 use Rattle.state.proofs.users.spares_zero.Statement.{statement}
 use Rattle.state.proofs.users.spares_zero.Tie as tie
-use Rattle.state.proofs.users.spares_zero.Reads as reads
-use Rattle.state.proofs.users.spares_zero.Lts as lts
 use Rattle.state.proofs.users.word_zero.Reads as word-zero-reads
 
 abbrev Inv-loop : tie.InvT-loop

@@ -10,8 +10,6 @@ use Rattle.model.specs.Tables.WordAt.{userWordAt}
 use Rattle.state.specs.Passes.{userBlank}
 use Rattle.state.proofs.users.user_blank.Statement.{statement}
 use Rattle.state.proofs.users.user_blank.Tie as tie
-use Rattle.state.proofs.users.user_blank.Reads as reads
-use Rattle.state.proofs.users.user_blank.Lts as lts
 use Rattle.state.proofs.users.word_zero.Reads as word-zero-reads
 
 abbrev Inv-loop : tie.InvT-loop

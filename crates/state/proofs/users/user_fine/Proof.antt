@@ -6,20 +6,10 @@ use Rattle.state.specs.UserLaws.{user-absent, user-head-fails, user-noti
 use borrow.Author.Needs.{needs}
 use Rattle.state.proofs.users.user_fine.Statement.{statement}
 use Rattle.state.proofs.users.user_fine.Tie as tie
-use Rattle.state.proofs.users.user_fine.Reads as reads
-use Rattle.state.proofs.users.user_fine.Lts as lts
 use Rattle.state.proofs.users.notice_fine.Reads as notice-fine-reads
 use Rattle.state.proofs.users.spares_zero.Reads as spares-zero-reads
 use Rattle.state.proofs.users.user_blank.Reads as user-blank-reads
 use Rattle.state.proofs.users.user_head.Reads as user-head-reads
-use Rattle.tables.proofs.users.authorised.Reads as authorised-reads
-use Rattle.tables.proofs.users.clearance.Reads as clearance-reads
-use Rattle.tables.proofs.users.current.Reads as current-reads
-use Rattle.tables.proofs.users.device.Reads as device-reads
-use Rattle.tables.proofs.users.held.Reads as held-reads
-use Rattle.tables.proofs.users.held_op.Reads as held-op-reads
-use Rattle.tables.proofs.users.missed.Reads as missed-reads
-use Rattle.tables.proofs.users.present.Reads as present-reads
 
 present-requires : tie.Need-present-requires
 present-requires c κs = search needs

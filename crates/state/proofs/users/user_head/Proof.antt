@@ -1,8 +1,6 @@
 use Rattle.state.specs.UserLaws.{head-form}
 use Rattle.state.proofs.users.user_head.Statement.{statement}
 use Rattle.state.proofs.users.user_head.Tie as tie
-use Rattle.state.proofs.users.user_head.Reads as reads
-use Rattle.state.proofs.users.user_head.Lts as lts
 
 returns : tie.Need-returns
 returns c = head-form _ _ _ _ _

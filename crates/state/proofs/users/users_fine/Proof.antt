@@ -10,8 +10,6 @@ use Rattle.model.specs.Tables.Layout.{tablesOf}
 use Rattle.model.specs.State.Tests.{userTest}
 use Rattle.state.proofs.users.users_fine.Statement.{statement}
 use Rattle.state.proofs.users.users_fine.Tie as tie
-use Rattle.state.proofs.users.users_fine.Reads as reads
-use Rattle.state.proofs.users.users_fine.Lts as lts
 use Rattle.state.proofs.users.user_fine.Reads as user-fine-reads
 
 abbrev Inv-loop : tie.InvT-loop

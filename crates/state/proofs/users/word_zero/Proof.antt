@@ -1,9 +1,6 @@
 use borrow.Author.Needs.{needs}
 use Rattle.state.proofs.users.word_zero.Statement.{statement}
 use Rattle.state.proofs.users.word_zero.Tie as tie
-use Rattle.state.proofs.users.word_zero.Reads as reads
-use Rattle.state.proofs.users.word_zero.Lts as lts
-use Rattle.tables.proofs.users.user_at.Reads as user-at-reads
 
 user-at-requires : tie.Need-user-at-requires
 user-at-requires c κs = search needs

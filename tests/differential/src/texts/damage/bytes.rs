@@ -5,7 +5,7 @@ use generate::Dice;
 use crate::texts::edit::any_byte;
 
 /// Random texts are up to some twice as long as the longest that can be read.
-const MOST_RANDOM: u32 = 350;
+const RANDOM_MOST: u32 = 350;
 
 /// The byte is missing.
 pub fn drop(_: &mut Dice, text: &mut Vec<u8>, at: usize) {
@@ -65,6 +65,6 @@ pub fn noise(dice: &mut Dice, text: &mut Vec<u8>, at: usize) {
 
 /// Bytes that have nothing to do with the text, any number of them.
 pub fn random(dice: &mut Dice, text: &mut Vec<u8>, _: usize) {
-    let length = dice.below(MOST_RANDOM);
+    let length = dice.below(RANDOM_MOST);
     *text = (0..length).map(|_| dice.word() as u8).collect();
 }

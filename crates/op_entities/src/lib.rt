@@ -1,0 +1,87 @@
+// The operations on one object or container: 4 edit, 5 copy, 6 level, 7 mark, 19 release. Each is asked once rungs 5 to 9 are passed. It judges
+// its own rungs, from 10 on, in their order, and has its effect or answers the rung.
+use levels::Level;
+use names::refusal;
+use names::role;
+use names::types;
+use tables::Entity;
+use tables::User;
+
+mod trial;
+
+ghost use Rattle.ladder.specs.Contract.{First, Judged, Second, Taking};
+ghost use Rattle.model.specs.Request.Operations.{toCopy, toEdit, toLevel, toMark, toRelease};
+
+// Operation 4: the value of entity e is argument a.
+pub fn edit(t: &mut [u32], q: &[u32], u: User, e: Entity) -> u32
+    requires { ⌜ Taking toEdit (now t) (now q) (u .0) × First (now t) (now q) (e .0) ⌝ }
+    ensures { λ r. ⌜ Judged (now (t .entry)) (now (q .entry)) r (now (t .exit)) ⌝ }
+{
+    if !ladder::kinds::is_entity(t, e) {
+        return refusal::WRONG_KIND;
+    }
+    tables::set_value(t, e, request::a(q));
+    refusal::ACCEPTED
+}
+
+// Operation 5: the value of entity e is that of entity c too, if c's level is at least e's.
+pub fn copy(t: &mut [u32], q: &[u32], u: User, e: Entity, c: Entity) -> u32
+    requires { ⌜ Taking toCopy (now t) (now q) (u .0) × First (now t) (now q) (e .0) × Second (now t) (now q) (c .0) ⌝ }
+    ensures { λ r. ⌜ Judged (now (t .entry)) (now (q .entry)) r (now (t .exit)) ⌝ }
+{
+    if !(ladder::kinds::is_entity(t, e) & ladder::kinds::is_entity(t, c)) {
+        return refusal::WRONG_KIND;
+    }
+    if !levels::at_most(tables::level(t, e), tables::level(t, c)) {
+        return refusal::LEVEL_OR_ROLES;
+    }
+    let v = tables::value(t, e);
+    tables::set_value(t, c, v);
+    refusal::ACCEPTED
+}
+
+// Operation 6: the level of entity e is argument a, if the tables stay secure; only a downgrader sets a strictly lower one.
+pub fn level(t: &mut [u32], q: &[u32], u: User, e: Entity) -> u32
+    requires { ⌜ Taking toLevel (now t) (now q) (u .0) × First (now t) (now q) (e .0) ⌝ }
+    ensures { λ r. ⌜ Judged (now (t .entry)) (now (q .entry)) r (now (t .exit)) ⌝ }
+{
+    if !ladder::kinds::is_entity(t, e) {
+        return refusal::WRONG_KIND;
+    }
+    let a = Level(request::a(q));
+    if levels::lower(a, tables::level(t, e)) & !tables::has_role(t, u, role::DOWNGRADER) {
+        return refusal::ROLE_MISSING;
+    }
+    if !crate::trial::try_level(t, e, a) {
+        return refusal::LEVEL_OR_ROLES;
+    }
+    refusal::ACCEPTED
+}
+
+// Operation 7: the mark of container e is argument a.
+pub fn mark(t: &mut [u32], q: &[u32], u: User, e: Entity) -> u32
+    requires { ⌜ Taking toMark (now t) (now q) (u .0) × First (now t) (now q) (e .0) ⌝ }
+    ensures { λ r. ⌜ Judged (now (t .entry)) (now (q .entry)) r (now (t .exit)) ⌝ }
+{
+    if !ladder::kinds::is_container(t, e) {
+        return refusal::WRONG_KIND;
+    }
+    tables::set_mark(t, e, request::a(q));
+    refusal::ACCEPTED
+}
+
+// Operation 19: the draft e is released, and the requester, who must act as a releaser, is its releaser.
+pub fn release(t: &mut [u32], q: &[u32], u: User, e: Entity) -> u32
+    requires { ⌜ Taking toRelease (now t) (now q) (u .0) × First (now t) (now q) (e .0) ⌝ }
+    ensures { λ r. ⌜ Judged (now (t .entry)) (now (q .entry)) r (now (t .exit)) ⌝ }
+{
+    if !ladder::kinds::is_draft(t, e) {
+        return refusal::WRONG_KIND;
+    }
+    if !tables::has_role(t, u, role::RELEASER) {
+        return refusal::ROLE_MISSING;
+    }
+    tables::set_releaser(t, e, u);
+    tables::set_type(t, e, types::RELEASED);
+    refusal::ACCEPTED
+}
