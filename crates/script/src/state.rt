@@ -1,16 +1,15 @@
 // Loads the state file (rules 12.1 and 12.5).
 use names::size;
 use names::text;
-ghost use mathlib.Core.List.{[], _∷_};
 ghost use mathlib.Core.Path.{_≡_};
 ghost use Prim.Native.Nat.{_+_, _*_, _≤_, _<_};
 ghost use lib.ListN.{length, take};
-ghost use Rattle.model.specs.Script.State.{stateOf, wordBytes, wordIn};
+ghost use Rattle.model.specs.Script.State.{ofBytes, stateOf, wordBytes, wordIn};
 ghost use Rattle.model.specs.Tables.Layout.{wordCount};
 
 // The word of four bytes, the lowest first.
 fn word_of(a: u8, b: u8, c: u8, d: u8) -> u32
-    ensures { λ r. ⌜ r ≡ wordIn (a ∷ b ∷ c ∷ d ∷ []) 0 ⌝ }
+    ensures { λ r. ⌜ r ≡ ofBytes a b c d ⌝ }
 {
     a as u32
         + text::SECOND_BYTE * (b as u32)
