@@ -1,14 +1,16 @@
-// The desk as a program: the tables come from the file state.words, the requests from standard input, and the reports go to standard output. All that is decided
-// is decided by the functions of `script`; here bytes are moved.
+// The desk as a program. The tables come from the file state.words, the requests from standard input, and the reports go to standard output.
+// The functions of `script` decide all that is decided; here bytes are moved.
 use libc::STDIN_FILENO;
 use libc::STDOUT_FILENO;
+use names::size;
 ghost use mathlib.Core.Bool.{true};
 ghost use mathlib.Core.Path.{_≡_};
 ghost use Prim.Native.Nat.{_<_, _≤_};
 ghost use lib.ListN.{length, take};
 ghost use Rattle.model.specs.Text.Unfinished.{longest};
 
-// The bytes of the state file at the front of the room, and how many there are: none where there is no such file, or it cannot be read.
+// Reads the bytes of the state file to the front of the room, and answers how many there are: none where there is no such file, or it cannot be
+// read.
 fn read_state(room: &mut [u8]) -> usize
     ensures { λ r. ⌜ r ≤ length (now (room .exit)) ⌝ }
 {
@@ -21,7 +23,7 @@ fn read_state(room: &mut [u8]) -> usize
     n
 }
 
-// Reads once behind the first len bytes of the window, if more are wanted, and answers how many bytes there are then. Those that wait in the
+// Reads once after the first len bytes of the window, if more are wanted, and answers how many bytes there are then. The bytes that wait in the
 // window stay. A read that fails is told, and brings nothing.
 fn fetch(window: &mut [u8], len: usize, wanted: bool) -> usize
     requires { ⌜ (len ≤ length (now window)) × (wanted ≡ true → len < length (now window)) ⌝ }
@@ -47,7 +49,7 @@ fn put(reports: &[u8]) -> bool {
 }
 
 // Runs what arrives of the script, piece by piece, and writes the reports of each piece before it asks for the next. A loop must be seen to
-// end, and nothing says that input does: so it counts down from a number that no script uses up.
+// end, and nothing says that input does. So it counts down from a number that no script uses up.
 fn serve(tables: &mut [u32], window: &mut [u8], out: &mut [u8])
     requires { ⌜ longest < length (now window) ⌝ }
 {
@@ -72,10 +74,11 @@ fn serve(tables: &mut [u32], window: &mut [u8], out: &mut [u8])
     }
 }
 
+// The file has room for a byte too many, so that a longer file is seen.
 fn main() {
-    let mut file = [0u8; 9217];
+    let mut file = [0u8; size::STATE_BYTES + 1];
     let size = read_state(&mut file);
-    let mut tables = [0u32; 2304];
+    let mut tables = [0u32; size::TABLE_WORDS];
     let n = script::state::load(&file[..size], &mut tables);
     let mut window = io::large_buffer();
     let mut out = io::large_buffer();

@@ -1,11 +1,12 @@
 -- What the public calls promise, for all words. Rule 8.6: every call answers a pair; the check and the step have no number to give.
 use mathlib.Core.List.{List}
 use mathlib.Core.Path.{_≡_}
-use Prim.Native.Nat.{_*_, _+_, ℕ}
+use Prim.Native.Nat.{_*_, _+_, suc, ℕ}
 use Rattle.mms.specs.declared.Answer.{Answer}
 use Rattle.model.specs.List.Listing.{Lists}
 use Rattle.model.specs.Request.Step.{afterOf, answerOf}
 use Rattle.model.specs.State.Check.{check}
+use Rattle.model.specs.Text.Numbers.{most}
 use Rattle.model.specs.Text.Reading.{Reads}
 use Rattle.model.specs.Text.Writing.{Writes}
 
@@ -34,9 +35,13 @@ Reading s w a r = Reads s w (a .no) (a .number) r
 abbrev pub Writing : List ℕ → List ℕ → Answer → List ℕ → Type 0
 Writing w room a r = Writes w room (a .no) (a .number) r
 
+-- how many numbers 32 bits can be
+abbrev pub numbers : ℕ
+numbers = suc most
+
 -- An answer in one word of 64 bits, as C gets it.
 abbrev pub exported : Answer → ℕ
-exported a = a .no * 4294967296 + a .number
+exported a = a .no * numbers + a .number
 
 -- A call that promises P of its answer and of what stands afterwards in the slice that it writes, for C: the answer comes in one word.
 pub record Exports (P : Answer → List ℕ → Type 0) (a : ℕ) (r : List ℕ) : Type 0 where

@@ -1,5 +1,4 @@
--- What the public calls promise, that nothing else satisfies it, and what the list answers on S1.
+-- What the public calls promise, and that nothing else satisfies it.
 pub mod Contract
 pub mod Unique
-pub mod Cases
 pub mod RoundTrip

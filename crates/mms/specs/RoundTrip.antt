@@ -11,8 +11,8 @@ use Rattle.model.specs.Text.BothWays.{read-has, read-short, read-write, write-r
 use Rattle.model.specs.Text.Broken.{FirstBad, sorts}
 use Rattle.model.specs.Text.BrokenLaws.{broken-reads, reads-broken}
 use Rattle.model.specs.Text.Given.{HasText, Small}
-use Rattle.model.specs.Text.Reading.{Reads, notRead}
-use Rattle.model.specs.Text.Writing.{Writes, withoutText}
+use Rattle.model.specs.Text.Reading.{Reads}
+use Rattle.model.specs.Text.Writing.{Writes}
 use Rattle.model.specs.Request.Refusals as refusal
 
 -- an answer of two numbers
@@ -20,40 +20,42 @@ abbrev pub answering : ℕ → ℕ → Answer
 answering a n = record { no = a; number = n }
 
 -- A text that is read is what the writer gives for its words, where there is room,
-pub read-then-write : (s v w room r : List ℕ) (a b : Answer) → Reading s v a w → a .no ≡ 0 → Writing w room b r → length s ≤ length room
-    → (b ≡ answering 0 (length s)) × (r ≡ s ++ drop (length s) room)
+pub read-then-write : (s v w room r : List ℕ) (a b : Answer) → Reading s v a w → a .no ≡ refusal.accepted → Writing w room b r
+    → length s ≤ length room → (b ≡ answering refusal.accepted (length s)) × (r ≡ s ++ drop (length s) room)
 read-then-write s v w room r a b x z y l =
     let e = read-write (subst (λ (n : ℕ). Reads s v n (a .number) w) z x) y l in
     (λ i. record { no = e .0 i; number = e .1 i }, e .2)
 
 -- and where there is too little the writer asks for its bytes.
-pub read-then-short : (s v w room r : List ℕ) (a b : Answer) → Reading s v a w → a .no ≡ 0 → Writing w room b r → length room < length s
-    → (b ≡ answering refusal.tooShort (length s)) × (r ≡ room)
+pub read-then-short : (s v w room r : List ℕ) (a b : Answer) → Reading s v a w → a .no ≡ refusal.accepted → Writing w room b r
+    → length room < length s → (b ≡ answering refusal.tooShort (length s)) × (r ≡ room)
 read-then-short s v w room r a b x z y l =
     let e = read-short (subst (λ (n : ℕ). Reads s v n (a .number) w) z x) y l in
     (λ i. record { no = e .0 i; number = e .1 i }, e .2)
 
 -- Words of 32 bits that are written are read again from the bytes that were written.
-pub write-then-read : (w room r v u : List ℕ) (a b : Answer) → Small w → Writing w room b r → b .no ≡ 0 → length v ≡ requestWords
-    → Reading (take (b .number) r) v a u → (a ≡ answering 0 0) × (u ≡ w)
+pub write-then-read : (w room r v u : List ℕ) (a b : Answer) → Small w → Writing w room b r → b .no ≡ refusal.accepted
+    → length v ≡ requestWords → Reading (take (b .number) r) v a u → (a ≡ answering refusal.accepted 0) × (u ≡ w)
 write-then-read w room r v u a b s y z h x =
     let e = write-read s (subst (λ (n : ℕ). Writes w room n (b .number) r) z y) h x in
     (λ i. record { no = e .0 i; number = e .1 i }, e .2)
 
--- The writer refuses with 5 exactly those words of 32 bits that no text gives,
-pub written-exactly-given : (w room r : List ℕ) (b : Answer) → length w ≡ requestWords → Small w → Writing w room b r → (b .no ≡ withoutText) ↔ (¬ HasText w)
+-- The writer refuses as a bad request exactly those words of 32 bits that no text gives,
+pub written-exactly-given : (w room r : List ℕ) (b : Answer) → length w ≡ requestWords → Small w → Writing w room b r
+    → (b .no ≡ refusal.badRequest) ↔ (¬ HasText w)
 written-exactly-given w room r b h s y = written-exactly h s y
 
 -- and the reader leaves words that a text gives.
-pub read-given : (s v w : List ℕ) (a : Answer) → Reading s v a w → a .no ≡ 0 → HasText w
+pub read-given : (s v w : List ℕ) (a : Answer) → Reading s v a w → a .no ≡ refusal.accepted → HasText w
 read-given s v w a x z = read-has (subst (λ (n : ℕ). Reads s v n (a .number) w) z x)
 
--- The number with 18 is the first line that is bad or missing, and then nothing is written;
-pub read-names-line : (s v w : List ℕ) (a : Answer) → Reading s v a w → a .no ≡ notRead → FirstBad sorts s (a .number) × (w ≡ v)
+-- Where the text is no request the number is the first line that is bad or missing, and nothing is written;
+pub read-names-line : (s v w : List ℕ) (a : Answer) → Reading s v a w → a .no ≡ refusal.notARequest → FirstBad sorts s (a .number) × (w ≡ v)
 read-names-line s v w a x z = reads-broken (subst (λ (n : ℕ). Reads s v n (a .number) w) z x)
 
--- where there is such a line, 18 names it.
-pub bad-line-named : (s v w : List ℕ) (k : ℕ) (a : Answer) → FirstBad sorts s k → length v ≡ requestWords → Reading s v a w → (a ≡ answering notRead k) × (w ≡ v)
+-- where there is such a line, the answer names it.
+pub bad-line-named : (s v w : List ℕ) (k : ℕ) (a : Answer) → FirstBad sorts s k → length v ≡ requestWords → Reading s v a w
+    → (a ≡ answering refusal.notARequest k) × (w ≡ v)
 bad-line-named s v w k a f h x =
     let e = broken-reads f h x in
     (λ i. record { no = e .0 i; number = e .1 i }, e .2)

@@ -5,7 +5,7 @@ use mathlib.Core.Path.{_∙_, _≡_, ap, sym}
 use Prim.Native.Nat.{_%_, _*_, _+_, _/_, _<_, ℕ}
 use native.Mathlib.Omega.{arith}
 use lib.ListN.{length}
-use Rattle.mms.specs.Contract.{Exports, Listing, Reading, Stepping, Writing, checking, exported}
+use Rattle.mms.specs.Contract.{Exports, Listing, Reading, Stepping, Writing, checking, exported, numbers}
 use Rattle.mms.specs.declared.Answer.{Answer}
 use Rattle.model.specs.List.Complete.{Complete}
 use Rattle.model.specs.List.Listing.{barred, listAnswer, listNumber, opens, roomAfter}
@@ -56,7 +56,7 @@ write-unique w room a b r s x y =
     (λ i. record { no = z .0 i; number = z .1 i }, z .2)
 
 -- Two answers of 32 bits each are one where C gets one word.
-pub exported-unique : (a b : Answer) → a .number < 4294967296 → b .number < 4294967296 → exported a ≡ exported b → a ≡ b
+pub exported-unique : (a b : Answer) → a .number < numbers → b .number < numbers → exported a ≡ exported b → a ≡ b
 exported-unique a b h k e =
     let n : a .no ≡ b .no = omega arith in
     let m : a .number ≡ b .number = omega arith in
@@ -70,11 +70,11 @@ exports-unique P one a b r s x y =
     (x .word ∙ ap (λ (c : Answer). exported c) (z .0) ∙ sym (y .word), z .1)
 
 -- and where the number has 32 bits the pair can be told from the word.
-exports-parts : (P : Answer → List ℕ → Type 0) → ((a : Answer) (r : List ℕ) → P a r → a .number < 4294967296) → (a : ℕ) (r : List ℕ) (x : Exports P a r)
-    → (a / 4294967296 ≡ x .answer .no) × (a % 4294967296 ≡ x .answer .number)
+exports-parts : (P : Answer → List ℕ → Type 0) → ((a : Answer) (r : List ℕ) → P a r → a .number < numbers) → (a : ℕ) (r : List ℕ) (x : Exports P a r)
+    → (a / numbers ≡ x .answer .no) × (a % numbers ≡ x .answer .number)
 exports-parts P small a r x =
     let n = small (x .answer) r (x .called) in
-    let w : a ≡ x .answer .no * 4294967296 + x .answer .number = x .word in
+    let w : a ≡ x .answer .no * numbers + x .answer .number = x .word in
     (omega arith, omega arith)
 
 -- So it is with the step,
@@ -87,7 +87,7 @@ pub exported-list-unique : (t : List ℕ) (u : ℕ) (room : List ℕ) (a b : ℕ
 exported-list-unique t u room = exports-unique (Listing t u room) (list-unique t u room)
 
 pub exported-list-parts : (t : List ℕ) (u : ℕ) (room : List ℕ) (a : ℕ) (r : List ℕ) (x : Exports (Listing t u room) a r)
-    → (a / 4294967296 ≡ x .answer .no) × (a % 4294967296 ≡ x .answer .number)
+    → (a / numbers ≡ x .answer .no) × (a % numbers ≡ x .answer .number)
 exported-list-parts t u room = exports-parts (Listing t u room) (λ a r y. omega (arith, lists-small y))
 
 -- with the reader,
@@ -95,7 +95,7 @@ pub exported-read-unique : (s w : List ℕ) (a b : ℕ) (u v : List ℕ) → Exp
 exported-read-unique s w = exports-unique (Reading s w) (read-unique s w)
 
 pub exported-read-parts : (s w : List ℕ) (a : ℕ) (u : List ℕ) (x : Exports (Reading s w) a u)
-    → (a / 4294967296 ≡ x .answer .no) × (a % 4294967296 ≡ x .answer .number)
+    → (a / numbers ≡ x .answer .no) × (a % numbers ≡ x .answer .number)
 exported-read-parts s w = exports-parts (Reading s w) (λ a u y. omega (arith, y .number, read-number-small s w))
 
 -- and with the writer.
@@ -103,5 +103,5 @@ pub exported-write-unique : (w room : List ℕ) (a b : ℕ) (r s : List ℕ) →
 exported-write-unique w room = exports-unique (Writing w room) (write-unique w room)
 
 pub exported-write-parts : (w room : List ℕ) (a : ℕ) (r : List ℕ) (x : Exports (Writing w room) a r)
-    → (a / 4294967296 ≡ x .answer .no) × (a % 4294967296 ≡ x .answer .number)
+    → (a / numbers ≡ x .answer .no) × (a % numbers ≡ x .answer .number)
 exported-write-parts w room = exports-parts (Writing w room) (λ a r y. omega (arith, y .number, write-number-small w))

@@ -1,5 +1,6 @@
-// The desk's public calls, and their C exports. Each takes any words or bytes, and none asks anything of them. An answer is a pair: document
-// 01's number, and a count, a need or a line that goes with some of them, which is 0 for the check and the step.
+// The desk's public calls, and their C exports. Each takes any words or bytes, and asks nothing of them. An answer is a pair: document 01's
+// number, and a count, a need or a line that goes with some of these. The check and the step have no second number, and give 0.
+use names::text;
 ghost use mathlib.Core.Path.{_≡_};
 ghost use Rattle.mms.specs.Contract.{Exports, Listing, Reading, Stepping, Writing, checking, exported};
 
@@ -8,7 +9,7 @@ pub struct Answer {
     pub number: u32,
 }
 
-// The state check: 0 for well-formed, secure tables, else 1, 2 or 3.
+// The state check. Well-formed, secure tables are accepted; others have a bad length, are not well-formed or are not secure.
 pub fn check(tables: &[u32]) -> Answer
     ensures { λ r. ⌜ r ≡ checking (now (tables .entry)) ⌝ }
 {
@@ -16,7 +17,7 @@ pub fn check(tables: &[u32]) -> Answer
     Answer { no: c, number: 0 }
 }
 
-// One request: its answer, 0 to 16, and its effect on the tables, or its notice, or nothing at all.
+// The step settles one request: it answers, and leaves the request's effect on the tables, or its notice, or nothing at all.
 pub fn step(tables: &mut [u32], request: &[u32]) -> Answer
     ensures { λ r. ⌜ Stepping (now (tables .entry)) (now (request .entry)) r (now (tables .exit)) ⌝ }
 {
@@ -24,8 +25,8 @@ pub fn step(tables: &mut [u32], request: &[u32]) -> Answer
     Answer { no: n, number: 0 }
 }
 
-// The disclosure list: every reference by which this user's request to show would be accepted, or refused for a full screen only, as entries
-// at the front of the room; with 17 the number of entries that there are, and the room as it was.
+// The disclosure list puts entries at the front of the room: every reference by which this user's request to show would be accepted, or refused
+// for a full screen only. Where the room is too short, it answers how many entries there are, and the room stays.
 pub fn list(tables: &[u32], user: u32, room: &mut [u32]) -> Answer
     ensures { λ r. ⌜ Listing (now (tables .entry)) user (now (room .entry)) r (now (room .exit)) ⌝ }
 {
@@ -36,8 +37,8 @@ pub fn list(tables: &[u32], user: u32, room: &mut [u32]) -> Answer
     }
 }
 
-// The request of a text: its sixteen words, or 18 and the first line that is bad or missing, 8 where something follows the seventh; the words
-// change only with 0.
+// The reader gives the sixteen words of a text. Where the text is no request, it answers the first line that is bad or missing, and the words
+// stay; what follows the seventh line counts as a line more.
 pub fn read(text: &[u8], request: &mut [u32]) -> Answer
     ensures { λ r. ⌜ Reading (now (text .entry)) (now (request .entry)) r (now (request .exit)) ⌝ }
 {
@@ -48,8 +49,8 @@ pub fn read(text: &[u8], request: &mut [u32]) -> Answer
     }
 }
 
-// The text of a request at the front of the room, and its bytes; 5 where no text has these words; with 17 the bytes that it needs, and the
-// room as it was.
+// The writer puts the text of a request at the front of the room, and answers its bytes. Where no text has these words, they are a bad request.
+// Where the room is too short, it answers the bytes that the text needs, and the room stays.
 pub fn write(request: &[u32], room: &mut [u8]) -> Answer
     ensures { λ r. ⌜ Writing (now (request .entry)) (now (room .entry)) r (now (room .exit)) ⌝ }
 {
@@ -60,11 +61,11 @@ pub fn write(request: &[u32], room: &mut [u8]) -> Answer
     }
 }
 
-// The answer in one word: the number in the upper half, what goes with it in the lower.
+// The answer in one word: document 01's number in the upper half, and what goes with it in the lower.
 fn packed(no: u32, number: u32) -> u64
     ensures { λ r. ⌜ r ≡ exported (record { no = no; number = number }) ⌝ }
 {
-    no as u64 * 4294967296 + number as u64
+    no as u64 * text::NUMBERS + number as u64
 }
 
 // `check` for C.

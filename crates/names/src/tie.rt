@@ -8,7 +8,7 @@ ghost use Rattle.model.specs.Level.{compartmentCount, downgrader, levelCount, o
 ghost use Rattle.model.specs.List.Listing.{entryWords};
 ghost use Rattle.model.specs.Request.Operations.{numberOf, operations};
 ghost use Rattle.model.specs.Request.Words.{nameCount, requestWords};
-ghost use Rattle.model.specs.Script.State.{fileBytes, wordBytes, wordIn};
+ghost use Rattle.model.specs.Script.State.{fileBytes, fourthWeight, secondWeight, thirdWeight, wordBytes};
 ghost use Rattle.model.specs.Script.Windows.{reportBytes};
 ghost use Rattle.model.specs.Tables.Layout.{entitiesFrom, entityWidth, offset, userOffset, userWidth, wordCount};
 ghost use Rattle.model.specs.Tables.Words.{absentKind, authorised, clearance, containerKind, current, device, deviceKind, draftType, entityCount};
@@ -253,9 +253,8 @@ fn numbers_are() -> [u64; 2]
     [text::NUMBER_MOST, text::NUMBERS]
 }
 
-// What a byte weighs is the word in which it is 1 and the others are 0.
 fn byte_weights_are() -> [u32; 3]
-    ensures { λ r. ⌜ r ≡ wordIn (0 ∷ 1 ∷ 0 ∷ 0 ∷ []) 0 ∷ wordIn (0 ∷ 0 ∷ 1 ∷ 0 ∷ []) 0 ∷ wordIn (0 ∷ 0 ∷ 0 ∷ 1 ∷ []) 0 ∷ [] ⌝ }
+    ensures { λ r. ⌜ r ≡ secondWeight ∷ thirdWeight ∷ fourthWeight ∷ [] ⌝ }
 {
     [text::SECOND_BYTE, text::THIRD_BYTE, text::FOURTH_BYTE]
 }

@@ -8,7 +8,7 @@ use Rattle.lines.specs.Onto.{Wrote}
 use Rattle.model.specs.Script.Reports.{Report, output}
 use Rattle.model.specs.Script.Windows.{Ran, ran}
 
--- a run behind the reports rs
+-- a run after the reports rs
 abbrev pub after : List Report → Ran → Ran
 after rs n = record { reports = rs ++ n .reports; tables = n .tables; rest = n .rest; line = n .line }
 

@@ -24,7 +24,7 @@ use Rattle.script.specs.Going.{Going, after}
 use Rattle.script.specs.Reported.{fromCode}
 use Rattle.script.specs.RunLaws.{idle-end, idle-full, idle-go, output-more, ran-bad, ran-idle, ran-turn}
 use Rattle.script.specs.Running.{Halts, RunsOn}
-use Rattle.script.specs.Turn.{leftBy, leftOf, turnedBy, turnedOf}
+use Rattle.script.specs.Turn.{Turns, leftBy, turnedBy, turnedOf}
 use Rattle.script.specs.declared.runs.Ran.{Ran}
 use Rattle.script.specs.declared.turns.Place.{Place}
 use Rattle.script.specs.declared.turns.Turned.{Turned}
@@ -67,12 +67,14 @@ module _ {t₀ s : List ℕ} {last : Bool} {room t : List ℕ} {at : ℕ} {out :
 
   -- what was run so far, and one report more
   after-more : (rs : List model.Report) (r : model.Report) (k : windows.Ran) → after rs (preceded r k) ≡ after (rs ++ (r ∷ [])) k
-  after-more rs r k = ap (λ (l : List model.Report). record { reports = l; tables = k .tables; rest = k .rest; line = k .line }) (sym (append-assoc rs (r ∷ []) (k .reports)))
+  after-more rs r k =
+      ap (λ (l : List model.Report). record { reports = l; tables = k .tables; rest = k .rest; line = k .line })
+      (sym (append-assoc rs (r ∷ []) (k .reports)))
 
-  settled-on : (x : Turned) (u out′ : List ℕ) (n′ : ℕ) (m : Wording) (y : List ℕ) → readSeven (drop at s) ≡ lines m y → at < length s → reportBytes ≤ length room - n
-      → x ≡ turnedBy t (length s) (here at) (lines m y) → u ≡ afterOf t (sixteen m) → Puts (reportText (fromCode (x .report))) out n out′ n′
-      → Going t₀ s last room u (x .place .at) out′ n′
-  settled-on x u out′ n′ m y r h room52 e f p =
+  settled-on : (x : Turned) (u out′ : List ℕ) (n′ : ℕ) (m : Wording) (y : List ℕ) → readSeven (drop at s) ≡ lines m y → at < length s
+      → reportBytes ≤ length room - n → x ≡ turnedBy t (length s) (here at) (lines m y) → u ≡ afterOf t (sixteen m)
+      → Puts (reportText (fromCode (x .report))) out n out′ n′ → Going t₀ s last room u (x .place .at) out′ n′
+  settled-on x u out′ n′ m y r h enough e f p =
       let w : model.Report = report t (sixteen m) in
       let a : x .place .at ≡ length s - length y = ap (λ (v : Turned). v .place .at) e in
       let q : fromCode (x .report) ≡ w = ap (λ (v : Turned). fromCode (v .report)) e in
@@ -81,27 +83,29 @@ module _ {t₀ s : List ℕ} {last : Bool} {room t : List ℕ} {at : ℕ} {out :
       let d : drop (x .place .at) s ≡ y = rw a (rest .0) in
       let many : n′ ≡ n + length (reportText w) = p′ .many in
       let len = report-length w in
-      let busy : idle (length room - n) (drop at s) ≡ false = idle-go (length room - n) (drop at s) room52 (rw (length-drop at s) (omega arith)) in
+      let busy : idle (length room - n) (drop at s) ≡ false = idle-go (length room - n) (drop at s) enough (rw (length-drop at s) (omega arith)) in
       let left : length room - n - length (reportText w) ≡ length room - n′ = omega arith in
       record {
         within = omega arith;
         fits = omega arith;
         reports = g .reports ++ (w ∷ []);
-        so-far = g .so-far ∙ ap (after (g .reports)) (ran-turn t (drop at s) last (length room - n) m y busy r) ∙ after-more (g .reports) w _ ∙ rw (f, d, left) refl;
+        so-far =
+            g .so-far ∙ ap (after (g .reports)) (ran-turn t (drop at s) last (length room - n) m y busy r)
+            ∙ after-more (g .reports) w _ ∙ rw (f, d, left) refl;
         wrote = rw (output-more (g .reports) w) (wrote-puts (g .wrote) p′);
       }
 
   -- one request more is settled, and its report is written
-  pub going-turn : (x : Turned) (u out′ : List ℕ) (n′ : ℕ) → at < length s → reportBytes ≤ length room - n → x ≡ turnedOf t s (here at) → u ≡ leftOf t s (here at)
+  pub going-turn : (x : Turned) (u out′ : List ℕ) (n′ : ℕ) → at < length s → reportBytes ≤ length room - n → Turns t s (here at) x u
       → x .place .line ≡ 0 → Puts (reportText (fromCode (x .report))) out n out′ n′ → Going t₀ s last room u (x .place .at) out′ n′
-  going-turn x u out′ n′ h room52 e f z p = go (readSeven (drop at s)) refl
+  going-turn x u out′ n′ h enough o z p = go (readSeven (drop at s)) refl
     where
       go : (l : Lines) → readSeven (drop at s) ≡ l → Going t₀ s last room u (x .place .at) out′ n′
       go (lines m y) r =
-          settled-on x u out′ n′ m y r h room52
-          (e ∙ ap (turnedBy t (length s) (here at)) r) (f ∙ ap (leftBy t) r) p
+          settled-on x u out′ n′ m y r h enough
+          (o .turned ∙ ap (turnedBy t (length s) (here at)) r) (o .left ∙ ap (leftBy t) r) p
       go (badLine k) r =
-          let q : x ≡ turnedBy t (length s) (here at) (badLine k) = e ∙ ap (turnedBy t (length s) (here at)) r in
+          let q : x ≡ turnedBy t (length s) (here at) (badLine k) = o .turned ∙ ap (turnedBy t (length s) (here at)) r in
           let a : x .place .line ≡ k = ap (λ (v : Turned). v .place .line) q in
           let b = read-bad (drop at s) k r in
           absurd (omega arith)
@@ -125,10 +129,10 @@ module _ {t₀ s : List ℕ} {last : Bool} {room t : List ℕ} {at : ℕ} {out :
 
   halted : (x : Turned) (u out′ : List ℕ) (r : Ran) (k : ℕ) → readSeven (drop at s) ≡ badLine k → at < length s → reportBytes ≤ length room - n
       → x ≡ turnedBy t (length s) (here at) (badLine k) → u ≡ t → Halts s last out n at x r out′ → RunsOn t₀ s last room r u out′
-  halted x u out′ r k q h room52 e f halts = cases (true-or-false (not last && unfinished (drop at s))) waits stops
+  halted x u out′ r k q h enough e f halts = cases (true-or-false (not last && unfinished (drop at s))) waits stops
     where
       busy : idle (length room - n) (drop at s) ≡ false
-      busy = idle-go (length room - n) (drop at s) room52 (rw (length-drop at s) (omega arith))
+      busy = idle-go (length room - n) (drop at s) enough (rw (length-drop at s) (omega arith))
 
       is-bad : ran t (drop at s) last (length room - n) ≡ pick (not last && unfinished (drop at s)) (stopped t (drop at s)) (broken t (drop at s) k)
       is-bad = ran-bad t (drop at s) last (length room - n) k busy q
@@ -141,10 +145,12 @@ module _ {t₀ s : List ℕ} {last : Bool} {room t : List ℕ} {at : ℕ} {out :
       stops : (not last && unfinished (drop at s)) ≡ false → RunsOn t₀ s last room r u out′
       stops b =
           let w = halts .stops b in
-          let whole : ran t₀ s last (length room) ≡ after (g .reports) (broken t (drop at s) k) = g .so-far ∙ ap (after (g .reports)) (is-bad ∙ rw b refl) in
+          let whole : ran t₀ s last (length room) ≡ after (g .reports) (broken t (drop at s) k) =
+          g .so-far ∙ ap (after (g .reports)) (is-bad ∙ rw b refl) in
           let i : at ≡ length s - length (drop at s) = omega (arith, length-drop at s, g .within) in
           let p : r .place ≡ record { at = at; line = k } = w .0 ∙ ap (λ (v : Turned). v .place) e in
-          let o : Puts (reportText unread) out n out′ (r .bytes) = subst (λ (v : Turned). Puts (reportText (fromCode (v .report))) out n out′ (r .bytes)) e (w .1) in
+          let o : Puts (reportText unread) out n out′ (r .bytes) =
+          subst (λ (v : Turned). Puts (reportText (fromCode (v .report))) out n out′ (r .bytes)) e (w .1) in
           record {
             tables = f ∙ sym (ap (λ (j : windows.Ran). j .tables) whole);
             place = rw whole (p ∙ ap (λ (j : ℕ). record { at = j; line = k }) i);
@@ -152,16 +158,16 @@ module _ {t₀ s : List ℕ} {last : Bool} {room t : List ℕ} {at : ℕ} {out :
           }
 
   -- a request cannot be read: the run ends with that, unless the request may be unfinished
-  pub going-halt : (x : Turned) (u out′ : List ℕ) (r : Ran) → at < length s → reportBytes ≤ length room - n → x ≡ turnedOf t s (here at) → u ≡ leftOf t s (here at)
+  pub going-halt : (x : Turned) (u out′ : List ℕ) (r : Ran) → at < length s → reportBytes ≤ length room - n → Turns t s (here at) x u
       → x .place .line ≢ 0 → Halts s last out n at x r out′ → RunsOn t₀ s last room r u out′
-  going-halt x u out′ r h room52 e f z halts = go (readSeven (drop at s)) refl
+  going-halt x u out′ r h enough o z halts = go (readSeven (drop at s)) refl
     where
       go : (l : Lines) → readSeven (drop at s) ≡ l → RunsOn t₀ s last room r u out′
       go (lines m y) q =
-          let a : x ≡ turnedBy t (length s) (here at) (lines m y) = e ∙ ap (turnedBy t (length s) (here at)) q in
+          let a : x ≡ turnedBy t (length s) (here at) (lines m y) = o .turned ∙ ap (turnedBy t (length s) (here at)) q in
           absurd (z (ap (λ (v : Turned). v .place .line) a))
       go (badLine k) q =
-          halted x u out′ r k q h room52 (e ∙ ap (turnedBy t (length s) (here at)) q) (f ∙ ap (leftBy t) q) halts
+          halted x u out′ r k q h enough (o .turned ∙ ap (turnedBy t (length s) (here at)) q) (o .left ∙ ap (leftBy t) q) halts
 
 -- ---- how a run ends at a request that could not be read
 

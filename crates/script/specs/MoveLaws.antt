@@ -8,7 +8,7 @@ use native.Mathlib.Numerals.{add-one}
 use lib.ListN.{drop, getD, length, length-drop, length-set, set, take}
 use lib.Seq.{getD-drop, getD-set-other, getD-set-same, take-set-le, take-suc}
 
--- a store behind the first i elements is one element more
+-- a store after the first i elements is one element more
 pub store-next : (r : List ℕ) (i v : ℕ) → i < length r → take (i + 1) (set r i v) ≡ take i r ++ (v ∷ [])
 store-next r i v h =
     let z : i + 0 ≡ i = omega arith in

@@ -6,7 +6,7 @@ use mathlib.Core.Path.{_∙_, _≡_, ap, refl, subst, sym}
 use Prim.Native.Nat.{_+_, _<_, _≤_, ℕ}
 use native.Mathlib.Omega.{arith}
 use lib.Dec.{T}
-use lib.ListN.{getD, length, length-append}
+use lib.ListN.{length, length-append}
 use borrow.Author.Tests.{le-leb, lt-leb}
 use Rattle.model.specs.Basics.Cases.{cases, true-or-false}
 use Rattle.model.specs.Basics.TestLaws.{is-false, is-true}
@@ -19,84 +19,82 @@ use Rattle.model.specs.Script.ReportLaws.{report-length}
 use Rattle.model.specs.Script.Reports.{answerKey, bare, heldKey, missedKey, report, reportText, untold}
 use Rattle.model.specs.Script.Windows.{reportBytes}
 use Rattle.model.specs.Tables.Layout.{tablesOf}
-use Rattle.model.specs.Tables.Words.{held, missed}
 use Rattle.model.specs.Text.Lines.{line}
 use Rattle.model.specs.Text.Numbers.{digits}
 use Rattle.model.specs.Theorem.Steps.{afterOf-length, sized-agrees, unsized}
 use Rattle.model.specs.Theorem.Unique.{settles}
-use Rattle.script.specs.Reported.{Settled, fromCode, inCode}
+use Rattle.script.specs.Reported.{Settled, fromCode, holding, inCode}
 use Rattle.script.specs.declared.reports.Report.{Report}
 use Rattle.step.specs.Contract as step
 use Rattle.tables.specs.Singles.{UserIn}
+use Rattle.model.specs.Request.Refusals as refusal
 
--- rung 4 is the one that asks who requests
-rung-4 : (t q : List ℕ) → applies 4 (tablesOf t) (requestOf q) ≡ unknownUser (tablesOf t) (requestOf q)
+-- the rung of that refusal is the one that asks who requests
+rung-known : (t q : List ℕ) → applies refusal.unknownRequester (tablesOf t) (requestOf q) ≡ unknownUser (tablesOf t) (requestOf q)
 unfolding applies rungAt ladder
-rung-4 t q = refl
-
-user-is : (q : List ℕ) → requestOf q .user ≡ getD q 0 0
-unfolding requestOf
-user-is q = refl
+rung-known t q = refl
 
 module _ (t q : List ℕ) where
   -- a request that is not answered 1 to 4 has sixteen words, and its requester is a user
   abbrev pub Told : Type 0
-  Told = (length q ≡ requestWords) × UserIn (afterOf t q) (getD q 0 0)
+  Told = (length q ≡ requestWords) × UserIn (afterOf t q) (requestOf q .user)
 
-  pub told-if : (answerOf t q ≡ 0) ⊎ (4 < answerOf t q) → Told
+  pub told-if : (answerOf t q ≡ refusal.accepted) ⊎ (refusal.unknownRequester < answerOf t q) → Told
   told-if h = cases (true-or-false (sized t q)) sized-case (λ e. absurd (no-size e))
     where
       s : Settles t q (answerOf t q) (afterOf t q)
       s = settles t q
 
       no-size : sized t q ≡ false → ⊥
-      no-size e = let one : answerOf t q ≡ 1 = unsized t q (is-false (sized t q) e) .0 in cases h (λ z. omega arith) (λ z. omega arith)
+      no-size e = let one : answerOf t q ≡ refusal.badLength = unsized t q (is-false (sized t q) e) .0 in cases h (λ z. omega arith) (λ z. omega arith)
 
       sized-case : sized t q ≡ true → Told
       sized-case e =
           let ok : T (sized t q) = is-true (sized t q) e in
           let sizes = sized-agrees t q .to ok in
           let a = s .answered ok in
-          let four : applies 4 (tablesOf t) (requestOf q) ≡ false = cases h (λ z. a .accepted z 4) (λ z. a .below 4 z) in
-          let k : Known (tablesOf t) (requestOf q .user) = unknownUser-fails (tablesOf t) (requestOf q) .to (is-false (unknownUser (tablesOf t) (requestOf q)) (sym (rung-4 t q) ∙ four)) in
-          let u : requestOf q .user ≡ getD q 0 0 = user-is q in
-          (sizes .1, (afterOf-length t q ∙ sizes .0, subst (λ (n : ℕ). 1 ≤ n) u (k .low), subst (λ (n : ℕ). n ≤ 16) u (k .high)))
+          let four : applies refusal.unknownRequester (tablesOf t) (requestOf q) ≡ false =
+          cases h (λ z. a .accepted z refusal.unknownRequester) (λ z. a .below refusal.unknownRequester z) in
+          let no : unknownUser (tablesOf t) (requestOf q) ≡ false = sym (rung-known t q) ∙ four in
+          let k : Known (tablesOf t) (requestOf q .user) =
+          unknownUser-fails (tablesOf t) (requestOf q) .to (is-false (unknownUser (tablesOf t) (requestOf q)) no) in
+          (sizes .1, (afterOf-length t q ∙ sizes .0, k .low, k .high))
 
   -- the report of an answer from 1 to 4 is the answer alone,
-  pub report-bare : 1 ≤ answerOf t q → answerOf t q ≤ 4 → report t q ≡ bare (answerOf t q)
+  pub report-bare : 1 ≤ answerOf t q → answerOf t q ≤ refusal.unknownRequester → report t q ≡ bare (answerOf t q)
   unfolding report untold
-  report-bare h k = rw (le-leb 1 (answerOf t q) h, le-leb (answerOf t q) 4 k) refl
+  report-bare h k = rw (le-leb 1 (answerOf t q) h, le-leb (answerOf t q) refusal.unknownRequester k) refl
 
   -- and that of another tells the requester's words.
-  pub report-full : (answerOf t q ≡ 0) ⊎ (4 < answerOf t q)
+  pub report-full : (answerOf t q ≡ refusal.accepted) ⊎ (refusal.unknownRequester < answerOf t q)
       → report t q
-      ≡ record { answer = answerOf t q; held = tablesOf (afterOf t q) .user (getD q 0 0) held; missed = tablesOf (afterOf t q) .user (getD q 0 0) missed }
+      ≡ fromCode (holding (afterOf t q) (requestOf q .user) (answerOf t q))
   unfolding report untold
-  report-full h = rw (full h, user-is q) refl
+  report-full h = rw (full h) refl
     where
-      full : (answerOf t q ≡ 0) ⊎ (4 < answerOf t q) → untold (answerOf t q) ≡ false
+      full : (answerOf t q ≡ refusal.accepted) ⊎ (refusal.unknownRequester < answerOf t q) → untold (answerOf t q) ≡ false
       full (inl z) = rw z refl
-      full (inr z) = rw (le-leb 1 (answerOf t q) (omega arith), lt-leb (answerOf t q) 4 z) refl
+      full (inr z) = rw (le-leb 1 (answerOf t q) (omega arith), lt-leb (answerOf t q) refusal.unknownRequester z) refl
 
 -- ---- a request that the step answered with a and left the words n
 
 module _ {t q n : List ℕ} {a : ℕ} (s : step.Settled t q a n) where
-  told-of : (a ≡ 0) ⊎ (4 < a) → (answerOf t q ≡ 0) ⊎ (4 < answerOf t q)
-  told-of = subst (λ (k : ℕ). (k ≡ 0) ⊎ (4 < k)) (s .answer)
+  told-of : (a ≡ refusal.accepted) ⊎ (refusal.unknownRequester < a) → (answerOf t q ≡ refusal.accepted) ⊎ (refusal.unknownRequester < answerOf t q)
+  told-of = subst (λ (k : ℕ). (k ≡ refusal.accepted) ⊎ (refusal.unknownRequester < k)) (s .answer)
 
   -- its requester is a user in these words
-  pub settled-known : (a ≡ 0) ⊎ (4 < a) → (length q ≡ requestWords) × UserIn n (getD q 0 0)
-  settled-known h = let k = told-if t q (told-of h) in (k .0, subst (λ (l : List ℕ). UserIn l (getD q 0 0)) (sym (s .words)) (k .1))
+  pub settled-known : (a ≡ refusal.accepted) ⊎ (refusal.unknownRequester < a) → (length q ≡ requestWords) × UserIn n (requestOf q .user)
+  settled-known h = let k = told-if t q (told-of h) in (k .0, subst (λ (l : List ℕ). UserIn l (requestOf q .user)) (sym (s .words)) (k .1))
 
   -- and is told what these words hold,
-  pub settled-full : (r : Report) → (a ≡ 0) ⊎ (4 < a)
-      → r ≡ record { answer = a; held = tablesOf n .user (getD q 0 0) held; missed = tablesOf n .user (getD q 0 0) missed } → Settled t q r n
+  pub settled-full : (r : Report) → (a ≡ refusal.accepted) ⊎ (refusal.unknownRequester < a)
+      → r ≡ holding n (requestOf q .user) a → Settled t q r n
   settled-full r h e = record { reported = e ∙ rw (s .answer, s .words) (sym (ap inCode (report-full t q (told-of h)))); words = s .words }
 
   -- or only the answer.
-  pub settled-bare : (r : Report) → 1 ≤ a → a ≤ 4 → r ≡ record { answer = a; held = 0; missed = 0 } → Settled t q r n
+  pub settled-bare : (r : Report) → 1 ≤ a → a ≤ refusal.unknownRequester → r ≡ record { answer = a; held = 0; missed = 0 } → Settled t q r n
   settled-bare r h k e =
-      let b = report-bare t q (subst (λ (i : ℕ). 1 ≤ i) (s .answer) h) (subst (λ (i : ℕ). i ≤ 4) (s .answer) k) in
+      let b = report-bare t q (subst (λ (i : ℕ). 1 ≤ i) (s .answer) h) (subst (λ (i : ℕ). i ≤ refusal.unknownRequester) (s .answer) k) in
       record { reported = e ∙ rw (s .answer) (sym (ap inCode b)); words = s .words }
 
 -- ---- the lines of a report
@@ -111,12 +109,12 @@ abbrev pub missedLine : Report → List ℕ
 missedLine r = line missedKey (digits (r .missed))
 
 module _ (r : Report) where
-  -- they are its text, as they are written one behind another,
+  -- they are its text, as they are written one after another,
   pub report-lines : (answerLine r ++ heldLine r) ++ missedLine r ≡ reportText (fromCode r)
   unfolding reportText
   report-lines = append-assoc (answerLine r) (heldLine r) (missedLine r)
 
-  -- and find room in 52 bytes.
+  -- and find room where the longest report does.
   pub report-room : {n : ℕ} → reportBytes ≤ n
       → (length (answerLine r) + length (heldLine r) ≤ n) × (length (answerLine r ++ heldLine r) + length (missedLine r) ≤ n)
   report-room h =

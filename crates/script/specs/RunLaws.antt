@@ -22,7 +22,8 @@ use Rattle.script.specs.declared.turns.Place.{Place}
 module _ (t s : List ℕ) (last : Bool) (n : ℕ) where
   onward-ran : (r : Lines) → readSeven s ≡ r → onward (run (length s) last) t s last n r ≡ onward (λ u x i. ran u x last i) t s last n r
   onward-ran (lines m x) e =
-      ap (preceded (report t (sixteen m))) (ran-fuel (length s) last (afterOf t (sixteen m)) x (n - length (reportText (report t (sixteen m)))) (omega (arith, read-shorter s m x e)))
+      ap (preceded (report t (sixteen m)))
+      (ran-fuel (length s) last (afterOf t (sixteen m)) x (n - length (reportText (report t (sixteen m)))) (omega (arith, read-shorter s m x e)))
   onward-ran (badLine k) e = refl
 
   -- a run is its first turn, and the run of what is left

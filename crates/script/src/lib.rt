@@ -1,4 +1,4 @@
-// The program's work on bytes: the tables of a state file, a turn of the script, and a run of what has arrived of it.
+// The program's work on bytes: it loads the tables of a state file, takes a turn of the script, and runs what has arrived of the script.
 pub mod reports;
 pub mod runs;
 pub mod state;

@@ -1,4 +1,6 @@
-// What is told of a request: its answer, and what its requester holds afterwards (rule 12.3).
+// Reports a request: its answer, and what its requester holds afterwards (rule 12.3).
+use names::range;
+use names::refusal;
 use tables::User;
 ghost use mathlib.Core.Path.{_≡_};
 ghost use Prim.Native.Nat.{_+_, _≤_};
@@ -6,9 +8,7 @@ ghost use lib.ListN.{length};
 ghost use Rattle.lines.specs.Onto.{Puts, Wrote};
 ghost use Rattle.model.specs.Script.Reports.{reportText};
 ghost use Rattle.model.specs.Script.Windows.{reportBytes};
-ghost use Rattle.model.specs.Tables.Layout.{tablesOf};
-ghost use Rattle.model.specs.Tables.Words.{held, missed};
-ghost use Rattle.script.specs.Reported.{Settled, fromCode};
+ghost use Rattle.script.specs.Reported.{Settled, fromCode, holding};
 ghost use Rattle.tables.specs.Singles.{UserIn};
 
 pub struct Report {
@@ -31,7 +31,7 @@ pub fn bare(answer: u32) -> Report
 // The report of an answer and of what a user holds in the tables.
 fn full(tables: &[u32], user: u32, answer: u32) -> Report
     requires { ⌜ UserIn (now tables) user ⌝ }
-    ensures { λ r. ⌜ r ≡ record { answer = answer; held = tablesOf (now (tables .entry)) .user user held; missed = tablesOf (now (tables .entry)) .user user missed } ⌝ }
+    ensures { λ r. ⌜ r ≡ holding (now (tables .entry)) user answer ⌝ }
 {
     let u = User(user);
     Report {
@@ -41,21 +41,22 @@ fn full(tables: &[u32], user: u32, answer: u32) -> Report
     }
 }
 
-// Settles one request on the tables and reports it: the step's answer, and beside 0 and 5 to 16 the requester's refusal held and count.
+// Settles one request on the tables and reports it: the step's answer, and, where the request was accepted or leaves a notice, what the
+// requester holds.
 pub fn settle(tables: &mut [u32], request: &[u32]) -> Report
     ensures { λ r. ⌜ Settled (now (tables .entry)) (now (request .entry)) r (now (tables .exit)) ⌝ }
 {
     let answer = step::step(tables, request);
-    if answer == 0 {
-        return full(tables, request[0], answer);
+    if answer == refusal::ACCEPTED {
+        return full(tables, request::requester(request), answer);
     }
-    if answer < 5 {
+    if answer < range::FIRST_NOTICED {
         return bare(answer);
     }
-    full(tables, request[0], answer)
+    full(tables, request::requester(request), answer)
 }
 
-// The three lines of a report at the front of out, and how many bytes they have: at most 52.
+// Writes the three lines of a report at the front of out, and answers how many bytes they have.
 fn write_report(out: &mut [u8], r: Report) -> usize
     requires { ⌜ reportBytes ≤ length (now out) ⌝ }
     ensures { λ n. ⌜ Wrote (reportText (fromCode r)) (now (out .entry)) (now (out .exit)) n ⌝ }
@@ -65,7 +66,7 @@ fn write_report(out: &mut [u8], r: Report) -> usize
     lines::writing::put_line(out, h, b"missed=", r.missed)
 }
 
-// The three lines of a report at an index of out, and the index behind them.
+// Writes the three lines of a report at an index of out, and answers the index after them.
 pub fn put_report(out: &mut [u8], at: usize, r: Report) -> usize
     requires { ⌜ at + reportBytes ≤ length (now out) ⌝ }
     ensures { λ n. ⌜ Puts (reportText (fromCode r)) (now (out .entry)) at (now (out .exit)) n ⌝ }

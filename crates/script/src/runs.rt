@@ -1,7 +1,7 @@
-// A run of what has arrived of the script: request after request is settled, and its report is put behind those before it (rules 12.2 to
-// 12.4).
+// Runs what has arrived of the script: request after request is settled, and its report is put after those before it (rules 12.2 to 12.4).
 use crate::turns::Place;
 use crate::turns::Turned;
+use names::text;
 ghost use mathlib.Core.Path.{_≡_};
 ghost use Prim.Native.Nat.{_+_, _≤_};
 ghost use lib.Dec.{eqb};
@@ -25,7 +25,7 @@ pub struct Ran {
 fn ends_line(b: u8) -> usize
     ensures { λ r. ⌜ r ≡ pick (eqb b lineEnd) 1 0 ⌝ }
 {
-    if b == 10 {
+    if b == text::LINE_END {
         return 1;
     }
     0
@@ -45,18 +45,18 @@ fn line_ends(s: &[u8], at: usize) -> usize
     n
 }
 
-// Whether more bytes may make a request of those from an index on: fewer than 166, and fewer than seven lines.
+// Whether more bytes may make a request of those from an index on: they are fewer than the longest has, and fewer lines end in them.
 fn is_unfinished(s: &[u8], at: usize) -> bool
     requires { ⌜ at ≤ length (now s) ⌝ }
     ensures { λ r. ⌜ r ≡ unfinished (drop at (now (s .entry))) ⌝ }
 {
-    if 166 <= s.len() - at {
+    if text::TEXT_MOST <= s.len() - at {
         return false;
     }
-    line_ends(s, at) < 7
+    line_ends(s, at) < text::LINES
 }
 
-// The end of a run with the report of a turn behind n bytes of reports.
+// Ends a run with the report of a turn after n bytes of reports.
 fn reported(out: &mut [u8], n: usize, t: Turned) -> Ran
     requires { ⌜ n + reportBytes ≤ length (now out) ⌝ }
     ensures { λ r. ⌜ (r .place ≡ t .place) × Puts (reportText (fromCode (t .report))) (now (out .entry)) n (now (out .exit)) (r .bytes) ⌝ }
@@ -67,7 +67,7 @@ fn reported(out: &mut [u8], n: usize, t: Turned) -> Ran
     Ran { place, bytes }
 }
 
-// The end of a run at a request that could not be read: that is reported, unless the request may be unfinished.
+// Ends a run at a request that could not be read. That is reported, unless the request may be unfinished.
 fn halt(script: &[u8], last: bool, out: &mut [u8], n: usize, at: usize, t: Turned) -> Ran
     requires { ⌜ (at ≤ length (now script)) × (n + reportBytes ≤ length (now out)) ⌝ }
     ensures { λ r. ⌜ Halts (now (script .entry)) last (now (out .entry)) n at t r (now (out .exit)) ⌝ }
@@ -84,15 +84,15 @@ fn halt(script: &[u8], last: bool, out: &mut [u8], n: usize, at: usize, t: Turne
     reported(out, n, t)
 }
 
-// Settles the requests of script from its front on, each on the tables that the one before it left, and puts their reports at the front of out;
-// where fewer than 52 bytes of it are left, no further request is begun. `last` says that nothing will follow script.
+// Settles the requests of script from its front on, each on the tables that the one before it left, and puts their reports at the front of out.
+// Where out has no room left for the longest report, no further request is begun. `last` says that nothing will follow script.
 pub fn run(tables: &mut [u32], script: &[u8], last: bool, out: &mut [u8]) -> Ran
     ensures { λ r. ⌜ RunsOn (now (tables .entry)) (now (script .entry)) last (now (out .entry)) r (now (tables .exit)) (now (out .exit)) ⌝ }
 {
     let mut at: usize = 0;
     let mut n: usize = 0;
     while at < script.len() {
-        if out.len() - n < 52 {
+        if out.len() - n < text::REPORT_MOST {
             return Ran {
                 place: Place { at, line: 0 },
                 bytes: n,

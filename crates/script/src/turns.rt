@@ -1,14 +1,15 @@
-// One turn of the script: the request at its place is settled, and the place goes on (rules 12.2 to 12.4). First by value, where all the work is
-// done; then on a place that is lent and changed where it stands.
+// Takes one turn of the script: the request at its place is settled, and the place goes on (rules 12.2 to 12.4). First by value, where all the
+// work is done; then on a place that is lent and changed where it stands.
 use crate::reports::Report;
+use names::refusal;
+use names::size;
 use request_text::reading::Seven;
 ghost use mathlib.Core.Path.{_≡_};
 ghost use Prim.Native.Nat.{_≤_};
 ghost use lib.ListN.{length};
-ghost use Rattle.model.specs.Request.Step.{afterOf};
-ghost use Rattle.model.specs.Script.Reports.{report, unread};
+ghost use Rattle.model.specs.Script.Reports.{unread};
 ghost use Rattle.script.specs.Reported.{inCode};
-ghost use Rattle.script.specs.Turn.{leftOf, turnedOf};
+ghost use Rattle.script.specs.Turn.{SettledTo, Turns, TurnsLent};
 
 // How far a script has been read: the index of its next byte, and the line at which a request could not be read, 0 while all could.
 pub struct Place {
@@ -16,7 +17,7 @@ pub struct Place {
     pub line: u32,
 }
 
-// What a turn gives: the place behind the request, and the report of it.
+// What a turn gives: the place after the request, and the report of it.
 pub struct Turned {
     pub place: Place,
     pub report: Report,
@@ -28,13 +29,13 @@ fn stuck(at: usize, line: u32) -> Turned
 {
     Turned {
         place: Place { at, line },
-        report: crate::reports::bare(18),
+        report: crate::reports::bare(refusal::NOT_A_REQUEST),
     }
 }
 
 // The turn at a request whose words were read, up to the index next.
 fn settled(tables: &mut [u32], words: &[u32], next: usize) -> Turned
-    ensures { λ r. ⌜ (r ≡ record { place = record { at = next; line = 0 }; report = inCode (report (now (tables .entry)) (now (words .entry))) }) × (now (tables .exit) ≡ afterOf (now (tables .entry)) (now (words .entry))) ⌝ }
+    ensures { λ r. ⌜ SettledTo (now (tables .entry)) (now (words .entry)) next r (now (tables .exit)) ⌝ }
 {
     let report = crate::reports::settle(tables, words);
     Turned {
@@ -43,14 +44,14 @@ fn settled(tables: &mut [u32], words: &[u32], next: usize) -> Turned
     }
 }
 
-// The turn by value: the next seven lines of the script are read, and the step answers them. Whoever calls it has seen that there are bytes
-// left and that no request before could not be read: of these two it asks nothing, and reads from the index on.
+// The turn by value: the next seven lines of the script are read, and the step answers them. Its caller has seen that bytes are left and that
+// all requests before could be read. The turn does not ask for these two, and reads from the index on.
 pub fn turn_at(tables: &mut [u32], script: &[u8], p: Place) -> Turned
     requires { ⌜ p .at ≤ length (now script) ⌝ }
-    ensures { λ r. ⌜ (r ≡ turnedOf (now (tables .entry)) (now (script .entry)) p) × (now (tables .exit) ≡ leftOf (now (tables .entry)) (now (script .entry)) p) ⌝ }
+    ensures { λ r. ⌜ Turns (now (tables .entry)) (now (script .entry)) p r (now (tables .exit)) ⌝ }
 {
     let at = p.at;
-    let mut words = [0u32; 16];
+    let mut words = [0u32; size::REQUEST_WORDS];
     match request_text::reading::read_seven(script, at, &mut words) {
         Seven::BadLine(k) => stuck(at, k),
         Seven::Next(next) => settled(tables, &words, next),
@@ -60,7 +61,7 @@ pub fn turn_at(tables: &mut [u32], script: &[u8], p: Place) -> Turned
 // The same turn on a place that is lent, and changed where it stands.
 pub fn turn(tables: &mut [u32], script: &[u8], p: &mut Place) -> Report
     requires { ⌜ now p .at ≤ length (now script) ⌝ }
-    ensures { λ r. ⌜ (r ≡ turnedOf (now (tables .entry)) (now (script .entry)) (now (p .entry)) .report) × (now (p .exit) ≡ turnedOf (now (tables .entry)) (now (script .entry)) (now (p .entry)) .place) × (now (tables .exit) ≡ leftOf (now (tables .entry)) (now (script .entry)) (now (p .entry))) ⌝ }
+    ensures { λ r. ⌜ TurnsLent (now (tables .entry)) (now (script .entry)) (now (p .entry)) r (now (p .exit)) (now (tables .exit)) ⌝ }
 {
     let t = turn_at(tables, script, *p);
     *p = t.place;
@@ -70,7 +71,7 @@ pub fn turn(tables: &mut [u32], script: &[u8], p: &mut Place) -> Report
 // From a place by value to one that is lent, and back: a loop calls this one, since its contract speaks of no reference to a place.
 pub fn one_turn(tables: &mut [u32], script: &[u8], p: Place) -> Turned
     requires { ⌜ p .at ≤ length (now script) ⌝ }
-    ensures { λ r. ⌜ (r ≡ turnedOf (now (tables .entry)) (now (script .entry)) p) × (now (tables .exit) ≡ leftOf (now (tables .entry)) (now (script .entry)) p) ⌝ }
+    ensures { λ r. ⌜ Turns (now (tables .entry)) (now (script .entry)) p r (now (tables .exit)) ⌝ }
 {
     let mut q = p;
     let report = turn(tables, script, &mut q);

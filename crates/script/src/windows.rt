@@ -1,5 +1,6 @@
 // The window: what has arrived of the script and is not settled yet stands at the front of a buffer.
 use crate::turns::Place;
+use names::text;
 ghost use mathlib.Core.Bool.{_&&_, _||_, not};
 ghost use mathlib.Core.Path.{_≡_};
 ghost use Prim.Native.Nat.{_+_, _-_, _≤_};
@@ -29,7 +30,7 @@ pub fn is_over(p: Place, len: usize, last: bool) -> bool
     (p.line != 0) | last & (p.at == len)
 }
 
-// Whether a run that put n bytes of reports into a room of len bytes had room for another report. Then what is left of the window is no whole
+// Whether a run that put n bytes of reports into a room of len bytes had room for another report. What is left of the window is then no whole
 // request, and more bytes have to come before the next run.
 pub fn had_room(n: usize, len: usize) -> bool
     ensures { λ r. ⌜ r ≡ leb reportBytes (len - n) ⌝ }
@@ -37,5 +38,5 @@ pub fn had_room(n: usize, len: usize) -> bool
     if len < n {
         return false;
     }
-    52 <= len - n
+    text::REPORT_MOST <= len - n
 }

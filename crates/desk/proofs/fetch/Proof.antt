@@ -5,11 +5,6 @@ use borrow.Rule.Slice.PartMut.{take-put}
 use borrow.Author.Needs.{needs}
 use Rattle.desk.proofs.fetch.Statement.{statement}
 use Rattle.desk.proofs.fetch.Tie as tie
-use Rattle.desk.proofs.fetch.Reads as reads
-use Rattle.desk.proofs.fetch.Lts as lts
-use Rattle.io.proofs.count.Reads as count-reads
-use Rattle.libc.proofs.read.Reads as read-reads
-use Rattle.os.proofs.fail.Reads as fail-reads
 
 returns : tie.Need-returns
 returns c = search needs
@@ -51,7 +46,13 @@ same-length : tie.Need-same-length
 same-length c = search needs
 
 returns-2 : tie.Need-returns-2
-returns-2 c = (omega arith, search needs, take-put (c .before .before .before .before .before .before .before .before .before .before .args .len) (length (c .before .before .before .before .before .before .before .before .before .before .args .window .now) - c .before .before .before .before .before .before .before .before .before .before .args .len) (c .before .before .before .before .before .before .before .before .before .before .args .window .now) (c .before .before .before .before .before .before .read .last .1 .0) (c .before .before .before .before .before .before .before .before .before .before .pre .0))
+returns-2 c =
+    let s6 = c .before .before .before .before .before .before in
+    let s10 = s6 .before .before .before .before in (
+      omega arith,
+      search needs,
+      take-put (s10 .args .len) (length (s10 .args .window .now) - s10 .args .len) (s10 .args .window .now) (s6 .read .last .1 .0) (s10 .pre .0),
+    )
 
 pub fetch-spec : {M : Type 1} → statement M
 fetch-spec =

@@ -4,12 +4,6 @@ use lib.Seq.{length-take-le}
 use borrow.Author.Needs.{needs}
 use Rattle.desk.proofs.main.Statement.{statement}
 use Rattle.desk.proofs.main.Tie as tie
-use Rattle.desk.proofs.main.Reads as reads
-use Rattle.desk.proofs.main.Lts as lts
-use Rattle.desk.proofs.read_state.Reads as read-state-reads
-use Rattle.desk.proofs.serve.Reads as serve-reads
-use Rattle.io.proofs.large_buffer.Reads as large-buffer-reads
-use Rattle.script.proofs.state.load.Reads as load-reads
 
 slice-aggregate-read-state : tie.Need-slice-aggregate-read-state
 slice-aggregate-read-state c = search needs
@@ -39,7 +33,9 @@ array-borrow-prefix-tables : tie.Need-array-borrow-prefix-tables
 array-borrow-prefix-tables c = search needs
 
 slice-aggregate-serve : tie.Need-slice-aggregate-serve
-slice-aggregate-serve c = sym (length-take-le _ _ (omega (arith, c .before .before .before .before .load .ensures .1, c .before .before .before .before .load .kept .1 .0)))
+slice-aggregate-serve c =
+    let s4 = c .before .before .before .before in
+    sym (length-take-le _ _ (omega (arith, s4 .load .ensures .1, s4 .load .kept .1 .0)))
 
 slice-aggregate-serve-2 : tie.Need-slice-aggregate-serve-2
 slice-aggregate-serve-2 c = search needs

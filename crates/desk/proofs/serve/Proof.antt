@@ -9,17 +9,11 @@ use Rattle.script.specs.RunLaws.{runs-within}
 use Rattle.script.specs.WholeLaws.{wanted-short}
 use Rattle.desk.proofs.serve.Statement.{statement}
 use Rattle.desk.proofs.serve.Tie as tie
-use Rattle.desk.proofs.serve.Reads as reads
-use Rattle.desk.proofs.serve.Lts as lts
-use Rattle.desk.proofs.fetch.Reads as fetch-reads
-use Rattle.desk.proofs.put.Reads as put-reads
-use Rattle.script.proofs.runs.run.Reads as run-reads
-use Rattle.script.proofs.windows.had_room.Reads as had-room-reads
-use Rattle.script.proofs.windows.is_over.Reads as is-over-reads
-use Rattle.script.proofs.windows.keep.Reads as keep-reads
 
 abbrev Inv-loop : tie.InvT-loop
-Inv-loop tables₀ window₀ out₀ turns₀ len₀ wanted₀ last₀ tables window out turns len wanted last = (len ≤ length window) × (wanted ≡ true → len < length window) × (length tables ≡ length tables₀) × (length window ≡ length window₀) × (length out ≡ length out₀) × (turns ≤ 18446744073709551615)
+Inv-loop tables₀ window₀ out₀ turns₀ len₀ wanted₀ last₀ tables window out turns len wanted last =
+    (len ≤ length window) × (wanted ≡ true → len < length window)
+    × (length tables ≡ length tables₀) × (length window ≡ length window₀) × (length out ≡ length out₀) × (turns ≤ 18446744073709551615)
 
 abbrev μ-loop : tie.MeasureT-loop
 μ-loop tables₀ window₀ out₀ turns₀ len₀ wanted₀ last₀ tables window out turns len wanted last = turns
@@ -34,28 +28,43 @@ slice-reshare-prefix-run : tie.Need-slice-reshare-prefix-run Inv-loop μ-loop
 slice-reshare-prefix-run c = omega (arith, c .before .before .before .fetch .ensures .1, c .before .before .before .fetch .kept .0)
 
 slice-aggregate-run : tie.Need-slice-aggregate-run Inv-loop μ-loop
-slice-aggregate-run c = sym (length-take-le _ _ (omega (arith, c .before .before .before .before .fetch .ensures .1, c .before .before .before .before .fetch .kept .0)))
+slice-aggregate-run c =
+    let s4 = c .before .before .before .before in
+    sym (length-take-le _ _ (omega (arith, s4 .fetch .ensures .1, s4 .fetch .kept .0)))
 
 run-requires : tie.Need-run-requires Inv-loop μ-loop
 run-requires c κs = search needs
 
 slice-reshare-prefix-put : tie.Need-slice-reshare-prefix-put Inv-loop μ-loop
-slice-reshare-prefix-put c = omega (arith, runs-within (c .before .before .before .before .run .ensures) .0, c .before .before .before .before .run .kept .1 .1 .1 .0)
+slice-reshare-prefix-put c =
+    let s4 = c .before .before .before .before in
+    omega (arith, runs-within (s4 .run .ensures) .0, s4 .run .kept .1 .1 .1 .0)
 
 slice-aggregate-put : tie.Need-slice-aggregate-put Inv-loop μ-loop
-slice-aggregate-put c = sym (length-take-le _ _ (omega (arith, runs-within (c .before .before .before .before .before .run .ensures) .0, c .before .before .before .before .before .run .kept .1 .1 .1 .0)))
+slice-aggregate-put c =
+    let s5 = c .before .before .before .before .before in
+    sym (length-take-le _ _ (omega (arith, runs-within (s5 .run .ensures) .0, s5 .run .kept .1 .1 .1 .0)))
 
 put-requires : tie.Need-put-requires Inv-loop μ-loop
 put-requires c κs = search needs
 
 same-length : tie.Need-same-length Inv-loop μ-loop
-same-length c = c .before .before .before .before .before .before .before .run .kept .0 ∙ c .before .before .before .before .before .before .before .before .before .before .before .before .before .before .before .before .loop .inv .2
+same-length c =
+    let s7 = c .before .before .before .before .before .before .before in
+    let s16 = s7 .before .before .before .before .before .before .before .before .before in
+    s7 .run .kept .0 ∙ s16 .loop .inv .2
 
 same-length-2 : tie.Need-same-length-2 Inv-loop μ-loop
-same-length-2 c = c .before .before .before .before .before .before .before .before .before .before .before .before .before .fetch .kept .0 ∙ c .before .before .before .before .before .before .before .before .before .before .before .before .before .before .before .before .loop .inv .3
+same-length-2 c =
+    let s13 = c .before .before .before .before .before .before .before .before .before .before .before .before .before in
+    let s16 = s13 .before .before .before in
+    s13 .fetch .kept .0 ∙ s16 .loop .inv .3
 
 same-length-3 : tie.Need-same-length-3 Inv-loop μ-loop
-same-length-3 c = c .before .before .before .before .before .before .before .run .kept .1 .1 .1 .0 ∙ c .before .before .before .before .before .before .before .before .before .before .before .before .before .before .before .before .loop .inv .4
+same-length-3 c =
+    let s7 = c .before .before .before .before .before .before .before in
+    let s16 = s7 .before .before .before .before .before .before .before .before .before in
+    s7 .run .kept .1 .1 .1 .0 ∙ s16 .loop .inv .4
 
 returns : tie.Need-returns Inv-loop μ-loop
 returns c = search needs
@@ -64,13 +73,22 @@ is-over-requires : tie.Need-is-over-requires Inv-loop μ-loop
 is-over-requires c κs = search needs
 
 same-length-4 : tie.Need-same-length-4 Inv-loop μ-loop
-same-length-4 c = c .before .before .before .before .before .before .before .before .before .before .run .kept .0 ∙ c .before .before .before .before .before .before .before .before .before .before .before .before .before .before .before .before .before .before .before .loop .inv .2
+same-length-4 c =
+    let s10 = c .before .before .before .before .before .before .before .before .before .before in
+    let s19 = s10 .before .before .before .before .before .before .before .before .before in
+    s10 .run .kept .0 ∙ s19 .loop .inv .2
 
 same-length-5 : tie.Need-same-length-5 Inv-loop μ-loop
-same-length-5 c = c .before .before .before .before .before .before .before .before .before .before .before .before .before .before .before .before .fetch .kept .0 ∙ c .before .before .before .before .before .before .before .before .before .before .before .before .before .before .before .before .before .before .before .loop .inv .3
+same-length-5 c =
+    let s16 = c .before .before .before .before .before .before .before .before .before .before .before .before .before .before .before .before in
+    let s19 = s16 .before .before .before in
+    s16 .fetch .kept .0 ∙ s19 .loop .inv .3
 
 same-length-6 : tie.Need-same-length-6 Inv-loop μ-loop
-same-length-6 c = c .before .before .before .before .before .before .before .before .before .before .run .kept .1 .1 .1 .0 ∙ c .before .before .before .before .before .before .before .before .before .before .before .before .before .before .before .before .before .before .before .loop .inv .4
+same-length-6 c =
+    let s10 = c .before .before .before .before .before .before .before .before .before .before in
+    let s19 = s10 .before .before .before .before .before .before .before .before .before in
+    s10 .run .kept .1 .1 .1 .0 ∙ s19 .loop .inv .4
 
 returns-2 : tie.Need-returns-2 Inv-loop μ-loop
 returns-2 c = search needs
@@ -79,7 +97,11 @@ had-room-requires : tie.Need-had-room-requires Inv-loop μ-loop
 had-room-requires c κs = search needs
 
 keep-requires : tie.Need-keep-requires Inv-loop μ-loop
-keep-requires c κs = let f : c .before .before .before .before .before .before .before .before .before .before .before .before .before .before .before .before .before .before .fetch .result ≤ length (c .before .before .before .before .before .before .before .before .before .before .before .before .before .before .before .before .before .before .fetch .last .0) = omega (arith, c .before .before .before .before .before .before .before .before .before .before .before .before .before .before .before .before .before .before .fetch .ensures .1, c .before .before .before .before .before .before .before .before .before .before .before .before .before .before .before .before .before .before .fetch .kept .0) in (omega (arith, runs-within (c .before .before .before .before .before .before .before .before .before .before .before .before .run .ensures) .1, length-take-le (c .before .before .before .before .before .before .before .before .before .before .before .before .before .before .before .before .before .before .fetch .result) (c .before .before .before .before .before .before .before .before .before .before .before .before .before .before .before .before .before .before .fetch .last .0) f), f)
+keep-requires c κs =
+    let s12 = c .before .before .before .before .before .before .before .before .before .before .before .before in
+    let s18 = s12 .before .before .before .before .before .before in
+    let f : s18 .fetch .result ≤ length (s18 .fetch .last .0) = omega (arith, s18 .fetch .ensures .1, s18 .fetch .kept .0) in
+    (omega (arith, runs-within (s12 .run .ensures) .1, length-take-le (s18 .fetch .result) (s18 .fetch .last .0) f), f)
 
 sub-turns : tie.Need-sub-turns Inv-loop μ-loop
 sub-turns c = search needs
@@ -88,7 +110,31 @@ loop-less : tie.Need-loop-less Inv-loop μ-loop
 loop-less c = omega arith
 
 loop-again : tie.Need-loop-again Inv-loop μ-loop
-loop-again c = let f : c .before .before .before .before .before .before .before .before .before .before .before .before .before .before .before .before .before .before .before .before .before .fetch .result ≤ length (c .before .before .before .before .before .before .before .before .before .before .before .before .before .before .before .before .before .before .before .before .before .fetch .last .0) = omega (arith, c .before .before .before .before .before .before .before .before .before .before .before .before .before .before .before .before .before .before .before .before .before .fetch .ensures .1, c .before .before .before .before .before .before .before .before .before .before .before .before .before .before .before .before .before .before .before .before .before .fetch .kept .0) in (omega (arith, c .before .before .keep .ensures .0, c .before .before .keep .kept .0, c .before .before .before .before .before .before .before .before .before .before .before .before .before .before .before .before .before .before .before .before .before .fetch .ensures .1, c .before .before .before .before .before .before .before .before .before .before .before .before .before .before .before .before .before .before .before .before .before .fetch .kept .0), (λ e. omega (arith, wanted-short (c .before .before .before .before .before .before .before .before .before .before .before .before .before .before .before .run .ensures) _ _ _ _ (c .before .before .before .before .before .before .is-over .ensures) (c .before .before .before .before .before .if2 .left) (c .before .before .before .before .before .before .before .before .before .before .before .before .before .before .before .run .kept .1 .1 .1 .0) (c .before .before .before .before .had-room .ensures) e, length-take-le (c .before .before .before .before .before .before .before .before .before .before .before .before .before .before .before .before .before .before .before .before .before .fetch .result) (c .before .before .before .before .before .before .before .before .before .before .before .before .before .before .before .before .before .before .before .before .before .fetch .last .0) f, c .before .before .keep .ensures .0, c .before .before .keep .kept .0, c .before .before .before .before .before .before .before .before .before .before .before .before .before .before .before .before .before .before .before .before .before .fetch .kept .0, c .before .before .before .before .before .before .before .before .before .before .before .before .before .before .before .before .before .before .before .before .before .before .before .before .loop .inv .3, c .before .before .before .before .before .before .before .before .before .before .before .before .before .before .before .before .before .before .before .before .before .before .before .before .before .before .before .before .pre)), c .before .before .before .before .before .before .before .before .before .before .before .before .before .before .before .run .kept .0 ∙ c .before .before .before .before .before .before .before .before .before .before .before .before .before .before .before .before .before .before .before .before .before .before .before .before .loop .inv .2, c .before .before .keep .kept .0 ∙ c .before .before .before .before .before .before .before .before .before .before .before .before .before .before .before .before .before .before .before .before .before .fetch .kept .0 ∙ c .before .before .before .before .before .before .before .before .before .before .before .before .before .before .before .before .before .before .before .before .before .before .before .before .loop .inv .3, c .before .before .before .before .before .before .before .before .before .before .before .before .before .before .before .run .kept .1 .1 .1 .0 ∙ c .before .before .before .before .before .before .before .before .before .before .before .before .before .before .before .before .before .before .before .before .before .before .before .before .loop .inv .4, omega (arith, c .before .before .before .before .before .before .before .before .before .before .before .before .before .before .before .before .before .before .before .before .before .before .before .before .loop .inv .5))
+loop-again c =
+    let s4 = c .before .before .before .before in
+    let s5 = s4 .before in
+    let s6 = s5 .before in
+    let s15 = s6 .before .before .before .before .before .before .before .before .before in
+    let s21 = s15 .before .before .before .before .before .before in
+    let s24 = s21 .before .before .before in
+    let s28 = s24 .before .before .before .before in
+    let f : s21 .fetch .result ≤ length (s21 .fetch .last .0) = omega (arith, s21 .fetch .ensures .1, s21 .fetch .kept .0) in (
+      omega (arith, c .before .before .keep .ensures .0, c .before .before .keep .kept .0, s21 .fetch .ensures .1, s21 .fetch .kept .0),
+      (λ e. omega (
+        arith,
+        wanted-short (s15 .run .ensures) _ _ _ _ (s6 .is-over .ensures) (s5 .if2 .left) (s15 .run .kept .1 .1 .1 .0) (s4 .had-room .ensures) e,
+        length-take-le (s21 .fetch .result) (s21 .fetch .last .0) f,
+        c .before .before .keep .ensures .0,
+        c .before .before .keep .kept .0,
+        s21 .fetch .kept .0,
+        s24 .loop .inv .3,
+        s28 .pre,
+      )),
+      s15 .run .kept .0 ∙ s24 .loop .inv .2,
+      c .before .before .keep .kept .0 ∙ s21 .fetch .kept .0 ∙ s24 .loop .inv .3,
+      s15 .run .kept .1 .1 .1 .0 ∙ s24 .loop .inv .4,
+      omega (arith, s24 .loop .inv .5),
+    )
 
 same-length-7 : tie.Need-same-length-7 Inv-loop μ-loop
 same-length-7 c = c .before .loop .inv .2

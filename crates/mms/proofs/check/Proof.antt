@@ -3,9 +3,6 @@ use Prim.Native.Nat.{ℕ}
 use borrow.Author.Needs.{needs}
 use Rattle.mms.proofs.check.Statement.{statement}
 use Rattle.mms.proofs.check.Tie as tie
-use Rattle.mms.proofs.check.Reads as reads
-use Rattle.mms.proofs.check.Lts as lts
-use Rattle.state.proofs.checked.Reads as checked-reads
 
 checked-requires : tie.Need-checked-requires
 checked-requires c κs = search needs

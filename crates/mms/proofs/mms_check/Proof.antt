@@ -3,10 +3,6 @@ use Rattle.mms.specs.Contract.{exported}
 use borrow.Author.Needs.{needs}
 use Rattle.mms.proofs.mms_check.Statement.{statement}
 use Rattle.mms.proofs.mms_check.Tie as tie
-use Rattle.mms.proofs.mms_check.Reads as reads
-use Rattle.mms.proofs.mms_check.Lts as lts
-use Rattle.mms.proofs.check.Reads as check-reads
-use Rattle.mms.proofs.packed.Reads as packed-reads
 
 check-requires : tie.Need-check-requires
 check-requires c κs = search needs

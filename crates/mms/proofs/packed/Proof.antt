@@ -2,8 +2,6 @@ use mathlib.Core.Path.{refl}
 use borrow.Author.Needs.{needs}
 use Rattle.mms.proofs.packed.Statement.{statement}
 use Rattle.mms.proofs.packed.Tie as tie
-use Rattle.mms.proofs.packed.Reads as reads
-use Rattle.mms.proofs.packed.Lts as lts
 
 mul-result : tie.Need-mul-result
 mul-result c = search needs

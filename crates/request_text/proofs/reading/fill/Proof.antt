@@ -1,22 +1,8 @@
 use mathlib.Core.Path.{_∙_, _≡_, ap, sym}
 use lib.ListN.{length, length-set}
 use Rattle.model.specs.Request.Words.{requestWords}
-use Rattle.request_text.specs.FillLaws.{
-  bad1,
-  bad2,
-  bad3,
-  bad4,
-  bad5,
-  bad6,
-  bad7,
-  both-length,
-  first-length,
-  first-part,
-  read7,
-  second-part,
-  stored-is,
-  withBoth,
-}
+use Rattle.request_text.specs.FillLaws.{bad1, bad2, bad3, bad4, bad5, bad6, bad7, both-length, first-length, first-part, read7, second-part}
+use Rattle.request_text.specs.FillLaws.{stored-is, withBoth}
 use Rattle.request_text.specs.SevenLaws.{seven-bad, seven-next}
 use native.Mathlib.Omega.{arith}
 use borrow.Author.Needs.{needs}

@@ -2,10 +2,6 @@ use mathlib.Core.Path.{refl}
 use borrow.Author.Needs.{needs}
 use Rattle.script.proofs.reports.full.Statement.{statement}
 use Rattle.script.proofs.reports.full.Tie as tie
-use Rattle.script.proofs.reports.full.Reads as reads
-use Rattle.script.proofs.reports.full.Lts as lts
-use Rattle.tables.proofs.held.Reads as held-reads
-use Rattle.tables.proofs.missed.Reads as missed-reads
 
 held-requires : tie.Need-held-requires
 held-requires c κs = search needs

@@ -4,9 +4,6 @@ use Rattle.script.specs.Reported.{fromCode}
 use borrow.Author.Needs.{needs}
 use Rattle.script.proofs.reports.put_report.Statement.{statement}
 use Rattle.script.proofs.reports.put_report.Tie as tie
-use Rattle.script.proofs.reports.put_report.Reads as reads
-use Rattle.script.proofs.reports.put_report.Lts as lts
-use Rattle.script.proofs.reports.write_report.Reads as write-report-reads
 
 sub-write-report : tie.Need-sub-write-report
 sub-write-report c = search needs
@@ -21,7 +18,10 @@ write-report-requires : tie.Need-write-report-requires
 write-report-requires c κs = search needs
 
 add-result : tie.Need-add-result
-add-result c = let l = report-length (fromCode (c .before .before .before .before .before .args .r)) in search needs
+add-result c =
+    let s5 = c .before .before .before .before .before in
+    let l = report-length (fromCode (s5 .args .r)) in
+    search needs
 
 same-length : tie.Need-same-length
 same-length c = search needs

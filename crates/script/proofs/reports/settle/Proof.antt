@@ -4,26 +4,27 @@ use Rattle.script.specs.ReportLaws.{settled-bare, settled-full, settled-
 use borrow.Author.Needs.{needs}
 use Rattle.script.proofs.reports.settle.Statement.{statement}
 use Rattle.script.proofs.reports.settle.Tie as tie
-use Rattle.script.proofs.reports.settle.Reads as reads
-use Rattle.script.proofs.reports.settle.Lts as lts
-use Rattle.script.proofs.reports.bare.Reads as bare-reads
-use Rattle.script.proofs.reports.full.Reads as full-reads
-use Rattle.step.proofs.step.Reads as step-reads
 
 step-requires : tie.Need-step-requires
 step-requires c κs = search needs
 
-shared-slice-read-full : tie.Need-shared-slice-read-full
-shared-slice-read-full c = let k = settled-known (c .before .before .before .before .before .step .ensures) (inl (c .before .before .if1 .taken)) in omega (arith, k .0)
+requester-requires : tie.Need-requester-requires
+requester-requires c κs =
+    let s4 = c .before .before .before .before in
+    settled-known (s4 .step .ensures) (inl (c .before .if1 .taken)) .0
 
 full-requires : tie.Need-full-requires
-full-requires c κs = settled-known (c .before .before .before .before .before .step .ensures) (inl (c .before .before .if1 .taken)) .1
+full-requires c κs =
+    let s5 = c .before .before .before .before .before in
+    rw (c .requester .ensures) (settled-known (s5 .step .ensures) (inl (c .before .before .if1 .taken)) .1)
 
 same-length : tie.Need-same-length
 same-length c = search needs
 
 returns : tie.Need-returns
-returns c = settled-full (c .before .before .before .before .before .before .step .ensures) _ (inl (c .before .before .before .if1 .taken)) (c .full .ensures)
+returns c =
+    let s6 = c .before .before .before .before .before .before in
+    settled-full (s6 .step .ensures) _ (inl (c .before .before .before .if1 .taken)) (rw (c .before .requester .ensures) at (c .full .ensures))
 
 bare-requires : tie.Need-bare-requires
 bare-requires c κs = search needs
@@ -32,33 +33,42 @@ same-length-2 : tie.Need-same-length-2
 same-length-2 c = search needs
 
 returns-2 : tie.Need-returns-2
-returns-2 c = settled-bare (c .before .before .before .before .before .step .ensures) _ (omega (arith, c .before .before .if1 .left)) (omega (arith, c .before .if2 .taken)) (c .bare .ensures)
+returns-2 c =
+    let s5 = c .before .before .before .before .before in
+    settled-bare (s5 .step .ensures) _ (omega (arith, c .before .before .if1 .left)) (omega (arith, c .before .if2 .taken)) (c .bare .ensures)
 
-shared-slice-read-full-2 : tie.Need-shared-slice-read-full-2
-shared-slice-read-full-2 c = let k = settled-known (c .before .before .before .before .before .before .step .ensures) (inr (omega (arith, c .before .before .if2 .left))) in omega (arith, k .0)
+requester-requires-2 : tie.Need-requester-requires-2
+requester-requires-2 c κs =
+    let s5 = c .before .before .before .before .before in
+    settled-known (s5 .step .ensures) (inr (omega (arith, c .before .if2 .left))) .0
 
 full-requires-2 : tie.Need-full-requires-2
-full-requires-2 c κs = settled-known (c .before .before .before .before .before .before .step .ensures) (inr (omega (arith, c .before .before .if2 .left))) .1
+full-requires-2 c κs =
+    let s6 = c .before .before .before .before .before .before in
+    rw (c .requester2 .ensures) (settled-known (s6 .step .ensures) (inr (omega (arith, c .before .before .if2 .left))) .1)
 
 same-length-3 : tie.Need-same-length-3
 same-length-3 c = search needs
 
 returns-3 : tie.Need-returns-3
-returns-3 c = settled-full (c .before .before .before .before .before .before .before .step .ensures) _ (inr (omega (arith, c .before .before .before .if2 .left))) (c .full2 .ensures)
+returns-3 c =
+    let s7 = c .before .before .before .before .before .before .before in
+    let e = rw (c .before .requester2 .ensures) at (c .full2 .ensures) in
+    settled-full (s7 .step .ensures) _ (inr (omega (arith, c .before .before .before .if2 .left))) e
 
 pub settle-spec : {M : Type 1} → statement M
 settle-spec =
     tie.close
     (tie.spec
     step-requires
-    shared-slice-read-full
+    requester-requires
     full-requires
     same-length
     returns
     bare-requires
     same-length-2
     returns-2
-    shared-slice-read-full-2
+    requester-requires-2
     full-requires-2
     same-length-3
     returns-3)

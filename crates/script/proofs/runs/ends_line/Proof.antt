@@ -3,8 +3,6 @@ use Rattle.model.specs.Text.Lines.{lineEnd}
 use borrow.Author.Tests.{eq-eqb, ne-eqb}
 use Rattle.script.proofs.runs.ends_line.Statement.{statement}
 use Rattle.script.proofs.runs.ends_line.Tie as tie
-use Rattle.script.proofs.runs.ends_line.Reads as reads
-use Rattle.script.proofs.runs.ends_line.Lts as lts
 
 returns : tie.Need-returns
 returns c = rw (eq-eqb _ lineEnd (c .if1 .taken)) refl

@@ -2,10 +2,6 @@ use mathlib.Core.Path.{refl}
 use Rattle.script.specs.GoingLaws.{halts-stop, halts-wait}
 use Rattle.script.proofs.runs.halt.Statement.{statement}
 use Rattle.script.proofs.runs.halt.Tie as tie
-use Rattle.script.proofs.runs.halt.Reads as reads
-use Rattle.script.proofs.runs.halt.Lts as lts
-use Rattle.script.proofs.runs.is_unfinished.Reads as is-unfinished-reads
-use Rattle.script.proofs.runs.reported.Reads as reported-reads
 
 reported-requires : tie.Need-reported-requires
 reported-requires c κs = c .before .before .before .before .pre .1
@@ -29,7 +25,11 @@ same-length-2 : tie.Need-same-length-2
 same-length-2 c = c .before .before .reported2 .kept .0
 
 returns-3 : tie.Need-returns-3
-returns-3 c = halts-stop (rw (c .before .before .before .before .before .before .if1 .left, ← c .before .before .before .before .before .is-unfinished .ensures, c .before .before .before .before .if2 .left) refl) (c .before .before .reported2 .ensures)
+returns-3 c =
+    let s4 = c .before .before .before .before in
+    let s5 = s4 .before in
+    let s6 = s5 .before in
+    halts-stop (rw (s6 .if1 .left, ← s5 .is-unfinished .ensures, s4 .if2 .left) refl) (c .before .before .reported2 .ensures)
 
 pub halt-spec : {M : Type 1} → statement M
 halt-spec =

@@ -6,11 +6,6 @@ use Rattle.script.specs.Going.{Going}
 use Rattle.script.specs.GoingLaws.{going-end, going-full, going-halt, going-length, going-start, going-turn, turn-further}
 use Rattle.script.proofs.runs.run.Statement.{statement}
 use Rattle.script.proofs.runs.run.Tie as tie
-use Rattle.script.proofs.runs.run.Reads as reads
-use Rattle.script.proofs.runs.run.Lts as lts
-use Rattle.script.proofs.reports.put_report.Reads as put-report-reads
-use Rattle.script.proofs.runs.halt.Reads as halt-reads
-use Rattle.script.proofs.turns.one_turn.Reads as one-turn-reads
 
 abbrev Inv-loop : tie.InvT-loop
 Inv-loop tables₀ script last out₀ at₀ n₀ tables out at n = Going tables₀ script last out₀ tables at out n × (length tables ≡ length tables₀)
@@ -37,25 +32,57 @@ one-turn-requires : tie.Need-one-turn-requires Inv-loop μ-loop
 one-turn-requires c κs = c .before .before .before .loop .inv .0 .within
 
 halt-requires : tie.Need-halt-requires Inv-loop μ-loop
-halt-requires c κs = (c .before .before .before .before .before .before .before .before .before .before .loop .inv .0 .within, omega (arith, going-length (c .before .before .before .before .before .before .before .before .before .before .loop .inv .0), c .before .before .before .before .before .before .before .before .before .before .loop .inv .0 .fits, c .before .before .before .before .before .before .before .before .if1 .left))
+halt-requires c κs =
+    let s8 = c .before .before .before .before .before .before .before .before in
+    let s10 = s8 .before .before in
+    (s10 .loop .inv .0 .within, omega (arith, going-length (s10 .loop .inv .0), s10 .loop .inv .0 .fits, s8 .if1 .left))
 
 same-length-3 : tie.Need-same-length-3 Inv-loop μ-loop
-same-length-3 c = c .before .before .before .before .before .before .before .before .before .one-turn .kept .0 ∙ c .before .before .before .before .before .before .before .before .before .before .before .before .before .loop .inv .1
+same-length-3 c =
+    let s9 = c .before .before .before .before .before .before .before .before .before in
+    let s13 = s9 .before .before .before .before in
+    s9 .one-turn .kept .0 ∙ s13 .loop .inv .1
 
 same-length-4 : tie.Need-same-length-4 Inv-loop μ-loop
-same-length-4 c = c .before .before .halt .kept .1 .1 .0 ∙ going-length (c .before .before .before .before .before .before .before .before .before .before .before .before .before .loop .inv .0)
+same-length-4 c =
+    let s13 = c .before .before .before .before .before .before .before .before .before .before .before .before .before in
+    c .before .before .halt .kept .1 .1 .0 ∙ going-length (s13 .loop .inv .0)
 
 returns-2 : tie.Need-returns-2 Inv-loop μ-loop
-returns-2 c = going-halt (c .before .before .before .before .before .before .before .before .before .before .before .before .before .loop .inv .0) _ _ _ _ (c .before .before .before .before .before .before .before .before .before .before .before .before .loop-test .taken) (omega (arith, going-length (c .before .before .before .before .before .before .before .before .before .before .before .before .before .loop .inv .0), c .before .before .before .before .before .before .before .before .before .before .before .if1 .left)) (c .before .before .before .before .before .before .before .before .before .one-turn .ensures .0) (c .before .before .before .before .before .before .before .before .before .one-turn .ensures .1) (λ e. omega (arith, c .before .before .before .before .if2 .taken)) (c .before .before .halt .ensures)
+returns-2 c =
+    let s4 = c .before .before .before .before in
+    let s9 = s4 .before .before .before .before .before in
+    let s11 = s9 .before .before in
+    let s12 = s11 .before in
+    let s13 = s12 .before in
+    going-halt (s13 .loop .inv .0) _ _ _ _ (s12 .loop-test .taken) (omega (arith, going-length (s13 .loop .inv .0), s11 .if1 .left))
+    (s9 .one-turn .ensures) (λ e. omega (arith, s4 .if2 .taken)) (c .before .before .halt .ensures)
 
 put-report-requires : tie.Need-put-report-requires Inv-loop μ-loop
-put-report-requires c κs = omega (arith, going-length (c .before .before .before .before .before .before .before .before .before .before .before .loop .inv .0), c .before .before .before .before .before .before .before .before .before .before .before .loop .inv .0 .fits, c .before .before .before .before .before .before .before .before .before .if1 .left)
+put-report-requires c κs =
+    let s9 = c .before .before .before .before .before .before .before .before .before in
+    let s11 = s9 .before .before in
+    omega (arith, going-length (s11 .loop .inv .0), s11 .loop .inv .0 .fits, s9 .if1 .left)
 
 loop-less : tie.Need-loop-less Inv-loop μ-loop
-loop-less c = let f = turn-further (c .before .before .before .before .before .before .before .before .before .before .before .before .before .before .loop .inv .0) _ (c .before .before .before .before .before .before .before .before .before .before .one-turn .ensures .0) (omega (arith, c .before .before .before .before .before .if2 .left)) in omega (arith, f .0, f .1)
+loop-less c =
+    let s5 = c .before .before .before .before .before in
+    let s10 = s5 .before .before .before .before .before in
+    let s14 = s10 .before .before .before .before in
+    let f = turn-further (s14 .loop .inv .0) _ (s10 .one-turn .ensures .turned) (omega (arith, s5 .if2 .left)) in
+    omega (arith, f .0, f .1)
 
 loop-again : tie.Need-loop-again Inv-loop μ-loop
-loop-again c = (going-turn (c .before .before .before .before .before .before .before .before .before .before .before .before .before .before .loop .inv .0) _ _ _ _ (c .before .before .before .before .before .before .before .before .before .before .before .before .before .loop-test .taken) (omega (arith, going-length (c .before .before .before .before .before .before .before .before .before .before .before .before .before .before .loop .inv .0), c .before .before .before .before .before .before .before .before .before .before .before .before .if1 .left)) (c .before .before .before .before .before .before .before .before .before .before .one-turn .ensures .0) (c .before .before .before .before .before .before .before .before .before .before .one-turn .ensures .1) (omega (arith, c .before .before .before .before .before .if2 .left)) (c .before .before .put-report .ensures), c .before .before .before .before .before .before .before .before .before .before .one-turn .kept .0 ∙ c .before .before .before .before .before .before .before .before .before .before .before .before .before .before .loop .inv .1)
+loop-again c =
+    let s5 = c .before .before .before .before .before in
+    let s10 = s5 .before .before .before .before .before in
+    let s12 = s10 .before .before in
+    let s13 = s12 .before in
+    let s14 = s13 .before in (
+      going-turn (s14 .loop .inv .0) _ _ _ _ (s13 .loop-test .taken) (omega (arith, going-length (s14 .loop .inv .0), s12 .if1 .left))
+          (s10 .one-turn .ensures) (omega (arith, s5 .if2 .left)) (c .before .before .put-report .ensures),
+      s10 .one-turn .kept .0 ∙ s14 .loop .inv .1,
+    )
 
 same-length-5 : tie.Need-same-length-5 Inv-loop μ-loop
 same-length-5 c = c .before .loop .inv .1

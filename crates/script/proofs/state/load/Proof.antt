@@ -9,9 +9,6 @@ use Rattle.model.specs.Tables.WordsOf.{firstValues}
 use Rattle.script.specs.LoadLaws.{filled-all, filled-more, filled-none, filled-other}
 use Rattle.script.proofs.state.load.Statement.{statement}
 use Rattle.script.proofs.state.load.Tie as tie
-use Rattle.script.proofs.state.load.Reads as reads
-use Rattle.script.proofs.state.load.Lts as lts
-use Rattle.script.proofs.state.word_in.Reads as word-in-reads
 
 abbrev Inv-loop : tie.InvT-loop
 Inv-loop bytes room₀ i₀ room i = (i ≤ wordCount) × (length room ≡ wordCount) × (length bytes ≡ fileBytes) × (take i room ≡ firstValues i (wordIn bytes))
@@ -41,7 +38,12 @@ loop-less : tie.Need-loop-less Inv-loop μ-loop
 loop-less c = omega arith
 
 loop-again : tie.Need-loop-again Inv-loop μ-loop
-loop-again c = (omega arith, rw (length-set) (c .before .before .loop .inv .1), c .before .before .loop .inv .2, filled-more _ _ _ _ (omega (arith, c .before .before .loop .inv .1)) (c .before .before .loop .inv .3) (c .word-in .ensures))
+loop-again c = (
+  omega arith,
+  rw (length-set) (c .before .before .loop .inv .1),
+  c .before .before .loop .inv .2,
+  filled-more _ _ _ _ (omega (arith, c .before .before .loop .inv .1)) (c .before .before .loop .inv .3) (c .word-in .ensures),
+)
 
 same-length : tie.Need-same-length Inv-loop μ-loop
 same-length c = c .before .loop .inv .1 ∙ sym (c .before .before .before .before .before .pre)

@@ -2,9 +2,6 @@ use mathlib.Core.Path.{refl}
 use borrow.Author.Needs.{needs}
 use Rattle.script.proofs.turns.stuck.Statement.{statement}
 use Rattle.script.proofs.turns.stuck.Tie as tie
-use Rattle.script.proofs.turns.stuck.Reads as reads
-use Rattle.script.proofs.turns.stuck.Lts as lts
-use Rattle.script.proofs.reports.bare.Reads as bare-reads
 
 bare-requires : tie.Need-bare-requires
 bare-requires c κs = search needs

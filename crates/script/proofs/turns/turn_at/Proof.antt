@@ -1,13 +1,7 @@
-use mathlib.Core.Path.{_∙_, sym}
 use Rattle.script.specs.TurnLaws.{turn-bad, turn-next}
 use borrow.Author.Needs.{needs}
 use Rattle.script.proofs.turns.turn_at.Statement.{statement}
 use Rattle.script.proofs.turns.turn_at.Tie as tie
-use Rattle.script.proofs.turns.turn_at.Reads as reads
-use Rattle.script.proofs.turns.turn_at.Lts as lts
-use Rattle.request_text.proofs.reading.read_seven.Reads as read-seven-reads
-use Rattle.script.proofs.turns.settled.Reads as settled-reads
-use Rattle.script.proofs.turns.stuck.Reads as stuck-reads
 
 slice-aggregate-read-seven : tie.Need-slice-aggregate-read-seven
 slice-aggregate-read-seven c = search needs
@@ -31,13 +25,20 @@ settled-requires : tie.Need-settled-requires
 settled-requires c κs = search needs
 
 returns : tie.Need-returns
-returns c = let z = turn-bad (c .before .before .before .before .before .before .before .before .before .args .tables .now) (c .before .before .before .before .before .before .before .before .before .args .p) (rw (c .before .before .k .given .1) at (c .before .before .before .before .before .read-seven .ensures)) in (c .stuck .ensures ∙ sym (z .0), sym (z .1))
+returns c =
+    let s5 = c .before .before .before .before .before in
+    let s9 = s5 .before .before .before .before in
+    turn-bad (s9 .args .tables .now) (s9 .args .p) (rw (c .before .before .k .given .1) at (s5 .read-seven .ensures)) (c .stuck .ensures)
 
 same-length : tie.Need-same-length
 same-length c = search needs
 
 returns-2 : tie.Need-returns-2
-returns-2 c = let z = turn-next (c .before .before .before .before .before .before .before .before .before .before .before .before .before .args .tables .now) (c .before .before .before .before .before .before .before .before .before .before .before .before .before .args .p) (rw (c .before .before .before .before .before .before .next .given .1) at (c .before .before .before .before .before .before .before .before .before .read-seven .ensures)) in (c .before .before .settled .ensures .0 ∙ sym (z .0), c .before .before .settled .ensures .1 ∙ sym (z .1))
+returns-2 c =
+    let s6 = c .before .before .before .before .before .before in
+    let s9 = s6 .before .before .before in
+    let s13 = s9 .before .before .before .before in
+    turn-next (s13 .args .tables .now) (s13 .args .p) (rw (s6 .next .given .1) at (s9 .read-seven .ensures)) (c .before .before .settled .ensures)
 
 pub turn-at-spec : {M : Type 1} → statement M
 turn-at-spec =

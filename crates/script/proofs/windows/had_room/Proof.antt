@@ -6,8 +6,6 @@ use borrow.Author.Tests.{lt-leb}
 use borrow.Author.Needs.{needs}
 use Rattle.script.proofs.windows.had_room.Statement.{statement}
 use Rattle.script.proofs.windows.had_room.Tie as tie
-use Rattle.script.proofs.windows.had_room.Reads as reads
-use Rattle.script.proofs.windows.had_room.Lts as lts
 
 returns : tie.Need-returns
 returns c = rw (lt-leb reportBytes (c .before .args .len - c .before .args .n) (omega (arith, c .if1 .taken))) refl

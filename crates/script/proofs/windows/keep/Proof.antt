@@ -4,8 +4,6 @@ use borrow.Author.Needs.{needs}
 use Rattle.script.specs.MoveLaws.{Moved, moved-all, moved-more, moved-start}
 use Rattle.script.proofs.windows.keep.Statement.{statement}
 use Rattle.script.proofs.windows.keep.Tie as tie
-use Rattle.script.proofs.windows.keep.Reads as reads
-use Rattle.script.proofs.windows.keep.Lts as lts
 
 abbrev Inv-loop : tie.InvT-loop
 Inv-loop window₀ from len i₀ j₀ window i j = Moved window₀ window from i j × (j ≤ len)
@@ -23,7 +21,9 @@ slice-write-window : tie.Need-slice-write-window Inv-loop μ-loop
 slice-write-window c = omega (arith, c .before .before .loop .inv .0 .long, c .before .before .loop .inv .0 .step, c .before .before .before .pre .1)
 
 add-i : tie.Need-add-i Inv-loop μ-loop
-add-i c = let e = c .before .before .loop .inv .0 .step in search needs
+add-i c =
+    let e = c .before .before .loop .inv .0 .step in
+    search needs
 
 add-j : tie.Need-add-j Inv-loop μ-loop
 add-j c = search needs

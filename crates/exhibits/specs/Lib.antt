@@ -1,0 +1,2 @@
+-- What the public calls answer on the case states.
+pub mod Listed
