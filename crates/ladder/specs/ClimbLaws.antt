@@ -42,7 +42,12 @@ module _ (d : Tables) (q : Request) where
   -- all rungs are passed: the request is accepted
   pub passed-all : Passed 16 d q → 0 ≡ answer d q
   unfolding applies ladder
-  passed-all p = answer-unique d q 0 (answer d q) (record { below = λ k h. absurd (omega arith); applied = λ z. absurd (z refl); accepted = λ z. all }) (answer-is d q)
+  passed-all p = answer-unique d q 0 (answer d q) (record {
+    below = λ k h. absurd (omega arith);
+    applied = λ z. absurd
+        (z refl);
+    accepted = λ z. all;
+  }) (answer-is d q)
     where
       all : (n : ℕ) → applies n d q ≡ false
       all n = go (ltb n 17) (below n 17)

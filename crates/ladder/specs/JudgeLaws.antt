@@ -66,7 +66,8 @@ module _ {o : Op} {t q : List ℕ} {u : ℕ} (k : Taking o t q u) where
   turned n e = record { answer = e; tables = refl }
 
   -- an accepted request has its row's effect
-  pub accepted : (n : List ℕ) → Passed refusal.notAcknowledged (tablesOf t) (requestOf q) → tablesOf n ≡ rowOf o .effect (askedOf t q) (tablesOf t) → Judged t q refusal.accepted n
+  pub accepted : (n : List ℕ) → Passed refusal.notAcknowledged (tablesOf t) (requestOf q) → tablesOf n ≡ rowOf o .effect (askedOf t q) (tablesOf t)
+      → Judged t q refusal.accepted n
   accepted n p e = record { answer = passed-all (tablesOf t) (requestOf q) p; tables = e ∙ sym (effect-by (tablesOf t) (requestOf q) o (k .named)) }
 
   -- ---- rung 10

@@ -56,7 +56,8 @@ module _ (d : Tables) (q : Request) (p : Passed refusal.badRequest d q) where
       list (x ∷ []) z t = absurd (omega arith)
       list (x ∷ y ∷ xs) z t = taken-length (q .second) y xs t
 
-      go : (m : Option Op) → opOf (q .operation) ≡ m → elim m [ none ↦ 0 | some o ↦ arity o ] ≡ suc (suc n) → (1 ≤ q .second .length) × (q .second .length ≤ nameCount)
+      go : (m : Option Op) → opOf (q .operation) ≡ m → elim m [ none ↦ 0 | some o ↦ arity o ] ≡ suc (suc n)
+          → (1 ≤ q .second .length) × (q .second .length ≤ nameCount)
       go none e z = absurd (omega arith)
       go (some o) e z = list (rowOf o .operands) z (T-l (lengthFits 1 (rowOf o .operands) (q .second)) _
           (T-r (lengthFits 0 (rowOf o .operands) (q .first)) _ (fitting d q o p e)))

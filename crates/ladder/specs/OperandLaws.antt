@@ -70,14 +70,16 @@ leading-some (suc x) b e o h =
     (ap (λ (r : Entity). r .0) p, (cc, λ z. omega arith))
 
 -- what the resolver finds in well-formed tables is the number of an entity
-pub found-in : (d : Tables) (ns : List ℕ) (b : Bool) (e : Entity) (o : Bool) → WellFormed d → leading (resolve d ns) b ≡ At e o → (1 ≤ e .0) × (e .0 ≤ entityCount)
+pub found-in : (d : Tables) (ns : List ℕ) (b : Bool) (e : Entity) (o : Bool) → WellFormed d → leading (resolve d ns) b ≡ At e o
+    → (1 ≤ e .0) × (e .0 ≤ entityCount)
 found-in d ns b e o w h =
     let z = leading-some (resolve d ns) b e o h in
     let p = leads-present w (resolve-leads d ns (z .1 .1)) in
     (rw (z .0) at (p .low), rw (z .0) at (p .high))
 
 -- a reference that the resolver was asked for: its names ns, the answer f, and the operand x and its basis w in the model
-module _ (d : Tables) (l : ℕ) (r : Reference) (ns : List ℕ) (hn : ns ≡ names r) (f : Found) (hf : f ≡ leading (resolve d ns) (not (bars d l (basis d ns)))) where
+module _ (d : Tables) (l : ℕ) (r : Reference) (ns : List ℕ) (hn : ns ≡ names r) (f : Found)
+    (hf : f ≡ leading (resolve d ns) (not (bars d l (basis d ns)))) where
   nowhere : f ≡ Nowhere → eqb (resolve d (names r)) 0 ≡ true
   nowhere h = eq-eqb (resolve d (names r)) 0 (ap (resolve d) (sym hn) ∙ leading-none (resolve d ns) (not (bars d l (basis d ns))) (sym hf ∙ h))
 
@@ -108,7 +110,8 @@ module _ (d : Tables) (q : Request) (u op l : ℕ) (hu : q .user ≡ u) (ho : q 
   module _ (one : arityOf q ≡ 1) where
     one-7 : leadsNowhere d q ≡ eqb (resolve d (names (q .first))) 0
     unfolding leadsNowhere asked
-    one-7 = asked-of q (λ n k. eqb (operand (asked d q) k) 0) 0 (λ n. eqb (asked d q .first) 0) (λ m xs z. one-asked (λ k. eqb (operand (asked d q) k) 0) xs z) one
+    one-7 = asked-of q (λ n k. eqb (operand (asked d q) k) 0) 0 (λ n. eqb (asked d q .first) 0)
+        (λ m xs z. one-asked (λ k. eqb (operand (asked d q) k) 0) xs z) one
 
     one-8 : noAccess d q ≡ not (permits d u op 1 (resolve d (names (q .first))))
     unfolding noAccess asked
@@ -117,7 +120,8 @@ module _ (d : Tables) (q : Request) (u op l : ℕ) (hu : q .user ≡ u) (ho : q 
 
     one-9 : notCleared d q ≡ bars d l (basis d (names (q .first)))
     unfolding notCleared asked
-    one-9 = asked-of q (λ n k. bars d (d .user (q .user) clearance) (basisOf (asked d q) k)) 0 (λ n. bars d (d .user (q .user) clearance) (asked d q .firstBasis))
+    one-9 = asked-of q (λ n k. bars d (d .user (q .user) clearance) (basisOf (asked d q) k)) 0
+        (λ n. bars d (d .user (q .user) clearance) (asked d q .firstBasis))
         (λ m xs z. one-asked (λ k. bars d (d .user (q .user) clearance) (basisOf (asked d q) k)) xs z) one ∙ rw own-clearance
 
     module _ (ns : List ℕ) (hn : ns ≡ names (q .first)) (f : Found) (hf : f ≡ leading (resolve d ns) (not (bars d l (basis d ns)))) where

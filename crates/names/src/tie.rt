@@ -14,7 +14,8 @@ ghost use Rattle.model.specs.Tables.Layout.{entitiesFrom, entityWidth, offset, 
 ghost use Rattle.model.specs.Tables.Words.{absentKind, authorised, clearance, containerKind, current, device, deviceKind, draftType, entityCount};
 ghost use Rattle.model.specs.Tables.Words.{firstNoticed, held, heldOp, kind, labelBit, lastNoticed, level, mark, maximum, missed, missedMost};
 ghost use Rattle.model.specs.Tables.Words.{objectKind, operationCount, operationWeight, place, placeCount, plainType, positionCount, present, releasedType};
-ghost use Rattle.model.specs.Tables.Words.{releaser, shown, spare, spareCount, sumMost, triple, type, used, userCount, value, valueBit, whoMost, whoRole, whoWeight};
+ghost use Rattle.model.specs.Tables.Words.{releaser, shown, spare, spareCount, sumMost, triple, type, used, userCount, value, valueBit, whoMost};
+ghost use Rattle.model.specs.Tables.Words.{whoRole, whoWeight};
 ghost use Rattle.model.specs.Text.Lines.{lineEnd};
 ghost use Rattle.model.specs.Text.Numbers.{most, nineByte, zeroByte};
 ghost use Rattle.model.specs.Text.References.{dotByte};
@@ -236,7 +237,8 @@ fn entity_words_are() -> [usize; 8]
 
 // Row r begins so many words after the single ones.
 fn rows_are() -> [usize; 3]
-    ensures { λ r. ⌜ r ≡ (offset (place 0) - placeCount) / placeCount ∷ (offset (shown 0) - placeCount) / placeCount ∷ (offset (triple 0) - placeCount) / placeCount ∷ [] ⌝ }
+    ensures { λ r. ⌜ r ≡ (offset (place 0) - placeCount) / placeCount ∷ (offset (shown 0) - placeCount) / placeCount
+        ∷ (offset (triple 0) - placeCount) / placeCount ∷ [] ⌝ }
 {
     [row::PLACES, row::SUMS, row::TRIPLES]
 }

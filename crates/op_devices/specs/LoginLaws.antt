@@ -22,7 +22,8 @@ module _ (t q : List ℕ) (u e : ℕ) (k : Taking toLogin t q u × First t q e) 
   login-wrong = kind-wrong (k .0) e (k .1) isDevice refl b hb
 
   -- v is the requester's device, and x says whether nobody is on e
-  module _ (yes : b ≡ true) (v : ℕ) (hv : v ≡ devices (tablesOf t) u) (x : Bool) (hx : x ≡ every userCount (λ y. not (eqb (devices (tablesOf t) (suc y)) e))) where
+  module _ (yes : b ≡ true) (v : ℕ) (hv : v ≡ devices (tablesOf t) u) (x : Bool)
+      (hx : x ≡ every userCount (λ y. not (eqb (devices (tablesOf t) (suc y)) e))) where
     up : Passed refusal.noRoom (tablesOf t) (requestOf q)
     unfolding every free
     up = skip (k .0) 4 refusal.wrongKind (omega arith) (omega arith) (kind-right (k .0) e (k .1) isDevice refl b hb yes) tt

@@ -63,7 +63,8 @@ module _ (t q : List ℕ) (u e : ℕ) (k : Taking toDeviceLevel t q u) (g : Firs
   pub device-level-10 : b ≡ false → Judged t q refusal.wrongKind t
   device-level-10 z = kind-wrong k e g isDevice refl b h z
 
-  module _ (z : b ≡ true) (a : ℕ) (i : a ≡ requestOf q .a) (v : ℕ) (d : v ≡ tablesOf t .user u device) (x y : Bool) (l : x ≡ lower a (tablesOf t .entity e level))
+  module _ (z : b ≡ true) (a : ℕ) (i : a ≡ requestOf q .a) (v : ℕ) (d : v ≡ tablesOf t .user u device) (x y : Bool)
+      (l : x ≡ lower a (tablesOf t .entity e level))
       (r : y ≡ hasRole (tablesOf t) u downgrader) where
     device-level-11 : Passed refusal.noSuchUser (tablesOf t) (requestOf q)
     unfolding every free

@@ -91,5 +91,6 @@ module _ (t q : List ℕ) (u e : ℕ) (k : Taking toShow t q u × First t q e) (
         pub show-done : (s : List ℕ) → w ≡ true → tablesOf s ≡ show v e a (tablesOf t) → Judged t q refusal.accepted s
         unfolding every free refused
         show-done s z y = accepted (k .0) s
-            (skip (k .0) 1 refusal.arrangement (omega arith) (omega arith) (pass (k .0) refusal.noRoom (omega arith) (omega arith) roomy (bare-is ∙ ap not z)) tt)
+            (skip (k .0) 1 refusal.arrangement (omega arith) (omega arith)
+            (pass (k .0) refusal.noRoom (omega arith) (omega arith) roomy (bare-is ∙ ap not z)) tt)
             (y ∙ rw (k .1 .is, user-is (k .0), sum-is, hv))

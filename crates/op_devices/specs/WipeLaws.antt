@@ -29,7 +29,8 @@ module _ (t : List ℕ) (v : ℕ) where
   -- place i and its sum are stored
   pub wipe-more : (n m : Tables) (i : ℕ) → n ≡ wipedTo v (tablesOf t) i → m ≡ onEntity v (word (place i) 0) n
       → onEntity v (word (shown i) 0) m ≡ wipedTo v (tablesOf t) (i + 1)
-  wipe-more n m i p q = ap (onEntity v (word (shown i) 0)) (q ∙ ap (onEntity v (word (place i) 0)) p ∙ stored-more place place-row v (λ j. 0) (sums-to i) i 0 refl)
+  wipe-more n m i p q = ap (onEntity v (word (shown i) 0)) (q ∙ ap (onEntity v (word (place i) 0)) p
+      ∙ stored-more place place-row v (λ j. 0) (sums-to i) i 0 refl)
       ∙ row-apart place place-row v (sums-to i) (upTo (i + 1) (λ j. 0) (places (tablesOf t) v)) (shown i) 0 (λ z. omega arith)
       ∙ ap (onEntity v (row place (upTo (i + 1) (λ j. 0) (places (tablesOf t) v)))) (stored-more shown shown-row v (λ j. 0) (tablesOf t) i 0 refl)
 

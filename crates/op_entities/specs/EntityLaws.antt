@@ -74,7 +74,8 @@ module _ (t q : List ℕ) (u e : ℕ) (k : Taking toLevel t q u) (g : First t q 
   pub level-10 : b ≡ false → Judged t q refusal.wrongKind t
   level-10 z = kind-wrong k e g isEntity refl b h z
 
-  module _ (z : b ≡ true) (a : ℕ) (i : a ≡ requestOf q .a) (x y : Bool) (l : x ≡ lower a (tablesOf t .entity e level)) (r : y ≡ hasRole (tablesOf t) u downgrader) where
+  module _ (z : b ≡ true) (a : ℕ) (i : a ≡ requestOf q .a) (x y : Bool) (l : x ≡ lower a (tablesOf t .entity e level))
+      (r : y ≡ hasRole (tablesOf t) u downgrader) where
     level-11 : Passed refusal.noSuchUser (tablesOf t) (requestOf q)
     unfolding every free
     level-11 = skip k 1 refusal.wrongKind (lit≤ tt) (lit≤ tt) (kind-right k e g isEntity refl b h z) tt

@@ -84,7 +84,8 @@ module _ (t q : List ℕ) (u c : ℕ) (k : Taking toCreate t q u) (g : First t q
           module _ (s : List ℕ)
               (e : tablesOf s ≡ fresh n c (sortKind (requestOf q .a)) (sortType (requestOf q .a)) (requestOf q .b) (tablesOf t)) where
             pub create-room : usedPlaces (tablesOf s) c < placeCount
-            create-room = subst (λ (d : Tables). usedPlaces d c < placeCount) (sym e) (omega (arith, leb-false placeCount x (neither-r (ltb entityCount n) (leb placeCount x) zr)))
+            create-room = subst (λ (d : Tables). usedPlaces d c < placeCount) (sym e)
+                (omega (arith, leb-false placeCount x (neither-r (ltb entityCount n) (leb placeCount x) zr)))
 
             pub create-unshown : (i : ℕ) → sums (tablesOf s) c i ≡ 0
             create-unshown i = subst (λ (d : Tables). sums d c i ≡ 0) (sym e) (k .climbed .ready .good .0 .entities c .filled .noSums (omega (arith, box)) i)

@@ -54,7 +54,11 @@ module _ (d : Tables) (w : WellFormed d) where
 
     -- what is in no container leaves none
     pub leave-none : h ≡ 0 → d ≡ leave e d
-    leave-none z = λ i. record { user = d .user; entity = (fun-ext λ x. fun-ext λ f. sym (leave-left d w e x f (unheld x f (parent-none d w e (sym p ∙ z) x)))) i }
+    leave-none z = λ i. record {
+      user = d .user;
+      entity = (fun-ext λ x. fun-ext λ f. sym
+          (leave-left d w e x f (unheld x f (parent-none d w e (sym p ∙ z) x)))) i;
+    }
 
     -- the count of its container is one less
     left-one : h ≢ 0 → left e (places d h) (usedPlaces d h) ≡ usedPlaces d h - 1
@@ -104,7 +108,13 @@ module _ (d : Tables) (w : WellFormed d) where
       where
         go : (b : Bool) → Same h c b → (not b && leb placeCount n) ≡ leb placeCount (left e (places d c) (usedPlaces d c))
         go true (it s) = sym (lt-leb placeCount (left e (places d c) (usedPlaces d c)) (subst (λ (x : ℕ). left e (places d x) (usedPlaces d x) < placeCount) s
-            (omega (arith, left-one (λ z. omega arith), row-room d w h, place-in (λ z. omega arith) (usedPlaces d h) (seek e (places d h) (usedPlaces d h)) refl refl))))
+            (omega (
+              arith,
+              left-one (λ z. omega arith),
+              row-room d w h,
+              place-in (λ z. omega arith) (usedPlaces d h)
+                  (seek e (places d h) (usedPlaces d h)) refl refl,
+            ))))
         go false (other s) = ap (leb placeCount) (q ∙ sym (without-none e (places d c) (usedPlaces d c) (w .entities c .filled .packed)
             (λ m. not-there c (λ z. s (sym z)) (box, m)) .0))
 

@@ -73,5 +73,6 @@ module _ (t q : List ℕ) (u e : ℕ) (k : Taking toGrant t q u × First t q e) 
 
       pub grant-new : (s : List ℕ) → n < placeCount → tablesOf s ≡ onEntity e (word (triple n) x) (tablesOf t) → Judged t q refusal.accepted s
       unfolding refused
-      grant-new s h z = done s (pass (k .0) refusal.levelOrRoles (omega arith) (omega arith) up (room-is ∙ rw (le-leb placeCount p new, ← hn, lt-leb placeCount n h)))
+      grant-new s h z = done s (pass (k .0) refusal.levelOrRoles (omega arith) (omega arith) up
+          (room-is ∙ rw (le-leb placeCount p new, ← hn, lt-leb placeCount n h)))
           (z ∙ rw hn (new-last (tablesOf t) e x (omega arith)))

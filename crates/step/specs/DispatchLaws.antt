@@ -162,7 +162,8 @@ module _ (t q : List ℕ) (u op : ℕ) (k : PastLogon t q u) (e : requestOf q .o
         path-refused t q u op 1 k e a n (z .0) (z .1)
 
     module _ (x y : Entity)
-        (h : pairOf (pathAnswer (tablesOf t) (requestOf q)) (asked (tablesOf t) (requestOf q) .first) (asked (tablesOf t) (requestOf q) .second) ≡ Both x y) where
+        (h : pairOf (pathAnswer (tablesOf t) (requestOf q)) (asked (tablesOf t) (requestOf q) .first)
+        (asked (tablesOf t) (requestOf q) .second) ≡ Both x y) where
       both : (pathAnswer (tablesOf t) (requestOf q) ≡ 0)
           × ((asked (tablesOf t) (requestOf q) .first ≡ x .0) × (asked (tablesOf t) (requestOf q) .second ≡ y .0))
       both = pair-both (pathAnswer (tablesOf t) (requestOf q)) (asked (tablesOf t) (requestOf q) .first) (asked (tablesOf t) (requestOf q) .second) x y h

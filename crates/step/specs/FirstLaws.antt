@@ -118,7 +118,8 @@ module _ (t q : List ℕ) (u : ℕ) (k : PastRequester t q u) where
 -- of the number of an operation it is that number
 noticed-low : (n : ℕ) → n < suc operationCount → n ≡ elim (opOf n) [ none ↦ 0 | some o ↦ numberOf o ]
 unfolding every opOf withNumber operations
-noticed-low n h = eqb→eq n (elim (opOf n) [ none ↦ 0 | some o ↦ numberOf o ]) (every-at (suc operationCount) (λ i. eqb i (elim (opOf i) [ none ↦ 0 | some o ↦ numberOf o ])) tt n h)
+noticed-low n h = eqb→eq n (elim (opOf n) [ none ↦ 0 | some o ↦ numberOf o ])
+    (every-at (suc operationCount) (λ i. eqb i (elim (opOf i) [ none ↦ 0 | some o ↦ numberOf o ])) tt n h)
 
 pub noticed-up : (q : Request) (op : ℕ) → q .operation ≡ op → op ≤ operationCount → op ≡ noticedOp q
 unfolding noticedOp

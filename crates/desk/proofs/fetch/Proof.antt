@@ -47,11 +47,12 @@ same-length c = search needs
 
 returns-2 : tie.Need-returns-2
 returns-2 c =
-    let s6 = c .before .before .before .before .before .before in
-    let s10 = s6 .before .before .before .before in (
+    let s6 : _ → _ = λ _. c .before .before .before .before .before .before in
+    let s10 : _ → _ = λ _. s6 c .before .before .before .before in (
       omega arith,
       search needs,
-      take-put (s10 .args .len) (length (s10 .args .window .now) - s10 .args .len) (s10 .args .window .now) (s6 .read .last .1 .0) (s10 .pre .0),
+      take-put (s10 c .args .len) (length (s10 c .args .window .now) - s10 c .args .len) (s10 c .args .window .now)
+          (s6 c .read .last .1 .0) (s10 c .pre .0),
     )
 
 pub fetch-spec : {M : Type 1} → statement M

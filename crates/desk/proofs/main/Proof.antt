@@ -34,8 +34,8 @@ array-borrow-prefix-tables c = search needs
 
 slice-aggregate-serve : tie.Need-slice-aggregate-serve
 slice-aggregate-serve c =
-    let s4 = c .before .before .before .before in
-    sym (length-take-le _ _ (omega (arith, s4 .load .ensures .1, s4 .load .kept .1 .0)))
+    let s4 : _ → _ = λ _. c .before .before .before .before in
+    sym (length-take-le _ _ (omega (arith, s4 c .load .ensures .1, s4 c .load .kept .1 .0)))
 
 slice-aggregate-serve-2 : tie.Need-slice-aggregate-serve-2
 slice-aggregate-serve-2 c = search needs

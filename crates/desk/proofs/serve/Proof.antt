@@ -29,21 +29,21 @@ slice-reshare-prefix-run c = omega (arith, c .before .before .before .fetch .ens
 
 slice-aggregate-run : tie.Need-slice-aggregate-run Inv-loop μ-loop
 slice-aggregate-run c =
-    let s4 = c .before .before .before .before in
-    sym (length-take-le _ _ (omega (arith, s4 .fetch .ensures .1, s4 .fetch .kept .0)))
+    let s4 : _ → _ = λ _. c .before .before .before .before in
+    sym (length-take-le _ _ (omega (arith, s4 c .fetch .ensures .1, s4 c .fetch .kept .0)))
 
 run-requires : tie.Need-run-requires Inv-loop μ-loop
 run-requires c κs = search needs
 
 slice-reshare-prefix-put : tie.Need-slice-reshare-prefix-put Inv-loop μ-loop
 slice-reshare-prefix-put c =
-    let s4 = c .before .before .before .before in
-    omega (arith, runs-within (s4 .run .ensures) .0, s4 .run .kept .1 .1 .1 .0)
+    let s4 : _ → _ = λ _. c .before .before .before .before in
+    omega (arith, runs-within (s4 c .run .ensures) .0, s4 c .run .kept .1 .1 .1 .0)
 
 slice-aggregate-put : tie.Need-slice-aggregate-put Inv-loop μ-loop
 slice-aggregate-put c =
-    let s5 = c .before .before .before .before .before in
-    sym (length-take-le _ _ (omega (arith, runs-within (s5 .run .ensures) .0, s5 .run .kept .1 .1 .1 .0)))
+    let s5 : _ → _ = λ _. c .before .before .before .before .before in
+    sym (length-take-le _ _ (omega (arith, runs-within (s5 c .run .ensures) .0, s5 c .run .kept .1 .1 .1 .0)))
 
 put-requires : tie.Need-put-requires Inv-loop μ-loop
 put-requires c κs = search needs
@@ -80,7 +80,8 @@ same-length-4 c =
 
 same-length-5 : tie.Need-same-length-5 Inv-loop μ-loop
 same-length-5 c =
-    let s16 = c .before .before .before .before .before .before .before .before .before .before .before .before .before .before .before .before in
+    let s8 = c .before .before .before .before .before .before .before .before in
+    let s16 = s8 .before .before .before .before .before .before .before .before in
     let s19 = s16 .before .before .before in
     s16 .fetch .kept .0 ∙ s19 .loop .inv .3
 
@@ -98,10 +99,10 @@ had-room-requires c κs = search needs
 
 keep-requires : tie.Need-keep-requires Inv-loop μ-loop
 keep-requires c κs =
-    let s12 = c .before .before .before .before .before .before .before .before .before .before .before .before in
-    let s18 = s12 .before .before .before .before .before .before in
-    let f : s18 .fetch .result ≤ length (s18 .fetch .last .0) = omega (arith, s18 .fetch .ensures .1, s18 .fetch .kept .0) in
-    (omega (arith, runs-within (s12 .run .ensures) .1, length-take-le (s18 .fetch .result) (s18 .fetch .last .0) f), f)
+    let s12 : _ → _ = λ _. c .before .before .before .before .before .before .before .before .before .before .before .before in
+    let s18 : _ → _ = λ _. s12 c .before .before .before .before .before .before in
+    let f : s18 c .fetch .result ≤ length (s18 c .fetch .last .0) = omega (arith, s18 c .fetch .ensures .1, s18 c .fetch .kept .0) in
+    (omega (arith, runs-within (s12 c .run .ensures) .1, length-take-le (s18 c .fetch .result) (s18 c .fetch .last .0) f), f)
 
 sub-turns : tie.Need-sub-turns Inv-loop μ-loop
 sub-turns c = search needs
@@ -111,29 +112,31 @@ loop-less c = omega arith
 
 loop-again : tie.Need-loop-again Inv-loop μ-loop
 loop-again c =
-    let s4 = c .before .before .before .before in
-    let s5 = s4 .before in
-    let s6 = s5 .before in
-    let s15 = s6 .before .before .before .before .before .before .before .before .before in
-    let s21 = s15 .before .before .before .before .before .before in
-    let s24 = s21 .before .before .before in
-    let s28 = s24 .before .before .before .before in
-    let f : s21 .fetch .result ≤ length (s21 .fetch .last .0) = omega (arith, s21 .fetch .ensures .1, s21 .fetch .kept .0) in (
-      omega (arith, c .before .before .keep .ensures .0, c .before .before .keep .kept .0, s21 .fetch .ensures .1, s21 .fetch .kept .0),
+    let s4 : _ → _ = λ _. c .before .before .before .before in
+    let s5 : _ → _ = λ _. s4 c .before in
+    let s6 : _ → _ = λ _. s5 c .before in
+    let s15 : _ → _ = λ _. s6 c .before .before .before .before .before .before .before .before .before in
+    let s21 : _ → _ = λ _. s15 c .before .before .before .before .before .before in
+    let s24 : _ → _ = λ _. s21 c .before .before .before in
+    let s28 : _ → _ = λ _. s24 c .before .before .before .before in
+    let f : s21 c .fetch .result ≤ length (s21 c .fetch .last .0) = omega (arith, s21 c .fetch .ensures .1, s21 c .fetch .kept .0) in (
+      omega (arith, c .before .before .keep .ensures .0, c .before .before .keep .kept .0, s21 c .fetch .ensures .1, s21 c .fetch .kept .0),
       (λ e. omega (
         arith,
-        wanted-short (s15 .run .ensures) _ _ _ _ (s6 .is-over .ensures) (s5 .if2 .left) (s15 .run .kept .1 .1 .1 .0) (s4 .had-room .ensures) e,
-        length-take-le (s21 .fetch .result) (s21 .fetch .last .0) f,
+        wanted-short (s15 c .run .ensures) _ _ _ _ (s6 c .is-over .ensures) (s5 c .if2 .left) (s15 c .run .kept .1 .1 .1 .0)
+            (s4 c .had-room .ensures) e,
+        length-take-le (s21 c .fetch .result) (s21 c .fetch .last .0) f,
         c .before .before .keep .ensures .0,
         c .before .before .keep .kept .0,
-        s21 .fetch .kept .0,
-        s24 .loop .inv .3,
-        s28 .pre,
+        s21 c .fetch .kept .0,
+        s24 c .loop .inv .3,
+        s28 c .pre,
       )),
-      s15 .run .kept .0 ∙ s24 .loop .inv .2,
-      c .before .before .keep .kept .0 ∙ s21 .fetch .kept .0 ∙ s24 .loop .inv .3,
-      s15 .run .kept .1 .1 .1 .0 ∙ s24 .loop .inv .4,
-      omega (arith, s24 .loop .inv .5),
+      s15 c .run .kept .0 ∙ s24 c .loop .inv .2,
+      c .before .before .keep .kept .0 ∙ s21 c .fetch .kept .0 ∙ s24 c .loop .inv .3,
+      s15 c .run .kept .1 .1 .1 .0 ∙ s24 c .loop .inv .4,
+      omega
+          (arith, s24 c .loop .inv .5),
     )
 
 same-length-7 : tie.Need-same-length-7 Inv-loop μ-loop

@@ -17,9 +17,9 @@ tally-all-requires c κs =
 
 returns : tie.Need-returns
 returns c =
-    let s4 = c .before .before .before .before in
-    let s8 = s4 .before .before .before .before in
-    end-none _ _ _ (s8 .pre) (s4 .judge-all .ensures) _ (c .before .tally-all .ensures .0) _ (omega (arith, c .if1 .taken))
+    let s4 : _ → _ = λ _. c .before .before .before .before in
+    let s8 : _ → _ = λ _. s4 c .before .before .before .before in
+    end-none _ _ _ (s8 c .pre) (s4 c .judge-all .ensures) _ (c .before .tally-all .ensures .0) _ (omega (arith, c .if1 .taken))
 
 cast-need : tie.Need-cast-need
 cast-need c = search needs
@@ -29,19 +29,19 @@ mul-need c = search needs
 
 returns-2 : tie.Need-returns-2
 returns-2 c =
-    let s5 = c .before .before .before .before .before in
-    let s9 = s5 .before .before .before .before in
-    end-short _ _ _ (s9 .pre) (s5 .judge-all .ensures) _ (c .before .before .tally-all .ensures .0) _ (omega (arith, c .if2 .taken))
+    let s5 : _ → _ = λ _. c .before .before .before .before .before in
+    let s9 : _ → _ = λ _. s5 c .before .before .before .before in
+    end-short _ _ _ (s9 c .pre) (s5 c .judge-all .ensures) _ (c .before .before .tally-all .ensures .0) _ (omega (arith, c .if2 .taken))
 
 visit-all-requires : tie.Need-visit-all-requires
 visit-all-requires c κs =
-    let s5 = c .before .before .before .before .before in
-    let s8 = s5 .before .before .before in
-    let s12 = s8 .before .before .before .before in (
-      judged-guided _ _ _ (barred-admitted _ _ (s12 .pre)) (s8 .judge-all .ensures),
-      s5 .tally-all .ensures .1,
-      end-fits _ _ _ (s12 .pre)
-          (s8 .judge-all .ensures) _ (s5 .tally-all .ensures .0) (s12 .args .room .now) (omega (arith, c .before .before .before .if2 .left)),
+    let s5 : _ → _ = λ _. c .before .before .before .before .before in
+    let s8 : _ → _ = λ _. s5 c .before .before .before in
+    let s12 : _ → _ = λ _. s8 c .before .before .before .before in (
+      judged-guided _ _ _ (barred-admitted _ _ (s12 c .pre)) (s8 c .judge-all .ensures),
+      s5 c .tally-all .ensures .1,
+      end-fits _ _ _ (s12 c .pre)
+          (s8 c .judge-all .ensures) _ (s5 c .tally-all .ensures .0) (s12 c .args .room .now) (omega (arith, c .before .before .before .if2 .left)),
     )
 
 same-length : tie.Need-same-length
@@ -49,11 +49,11 @@ same-length c = search needs
 
 returns-3 : tie.Need-returns-3
 returns-3 c =
-    let s6 = c .before .before .before .before .before .before in
-    let s8 = s6 .before .before in
-    let s11 = s8 .before .before .before in
-    let s15 = s11 .before .before .before .before in
-    end-written _ _ _ (s15 .pre) (s11 .judge-all .ensures) _ (s8 .tally-all .ensures .0) _ _ (omega (arith, s6 .if2 .left))
+    let s6 : _ → _ = λ _. c .before .before .before .before .before .before in
+    let s8 : _ → _ = λ _. s6 c .before .before in
+    let s11 : _ → _ = λ _. s8 c .before .before .before in
+    let s15 : _ → _ = λ _. s11 c .before .before .before .before in
+    end-written _ _ _ (s15 c .pre) (s11 c .judge-all .ensures) _ (s8 c .tally-all .ensures .0) _ _ (omega (arith, s6 c .if2 .left))
     (c .before .before .visit-all .ensures)
 
 pub disclose-spec : {M : Type 1} → statement M

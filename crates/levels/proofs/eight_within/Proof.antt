@@ -36,10 +36,13 @@ returns : tie.Need-returns
 unfolding subset every
 returns c =
     let s4 = c .before .before .before .before in
+    let s5 = s4 .before in
+    let s6 = s5 .before in
+    let s7 = s6 .before in
     rw (
-      s4 .before .before .before .bit-kept .ensures,
-      s4 .before .before .bit-kept2 .ensures,
-      s4 .before .bit-kept3 .ensures,
+      s7 .bit-kept .ensures,
+      s6 .bit-kept2 .ensures,
+      s5 .bit-kept3 .ensures,
       s4 .bit-kept4 .ensures,
       c .before .before .before .bit-kept5 .ensures,
       c .before .before .bit-kept6 .ensures,

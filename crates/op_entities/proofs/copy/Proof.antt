@@ -26,7 +26,10 @@ same-length c = search needs
 
 -- src/lib.rt:33:9
 returns : tie.Need-returns
-returns c = copy-10 _ _ _ _ _ (c .before .before .before .before .before .before .before .pre .0) (c .before .before .before .before .before .before .before .pre .1) (c .before .before .before .before .before .before .before .pre .2) _ _ (c .before .before .before .is-entity .ensures) (c .before .is-entity2 .ensures) (not-true _ (c .if1 .taken))
+returns c =
+    let s7 = c .before .before .before .before .before .before .before in
+    copy-10 _ _ _ _ _ (s7 .pre .0) (s7 .pre .1) (s7 .pre .2) _ _ (c .before .before .before .is-entity .ensures) (c .before .is-entity2 .ensures)
+    (not-true _ (c .if1 .taken))
 
 -- src/lib.rt:35:25
 level-requires : tie.Need-level-requires
@@ -46,7 +49,14 @@ same-length-2 c = search needs
 
 -- src/lib.rt:36:9
 returns-2 : tie.Need-returns-2
-returns-2 c = copy-13 _ _ _ _ _ (c .before .before .before .before .before .before .before .before .before .before .before .before .before .pre .0) (c .before .before .before .before .before .before .before .before .before .before .before .before .before .pre .1) (c .before .before .before .before .before .before .before .before .before .before .before .before .before .pre .2) _ _ (c .before .before .before .before .before .before .before .before .before .is-entity .ensures) (c .before .before .before .before .before .before .before .is-entity2 .ensures) (not-false _ (c .before .before .before .before .before .before .if1 .left)) _ (c .before .at-most .ensures ∙ rw (c .before .before .before .before .level .ensures, c .before .before .level2 .ensures)) (not-true _ (c .if2 .taken))
+returns-2 c =
+    let s4 = c .before .before .before .before in
+    let s6 = s4 .before .before in
+    let s7 = s6 .before in
+    let s9 = s7 .before .before in
+    let s13 = s9 .before .before .before .before in
+    copy-13 _ _ _ _ _ (s13 .pre .0) (s13 .pre .1) (s13 .pre .2) _ _ (s9 .is-entity .ensures) (s7 .is-entity2 .ensures) (not-false _ (s6 .if1 .left)) _
+    (c .before .at-most .ensures ∙ rw (s4 .level .ensures, c .before .before .level2 .ensures)) (not-true _ (c .if2 .taken))
 
 -- src/lib.rt:38:9
 value-requires : tie.Need-value-requires
@@ -62,7 +72,19 @@ same-length-3 c = search needs
 
 -- src/lib.rt:28:1
 returns-3 : tie.Need-returns-3
-returns-3 c = copy-done _ _ _ _ _ (c .before .before .before .before .before .before .before .before .before .before .before .before .before .before .before .before .before .before .before .pre .0) (c .before .before .before .before .before .before .before .before .before .before .before .before .before .before .before .before .before .before .before .pre .1) (c .before .before .before .before .before .before .before .before .before .before .before .before .before .before .before .before .before .before .before .pre .2) _ _ (c .before .before .before .before .before .before .before .before .before .before .before .before .before .before .before .is-entity .ensures) (c .before .before .before .before .before .before .before .before .before .before .before .before .before .is-entity2 .ensures) (not-false _ (c .before .before .before .before .before .before .before .before .before .before .before .before .if1 .left)) _ (c .before .before .before .before .before .before .before .at-most .ensures ∙ rw (c .before .before .before .before .before .before .before .before .before .before .level .ensures, c .before .before .before .before .before .before .before .before .level2 .ensures)) (not-false _ (c .before .before .before .before .before .before .if2 .left)) _ (c .before .before .before .before .value .ensures) _ (c .before .before .set-value .ensures)
+returns-3 c =
+    let s4 = c .before .before .before .before in
+    let s6 = s4 .before .before in
+    let s7 = s6 .before in
+    let s8 = s7 .before in
+    let s10 = s8 .before .before in
+    let s12 = s10 .before .before in
+    let s13 = s12 .before in
+    let s15 = s13 .before .before in
+    let s19 = s15 .before .before .before .before in
+    copy-done _ _ _ _ _ (s19 .pre .0) (s19 .pre .1) (s19 .pre .2) _ _ (s15 .is-entity .ensures) (s13 .is-entity2 .ensures)
+    (not-false _ (s12 .if1 .left)) _ (s7 .at-most .ensures ∙ rw (s10 .level .ensures, s8 .level2 .ensures)) (not-false _ (s6 .if2 .left)) _
+    (s4 .value .ensures) _ (c .before .before .set-value .ensures)
 
 pub copy-spec : {M : Type 1} → statement M
 copy-spec =

@@ -19,7 +19,9 @@ same-length c = search needs
 
 -- src/lib.rt:21:9
 returns : tie.Need-returns
-returns c = edit-10 _ _ _ _ (c .before .before .before .before .before .pre .0) (c .before .before .before .before .before .pre .1) _ (c .before .is-entity .ensures) (not-true _ (c .if1 .taken))
+returns c =
+    let s5 = c .before .before .before .before .before in
+    edit-10 _ _ _ _ (s5 .pre .0) (s5 .pre .1) _ (c .before .is-entity .ensures) (not-true _ (c .if1 .taken))
 
 -- src/lib.rt:23:29
 a-requires : tie.Need-a-requires
@@ -35,7 +37,12 @@ same-length-2 c = search needs
 
 -- src/lib.rt:16:1
 returns-2 : tie.Need-returns-2
-returns-2 c = edit-done _ _ _ _ (c .before .before .before .before .before .before .before .before .before .before .pre .0) (c .before .before .before .before .before .before .before .before .before .before .pre .1) _ (c .before .before .before .before .before .before .is-entity .ensures) (not-false _ (c .before .before .before .before .before .if1 .left)) _ (c .before .before .before .a .ensures) _ (c .before .before .set-value .ensures)
+returns-2 c =
+    let s5 = c .before .before .before .before .before in
+    let s6 = s5 .before in
+    let s10 = s6 .before .before .before .before in
+    edit-done _ _ _ _ (s10 .pre .0) (s10 .pre .1) _ (s6 .is-entity .ensures) (not-false _ (s5 .if1 .left)) _ (c .before .before .before .a .ensures) _
+    (c .before .before .set-value .ensures)
 
 pub edit-spec : {M : Type 1} → statement M
 edit-spec =

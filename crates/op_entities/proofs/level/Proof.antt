@@ -23,7 +23,9 @@ same-length c = search needs
 
 -- src/lib.rt:49:9
 returns : tie.Need-returns
-returns c = level-10 _ _ _ _ (c .before .before .before .before .before .pre .0) (c .before .before .before .before .before .pre .1) _ (c .before .is-entity .ensures) (not-true _ (c .if1 .taken))
+returns c =
+    let s5 = c .before .before .before .before .before in
+    level-10 _ _ _ _ (s5 .pre .0) (s5 .pre .1) _ (c .before .is-entity .ensures) (not-true _ (c .if1 .taken))
 
 -- src/lib.rt:51:19
 a-requires : tie.Need-a-requires
@@ -47,7 +49,14 @@ same-length-2 c = search needs
 
 -- src/lib.rt:53:9
 returns-2 : tie.Need-returns-2
-returns-2 c = level-12 _ _ _ _ (c .before .before .before .before .before .before .before .before .before .before .before .before .pre .0) (c .before .before .before .before .before .before .before .before .before .before .before .before .pre .1) _ (c .before .before .before .before .before .before .before .before .is-entity .ensures) (not-false _ (c .before .before .before .before .before .before .before .if1 .left)) _ (c .before .before .before .before .before .before .a .ensures) _ _ (c .before .before .before .lower .ensures ∙ rw (c .before .before .before .before .level .ensures)) (c .before .has-role .ensures) (c .if2 .taken)
+returns-2 c =
+    let s4 = c .before .before .before .before in
+    let s6 = s4 .before .before in
+    let s7 = s6 .before in
+    let s8 = s7 .before in
+    let s12 = s8 .before .before .before .before in
+    level-12 _ _ _ _ (s12 .pre .0) (s12 .pre .1) _ (s8 .is-entity .ensures) (not-false _ (s7 .if1 .left)) _ (s6 .a .ensures) _ _
+    (c .before .before .before .lower .ensures ∙ rw (s4 .level .ensures)) (c .before .has-role .ensures) (c .if2 .taken)
 
 -- src/lib.rt:55:9
 try-level-requires : tie.Need-try-level-requires
@@ -59,7 +68,19 @@ same-length-3 c = search needs
 
 -- src/lib.rt:56:9
 returns-3 : tie.Need-returns-3
-returns-3 c = rw (c .before .before .before .try-level .ensures .back (not-true _ (c .if3 .taken))) (level-13 _ _ _ _ (c .before .before .before .before .before .before .before .before .before .before .before .before .before .before .before .before .before .pre .0) (c .before .before .before .before .before .before .before .before .before .before .before .before .before .before .before .before .before .pre .1) _ (c .before .before .before .before .before .before .before .before .before .before .before .before .before .is-entity .ensures) (not-false _ (c .before .before .before .before .before .before .before .before .before .before .before .before .if1 .left)) _ (c .before .before .before .before .before .before .before .before .before .before .before .a .ensures) _ _ (c .before .before .before .before .before .before .before .before .lower .ensures ∙ rw (c .before .before .before .before .before .before .before .before .before .level .ensures)) (c .before .before .before .before .before .before .has-role .ensures) (c .before .before .before .before .before .if2 .left) _ (c .before .before .before .try-level .ensures .secure) (not-true _ (c .if3 .taken)))
+returns-3 c =
+    let s5 = c .before .before .before .before .before in
+    let s6 = s5 .before in
+    let s8 = s6 .before .before in
+    let s9 = s8 .before in
+    let s11 = s9 .before .before in
+    let s12 = s11 .before in
+    let s13 = s12 .before in
+    let s17 = s13 .before .before .before .before in
+    rw (c .before .before .before .try-level .ensures .back (not-true _ (c .if3 .taken)))
+    (level-13 _ _ _ _ (s17 .pre .0) (s17 .pre .1) _ (s13 .is-entity .ensures) (not-false _ (s12 .if1 .left)) _ (s11 .a .ensures) _ _
+    (s8 .lower .ensures ∙ rw (s9 .level .ensures)) (s6 .has-role .ensures) (s5 .if2 .left) _ (c .before .before .before .try-level .ensures .secure)
+    (not-true _ (c .if3 .taken)))
 
 -- src/lib.rt:44:1
 same-length-4 : tie.Need-same-length-4
@@ -67,7 +88,18 @@ same-length-4 c = search needs
 
 -- src/lib.rt:44:1
 returns-4 : tie.Need-returns-4
-returns-4 c = level-done _ _ _ _ (c .before .before .before .before .before .before .before .before .before .before .before .before .before .before .before .before .before .pre .0) (c .before .before .before .before .before .before .before .before .before .before .before .before .before .before .before .before .before .pre .1) _ (c .before .before .before .before .before .before .before .before .before .before .before .before .before .is-entity .ensures) (not-false _ (c .before .before .before .before .before .before .before .before .before .before .before .before .if1 .left)) _ (c .before .before .before .before .before .before .before .before .before .before .before .a .ensures) _ _ (c .before .before .before .before .before .before .before .before .lower .ensures ∙ rw (c .before .before .before .before .before .before .before .before .before .level .ensures)) (c .before .before .before .before .before .before .has-role .ensures) (c .before .before .before .before .before .if2 .left) _ (c .before .before .before .try-level .ensures .secure) (not-false _ (c .if3 .left)) _ (c .before .before .before .try-level .ensures .kept (not-false _ (c .if3 .left)))
+returns-4 c =
+    let s5 = c .before .before .before .before .before in
+    let s6 = s5 .before in
+    let s8 = s6 .before .before in
+    let s9 = s8 .before in
+    let s11 = s9 .before .before in
+    let s12 = s11 .before in
+    let s13 = s12 .before in
+    let s17 = s13 .before .before .before .before in
+    level-done _ _ _ _ (s17 .pre .0) (s17 .pre .1) _ (s13 .is-entity .ensures) (not-false _ (s12 .if1 .left)) _ (s11 .a .ensures) _ _
+    (s8 .lower .ensures ∙ rw (s9 .level .ensures)) (s6 .has-role .ensures) (s5 .if2 .left) _ (c .before .before .before .try-level .ensures .secure)
+    (not-false _ (c .if3 .left)) _ (c .before .before .before .try-level .ensures .kept (not-false _ (c .if3 .left)))
 
 pub level-spec : {M : Type 1} → statement M
 level-spec =

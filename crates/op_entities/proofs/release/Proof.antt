@@ -24,7 +24,9 @@ same-length c = search needs
 
 -- src/lib.rt:79:9
 returns : tie.Need-returns
-returns c = release-10 _ _ _ _ (c .before .before .before .before .before .pre .0) (c .before .before .before .before .before .pre .1) _ (c .before .is-draft .ensures) (not-true _ (c .if1 .taken))
+returns c =
+    let s5 = c .before .before .before .before .before in
+    release-10 _ _ _ _ (s5 .pre .0) (s5 .pre .1) _ (c .before .is-draft .ensures) (not-true _ (c .if1 .taken))
 
 -- src/lib.rt:81:9
 has-role-requires : tie.Need-has-role-requires
@@ -36,7 +38,11 @@ same-length-2 c = search needs
 
 -- src/lib.rt:82:9
 returns-2 : tie.Need-returns-2
-returns-2 c = release-12 _ _ _ _ (c .before .before .before .before .before .before .before .before .pre .0) (c .before .before .before .before .before .before .before .before .pre .1) _ (c .before .before .before .before .is-draft .ensures) (not-false _ (c .before .before .before .if1 .left)) _ (c .before .has-role .ensures) (not-true _ (c .if2 .taken))
+returns-2 c =
+    let s4 = c .before .before .before .before in
+    let s8 = s4 .before .before .before .before in
+    release-12 _ _ _ _ (s8 .pre .0) (s8 .pre .1) _ (s4 .is-draft .ensures) (not-false _ (c .before .before .before .if1 .left)) _
+    (c .before .has-role .ensures) (not-true _ (c .if2 .taken))
 
 -- src/lib.rt:84:5
 set-releaser-requires : tie.Need-set-releaser-requires
@@ -52,7 +58,16 @@ same-length-3 c = search needs
 
 -- src/lib.rt:74:1
 returns-3 : tie.Need-returns-3
-returns-3 c = release-done _ _ _ _ (c .before .before .before .before .before .before .before .before .before .before .before .before .before .before .before .before .pre .0) (c .before .before .before .before .before .before .before .before .before .before .before .before .before .before .before .before .pre .1) _ (c .before .before .before .before .before .before .before .before .before .before .before .before .is-draft .ensures) (not-false _ (c .before .before .before .before .before .before .before .before .before .before .before .if1 .left)) _ (c .before .before .before .before .before .before .before .before .before .has-role .ensures) (not-false _ (c .before .before .before .before .before .before .before .before .if2 .left)) _ (c .before .before .set-type .ensures ∙ rw (c .before .before .before .before .before .before .set-releaser .ensures) (twice _ (word type 2) (word releaser _) _))
+returns-3 c =
+    let s6 = c .before .before .before .before .before .before in
+    let s8 = s6 .before .before in
+    let s9 = s8 .before in
+    let s11 = s9 .before .before in
+    let s12 = s11 .before in
+    let s16 = s12 .before .before .before .before in
+    release-done _ _ _ _ (s16 .pre .0) (s16 .pre .1) _ (s12 .is-draft .ensures) (not-false _ (s11 .if1 .left)) _ (s9 .has-role .ensures)
+    (not-false _ (s8 .if2 .left)) _ (c .before .before .set-type .ensures ∙ rw (s6 .set-releaser .ensures)
+    (twice _ (word type 2) (word releaser _) _))
 
 pub release-spec : {M : Type 1} → statement M
 release-spec =

@@ -25,7 +25,9 @@ same-length c = search needs
 
 -- src/lib.rt:21:9
 returns : tie.Need-returns
-returns c = create-kind _ _ _ _ (c .before .before .before .before .before .pre .0) (c .before .before .before .before .before .pre .1) _ (c .before .is-container .ensures) (c .if1 .taken)
+returns c =
+    let s5 = c .before .before .before .before .before in
+    create-kind _ _ _ _ (s5 .pre .0) (s5 .pre .1) _ (c .before .is-container .ensures) (c .if1 .taken)
 
 -- src/lib.rt:23:19
 b-requires : tie.Need-b-requires
@@ -45,7 +47,13 @@ same-length-2 c = search needs
 
 -- src/lib.rt:25:9
 returns-2 : tie.Need-returns-2
-returns-2 c = create-above _ _ _ _ (c .before .before .before .before .before .before .before .before .before .before .pre .0) (c .before .before .before .before .before .before .before .before .before .before .pre .1) _ (c .before .before .before .before .before .before .is-container .ensures) (c .before .before .before .before .before .if1 .left) _ _ (c .before .before .level .ensures) (c .before .at-most .ensures ∙ rw (c .before .before .before .before .b .ensures)) (c .if2 .taken)
+returns-2 c =
+    let s4 = c .before .before .before .before in
+    let s5 = s4 .before in
+    let s6 = s5 .before in
+    let s10 = s6 .before .before .before .before in
+    create-above _ _ _ _ (s10 .pre .0) (s10 .pre .1) _ (s6 .is-container .ensures) (s5 .if1 .left) _ _ (c .before .before .level .ensures)
+    (c .before .at-most .ensures ∙ rw (s4 .b .ensures)) (c .if2 .taken)
 
 -- src/lib.rt:27:9
 vacant-requires : tie.Need-vacant-requires
@@ -61,7 +69,17 @@ same-length-3 c = search needs
 
 -- src/lib.rt:29:9
 returns-3 : tie.Need-returns-3
-returns-3 c = create-full _ _ _ _ (c .before .before .before .before .before .before .before .before .before .before .before .before .before .before .before .pre .0) (c .before .before .before .before .before .before .before .before .before .before .before .before .before .before .before .pre .1) _ (c .before .before .before .before .before .before .before .before .before .before .before .is-container .ensures) (c .before .before .before .before .before .before .before .before .before .before .if1 .left) _ _ (c .before .before .before .before .before .before .before .level .ensures) (c .before .before .before .before .before .before .at-most .ensures ∙ rw (c .before .before .before .before .before .before .before .before .before .b .ensures)) (c .before .before .before .before .before .if2 .left) _ _ (c .before .before .before .vacant .ensures) (c .before .used .ensures) (c .if3 .taken)
+returns-3 c =
+    let s5 = c .before .before .before .before .before in
+    let s6 = s5 .before in
+    let s7 = s6 .before in
+    let s9 = s7 .before .before in
+    let s10 = s9 .before in
+    let s11 = s10 .before in
+    let s15 = s11 .before .before .before .before in
+    create-full _ _ _ _ (s15 .pre .0) (s15 .pre .1) _ (s11 .is-container .ensures) (s10 .if1 .left) _ _ (s7 .level .ensures)
+    (s6 .at-most .ensures ∙ rw (s9 .b .ensures)) (s5 .if2 .left) _ _ (c .before .before .before .vacant .ensures) (c .before .used .ensures)
+    (c .if3 .taken)
 
 -- src/lib.rt:31:36
 a-requires : tie.Need-a-requires
@@ -69,11 +87,43 @@ a-requires c κs = search needs
 
 -- src/lib.rt:31:5
 bear-requires : tie.Need-bear-requires
-bear-requires c κs = let r = new-in _ _ _ _ (c .before .before .before .before .before .before .before .before .before .before .before .before .before .before .before .before .before .pre .0) (c .before .before .before .before .before .before .before .before .before .before .before .before .before .before .before .before .before .pre .1) _ (c .before .before .before .before .before .before .before .before .before .before .before .before .before .is-container .ensures) (c .before .before .before .before .before .before .before .before .before .before .before .before .if1 .left) _ _ (c .before .before .before .before .before .before .before .before .before .level .ensures) (c .before .before .before .before .before .before .before .before .at-most .ensures ∙ rw (c .before .before .before .before .before .before .before .before .before .before .before .b .ensures)) (c .before .before .before .before .before .before .before .if2 .left) _ _ (c .before .before .before .before .before .vacant .ensures) (c .before .before .before .used .ensures) (c .before .before .if3 .left) in search needs
+bear-requires c κs =
+    let s5 : _ → _ = λ _. c .before .before .before .before .before in
+    let s7 : _ → _ = λ _. s5 c .before .before in
+    let s8 : _ → _ = λ _. s7 c .before in
+    let s9 : _ → _ = λ _. s8 c .before in
+    let s11 : _ → _ = λ _. s9 c .before .before in
+    let s12 : _ → _ = λ _. s11 c .before in
+    let s13 : _ → _ = λ _. s12 c .before in
+    let s17 : _ → _ = λ _. s13 c .before .before .before .before in
+    let r = new-in _ _ _ _ (s17 c .pre .0) (s17 c .pre .1) _ (s13 c .is-container .ensures) (s12 c .if1 .left) _ _ (s9 c .level .ensures)
+    (s8 c .at-most .ensures ∙ rw (s11 c .b .ensures)) (s7 c .if2 .left) _ _ (s5 c .vacant .ensures) (c .before .before .before .used .ensures)
+    (c .before .before .if3 .left) in
+    search needs
 
 -- src/lib.rt:32:5
 put-last-requires : tie.Need-put-last-requires
-put-last-requires c κs = (search needs, create-room _ _ _ _ (c .before .before .before .before .before .before .before .before .before .before .before .before .before .before .before .before .before .before .before .before .before .pre .0) (c .before .before .before .before .before .before .before .before .before .before .before .before .before .before .before .before .before .before .before .before .before .pre .1) _ (c .before .before .before .before .before .before .before .before .before .before .before .before .before .before .before .before .before .is-container .ensures) (c .before .before .before .before .before .before .before .before .before .before .before .before .before .before .before .before .if1 .left) _ _ (c .before .before .before .before .before .before .before .before .before .before .before .before .before .level .ensures) (c .before .before .before .before .before .before .before .before .before .before .before .before .at-most .ensures ∙ rw (c .before .before .before .before .before .before .before .before .before .before .before .before .before .before .before .b .ensures)) (c .before .before .before .before .before .before .before .before .before .before .before .if2 .left) _ _ (c .before .before .before .before .before .before .before .before .before .vacant .ensures) (c .before .before .before .before .before .before .before .used .ensures) (c .before .before .before .before .before .before .if3 .left) _ (c .before .before .before .bear .ensures ∙ rw (c .before .before .before .before .a .ensures, c .before .before .before .before .before .before .before .before .before .before .before .before .before .before .before .b .ensures)), create-unshown _ _ _ _ (c .before .before .before .before .before .before .before .before .before .before .before .before .before .before .before .before .before .before .before .before .before .pre .0) (c .before .before .before .before .before .before .before .before .before .before .before .before .before .before .before .before .before .before .before .before .before .pre .1) _ (c .before .before .before .before .before .before .before .before .before .before .before .before .before .before .before .before .before .is-container .ensures) (c .before .before .before .before .before .before .before .before .before .before .before .before .before .before .before .before .if1 .left) _ _ (c .before .before .before .before .before .before .before .before .before .before .before .before .before .level .ensures) (c .before .before .before .before .before .before .before .before .before .before .before .before .at-most .ensures ∙ rw (c .before .before .before .before .before .before .before .before .before .before .before .before .before .before .before .b .ensures)) (c .before .before .before .before .before .before .before .before .before .before .before .if2 .left) _ _ (c .before .before .before .before .before .before .before .before .before .vacant .ensures) (c .before .before .before .before .before .before .before .used .ensures) (c .before .before .before .before .before .before .if3 .left) _ (c .before .before .before .bear .ensures ∙ rw (c .before .before .before .before .a .ensures, c .before .before .before .before .before .before .before .before .before .before .before .before .before .before .before .b .ensures)))
+put-last-requires c κs =
+    let s4 : _ → _ = λ _. c .before .before .before .before in
+    let s6 : _ → _ = λ _. s4 c .before .before in
+    let s7 : _ → _ = λ _. s6 c .before in
+    let s9 : _ → _ = λ _. s7 c .before .before in
+    let s11 : _ → _ = λ _. s9 c .before .before in
+    let s12 : _ → _ = λ _. s11 c .before in
+    let s13 : _ → _ = λ _. s12 c .before in
+    let s15 : _ → _ = λ _. s13 c .before .before in
+    let s16 : _ → _ = λ _. s15 c .before in
+    let s17 : _ → _ = λ _. s16 c .before in
+    let s21 : _ → _ = λ _. s17 c .before .before .before .before in (
+      search needs,
+      create-room _ _ _ _ (s21 c .pre .0) (s21 c .pre .1) _ (s17 c .is-container .ensures) (s16 c .if1 .left) _ _ (s13 c .level .ensures)
+          (s12 c .at-most .ensures ∙ rw (s15 c .b .ensures)) (s11 c .if2 .left) _ _ (s9 c .vacant .ensures) (s7 c .used .ensures) (s6 c .if3 .left) _
+          (c .before .before .before .bear .ensures ∙ rw (s4 c .a .ensures, s15 c .b .ensures)),
+      create-unshown _ _ _ _ (s21 c .pre .0) (s21 c .pre .1) _
+          (s17 c .is-container .ensures) (s16 c .if1 .left) _ _ (s13 c .level .ensures) (s12 c .at-most .ensures ∙ rw (s15 c .b .ensures))
+          (s11 c .if2 .left) _ _ (s9 c .vacant .ensures) (s7 c .used .ensures) (s6 c .if3 .left) _
+          (c .before .before .before .bear .ensures ∙ rw (s4 c .a .ensures, s15 c .b .ensures)),
+    )
 
 -- src/lib.rt:16:1
 same-length-4 : tie.Need-same-length-4
@@ -81,7 +131,22 @@ same-length-4 c = search needs
 
 -- src/lib.rt:16:1
 returns-4 : tie.Need-returns-4
-returns-4 c = created _ _ _ _ (c .before .before .before .before .before .before .before .before .before .before .before .before .before .before .before .before .before .before .before .before .before .before .before .before .pre .0) (c .before .before .before .before .before .before .before .before .before .before .before .before .before .before .before .before .before .before .before .before .before .before .before .before .pre .1) _ (c .before .before .before .before .before .before .before .before .before .before .before .before .before .before .before .before .before .before .before .before .is-container .ensures) (c .before .before .before .before .before .before .before .before .before .before .before .before .before .before .before .before .before .before .before .if1 .left) _ _ (c .before .before .before .before .before .before .before .before .before .before .before .before .before .before .before .before .level .ensures) (c .before .before .before .before .before .before .before .before .before .before .before .before .before .before .before .at-most .ensures ∙ rw (c .before .before .before .before .before .before .before .before .before .before .before .before .before .before .before .before .before .before .b .ensures)) (c .before .before .before .before .before .before .before .before .before .before .before .before .before .before .if2 .left) _ _ (c .before .before .before .before .before .before .before .before .before .before .before .before .vacant .ensures) (c .before .before .before .before .before .before .before .before .before .before .used .ensures) (c .before .before .before .before .before .before .before .before .before .if3 .left) _ _ (c .before .before .before .before .before .before .bear .ensures ∙ rw (c .before .before .before .before .before .before .before .a .ensures, c .before .before .before .before .before .before .before .before .before .before .before .before .before .before .before .before .before .before .b .ensures)) (c .before .before .put-last .ensures)
+returns-4 c =
+    let s6 = c .before .before .before .before .before .before in
+    let s7 = s6 .before in
+    let s9 = s7 .before .before in
+    let s10 = s9 .before in
+    let s12 = s10 .before .before in
+    let s14 = s12 .before .before in
+    let s15 = s14 .before in
+    let s16 = s15 .before in
+    let s18 = s16 .before .before in
+    let s19 = s18 .before in
+    let s20 = s19 .before in
+    let s24 = s20 .before .before .before .before in
+    created _ _ _ _ (s24 .pre .0) (s24 .pre .1) _ (s20 .is-container .ensures) (s19 .if1 .left) _ _ (s16 .level .ensures)
+    (s15 .at-most .ensures ∙ rw (s18 .b .ensures)) (s14 .if2 .left) _ _ (s12 .vacant .ensures) (s10 .used .ensures) (s9 .if3 .left) _ _
+    (s6 .bear .ensures ∙ rw (s7 .a .ensures, s18 .b .ensures)) (c .before .before .put-last .ensures)
 
 pub create-spec : {M : Type 1} → statement M
 create-spec =

@@ -22,7 +22,9 @@ same-length c = search needs
 
 -- src/lib.rt:42:9
 returns : tie.Need-returns
-returns c = delete-kind _ _ _ _ (c .before .before .before .before .before .pre .0) (c .before .before .before .before .before .pre .1) _ (c .before .is-entity .ensures) (c .if1 .taken)
+returns c =
+    let s5 = c .before .before .before .before .before in
+    delete-kind _ _ _ _ (s5 .pre .0) (s5 .pre .1) _ (c .before .is-entity .ensures) (c .if1 .taken)
 
 -- src/lib.rt:44:10
 used-requires : tie.Need-used-requires
@@ -30,7 +32,9 @@ used-requires c κs = search needs
 
 -- src/lib.rt:45:12
 on-screen-requires : tie.Need-on-screen-requires
-on-screen-requires c κs = (search needs, c .before .before .before .before .before .before .before .before .pre .0 .climbed .ready .good .0, c .before .before .before .before .before .before .before .before .pre .1 .low)
+on-screen-requires c κs =
+    let s8 : _ → _ = λ _. c .before .before .before .before .before .before .before .before in
+    (search needs, s8 c .pre .0 .climbed .ready .good .0, s8 c .pre .1 .low)
 
 -- src/lib.rt:45:39
 type-of-requires : tie.Need-type-of-requires
@@ -42,11 +46,19 @@ same-length-2 c = search needs
 
 -- src/lib.rt:47:9
 returns-2 : tie.Need-returns-2
-returns-2 c = delete-forbidden _ _ _ _ (c .before .before .before .before .before .before .before .before .before .before .before .before .pre .0) (c .before .before .before .before .before .before .before .before .before .before .before .before .pre .1) _ (c .before .before .before .before .before .before .before .before .is-entity .ensures) (c .before .before .before .before .before .before .before .if1 .left) _ _ _ (c .before .before .before .before .before .used .ensures) (c .before .before .before .on-screen .ensures) (c .before .type-of .ensures) (c .if2 .taken)
+returns-2 c =
+    let s5 = c .before .before .before .before .before in
+    let s7 = s5 .before .before in
+    let s8 = s7 .before in
+    let s12 = s8 .before .before .before .before in
+    delete-forbidden _ _ _ _ (s12 .pre .0) (s12 .pre .1) _ (s8 .is-entity .ensures) (s7 .if1 .left) _ _ _ (s5 .used .ensures)
+    (c .before .before .before .on-screen .ensures) (c .before .type-of .ensures) (c .if2 .taken)
 
 -- src/lib.rt:49:23
 holder-requires : tie.Need-holder-requires
-holder-requires c κs = (search needs, c .before .before .before .before .before .before .before .before .before .before .before .before .before .before .pre .0 .climbed .ready .good .0, c .before .before .before .before .before .before .before .before .before .before .before .before .before .before .pre .1 .low)
+holder-requires c κs =
+    let s14 : _ → _ = λ _. c .before .before .before .before .before .before .before .before .before .before .before .before .before .before in
+    (search needs, s14 c .pre .0 .climbed .ready .good .0, s14 c .pre .1 .low)
 
 -- src/lib.rt:49:5
 leave-requires : tie.Need-leave-requires
@@ -62,7 +74,17 @@ same-length-3 c = search needs
 
 -- src/lib.rt:37:1
 returns-3 : tie.Need-returns-3
-returns-3 c = deleted _ _ _ _ (c .before .before .before .before .before .before .before .before .before .before .before .before .before .before .before .before .before .before .before .before .before .before .pre .0) (c .before .before .before .before .before .before .before .before .before .before .before .before .before .before .before .before .before .before .before .before .before .before .pre .1) _ (c .before .before .before .before .before .before .before .before .before .before .before .before .before .before .before .before .before .before .is-entity .ensures) (c .before .before .before .before .before .before .before .before .before .before .before .before .before .before .before .before .before .if1 .left) _ _ _ (c .before .before .before .before .before .before .before .before .before .before .before .before .before .before .before .used .ensures) (c .before .before .before .before .before .before .before .before .before .before .before .before .before .on-screen .ensures) (c .before .before .before .before .before .before .before .before .before .before .before .type-of .ensures) (c .before .before .before .before .before .before .before .before .before .before .if2 .left) _ _ (c .before .before .before .before .before .before .leave .ensures) (c .before .before .erase .ensures)
+returns-3 c =
+    let s6 = c .before .before .before .before .before .before in
+    let s10 = s6 .before .before .before .before in
+    let s11 = s10 .before in
+    let s13 = s11 .before .before in
+    let s15 = s13 .before .before in
+    let s17 = s15 .before .before in
+    let s18 = s17 .before in
+    let s22 = s18 .before .before .before .before in
+    deleted _ _ _ _ (s22 .pre .0) (s22 .pre .1) _ (s18 .is-entity .ensures) (s17 .if1 .left) _ _ _ (s15 .used .ensures) (s13 .on-screen .ensures)
+    (s11 .type-of .ensures) (s10 .if2 .left) _ _ (s6 .leave .ensures) (c .before .before .erase .ensures)
 
 pub delete-spec : {M : Type 1} → statement M
 delete-spec =

@@ -38,7 +38,12 @@ same-length-2 c = search needs
 
 -- src/lib.rt:29:9
 returns-2 : tie.Need-returns-2
-returns-2 c = grant-there _ _ _ _ (c .before .before .before .before .before .before .before .before .before .pre) _ (c .before .before .before .before .before .is-any .ensures) (not-false _ (c .before .before .before .before .if1 .left)) _ _ (c .before .before .before .named-triple .ensures) (c .before .triple-place .ensures) (omega arith)
+returns-2 c =
+    let s4 : _ → _ = λ _. c .before .before .before .before in
+    let s5 : _ → _ = λ _. s4 c .before in
+    let s9 : _ → _ = λ _. s5 c .before .before .before .before in
+    grant-there _ _ _ _ (s9 c .pre) _ (s5 c .is-any .ensures) (not-false _ (s4 c .if1 .left)) _ _ (c .before .before .before .named-triple .ensures)
+    (c .before .triple-place .ensures) (omega arith)
 
 -- src/lib.rt:31:9
 triple-place-requires-2 : tie.Need-triple-place-requires-2
@@ -50,7 +55,14 @@ same-length-3 c = search needs
 
 -- src/lib.rt:33:9
 returns-3 : tie.Need-returns-3
-returns-3 c = grant-full _ _ _ _ (c .before .before .before .before .before .before .before .before .before .before .before .before .pre) _ (c .before .before .before .before .before .before .before .before .is-any .ensures) (not-false _ (c .before .before .before .before .before .before .before .if1 .left)) _ _ (c .before .before .before .before .before .before .named-triple .ensures) (c .before .before .before .before .triple-place .ensures) (omega arith) _ (c .before .triple-place2 .ensures) (omega arith)
+returns-3 c =
+    let s4 : _ → _ = λ _. c .before .before .before .before in
+    let s6 : _ → _ = λ _. s4 c .before .before in
+    let s7 : _ → _ = λ _. s6 c .before in
+    let s8 : _ → _ = λ _. s7 c .before in
+    let s12 : _ → _ = λ _. s8 c .before .before .before .before in
+    grant-full _ _ _ _ (s12 c .pre) _ (s8 c .is-any .ensures) (not-false _ (s7 c .if1 .left)) _ _ (s6 c .named-triple .ensures)
+    (s4 c .triple-place .ensures) (omega arith) _ (c .before .triple-place2 .ensures) (omega arith)
 
 -- src/lib.rt:35:5
 set-triple-requires : tie.Need-set-triple-requires
@@ -62,7 +74,15 @@ same-length-4 c = search needs
 
 -- src/lib.rt:20:1
 returns-4 : tie.Need-returns-4
-returns-4 c = grant-new _ _ _ _ (c .before .before .before .before .before .before .before .before .before .before .before .before .before .before .before .before .pre) _ (c .before .before .before .before .before .before .before .before .before .before .before .before .is-any .ensures) (not-false _ (c .before .before .before .before .before .before .before .before .before .before .before .if1 .left)) _ _ (c .before .before .before .before .before .before .before .before .before .before .named-triple .ensures) (c .before .before .before .before .before .before .before .before .triple-place .ensures) (omega arith) _ (c .before .before .before .before .before .triple-place2 .ensures) _ (omega arith) (c .before .before .set-triple .ensures)
+returns-4 c =
+    let s5 : _ → _ = λ _. c .before .before .before .before .before in
+    let s8 : _ → _ = λ _. s5 c .before .before .before in
+    let s10 : _ → _ = λ _. s8 c .before .before in
+    let s11 : _ → _ = λ _. s10 c .before in
+    let s12 : _ → _ = λ _. s11 c .before in
+    let s16 : _ → _ = λ _. s12 c .before .before .before .before in
+    grant-new _ _ _ _ (s16 c .pre) _ (s12 c .is-any .ensures) (not-false _ (s11 c .if1 .left)) _ _ (s10 c .named-triple .ensures)
+    (s8 c .triple-place .ensures) (omega arith) _ (s5 c .triple-place2 .ensures) _ (omega arith) (c .before .before .set-triple .ensures)
 
 pub grant-spec : {M : Type 1} → statement M
 grant-spec =

@@ -38,7 +38,12 @@ same-length-2 c = search needs
 
 -- src/lib.rt:49:9
 returns-2 : tie.Need-returns-2
-returns-2 c = revoke-none _ _ _ _ (c .before .before .before .before .before .before .before .before .before .pre) _ (c .before .before .before .before .before .is-any .ensures) (not-false _ (c .before .before .before .before .if1 .left)) _ _ (c .before .before .named-triple .ensures) (c .before .triple-place .ensures) (omega arith)
+returns-2 c =
+    let s4 : _ → _ = λ _. c .before .before .before .before in
+    let s5 : _ → _ = λ _. s4 c .before in
+    let s9 : _ → _ = λ _. s5 c .before .before .before .before in
+    revoke-none _ _ _ _ (s9 c .pre) _ (s5 c .is-any .ensures) (not-false _ (s4 c .if1 .left)) _ _ (c .before .before .named-triple .ensures)
+    (c .before .triple-place .ensures) (omega arith)
 
 -- src/lib.rt:51:5
 close-triples-requires : tie.Need-close-triples-requires
@@ -50,7 +55,14 @@ same-length-3 c = search needs
 
 -- src/lib.rt:40:1
 returns-3 : tie.Need-returns-3
-returns-3 c = revoke-out _ _ _ _ (c .before .before .before .before .before .before .before .before .before .before .before .before .before .pre) _ (c .before .before .before .before .before .before .before .before .before .is-any .ensures) (not-false _ (c .before .before .before .before .before .before .before .before .if1 .left)) _ _ (c .before .before .before .before .before .before .named-triple .ensures) (c .before .before .before .before .before .triple-place .ensures) _ (c .before .before .close-triples .ensures)
+returns-3 c =
+    let s5 = c .before .before .before .before .before in
+    let s6 = s5 .before in
+    let s8 = s6 .before .before in
+    let s9 = s8 .before in
+    let s13 = s9 .before .before .before .before in
+    revoke-out _ _ _ _ (s13 .pre) _ (s9 .is-any .ensures) (not-false _ (s8 .if1 .left)) _ _ (s6 .named-triple .ensures) (s5 .triple-place .ensures) _
+    (c .before .before .close-triples .ensures)
 
 pub revoke-spec : {M : Type 1} → statement M
 revoke-spec =

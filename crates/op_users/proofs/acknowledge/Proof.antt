@@ -35,7 +35,12 @@ same-length c = search needs
 
 -- src/lib.rt:79:9
 returns : tie.Need-returns
-returns c = acknowledge-16 _ _ _ (c .before .before .before .before .before .before .before .before .before .pre) _ _ _ _ (c .before .before .before .before .a .ensures) (c .before .before .before .b .ensures) (c .before .before .before .before .before .held .ensures) (c .before .missed .ensures) (c .if1 .taken)
+returns c =
+    let s4 = c .before .before .before .before in
+    let s5 = s4 .before in
+    let s9 = s5 .before .before .before .before in
+    acknowledge-16 _ _ _ (s9 .pre) _ _ _ _ (s4 .a .ensures) (c .before .before .before .b .ensures) (s5 .held .ensures) (c .before .missed .ensures)
+    (c .if1 .taken)
 
 -- src/lib.rt:81:5
 set-missed-requires : tie.Need-set-missed-requires
@@ -55,7 +60,17 @@ same-length-2 c = search needs
 
 -- src/lib.rt:73:1
 returns-2 : tie.Need-returns-2
-returns-2 c = acknowledge-done _ _ _ (c .before .before .before .before .before .before .before .before .before .before .before .before .before .before .before .before .before .before .before .before .before .pre) _ _ _ _ (c .before .before .before .before .before .before .before .before .before .before .before .before .before .before .before .before .a .ensures) (c .before .before .before .before .before .before .before .before .before .before .before .before .before .before .before .b .ensures) (c .before .before .before .before .before .before .before .before .before .before .before .before .before .before .before .before .before .held .ensures) (c .before .before .before .before .before .before .before .before .before .before .before .before .before .missed .ensures) (c .before .before .before .before .before .before .before .before .before .before .before .before .if1 .left) _ (c .before .before .set-held .ensures ∙ rw (c .before .before .before .before .before .before .set-held-op .ensures, c .before .before .before .before .before .before .before .before .before .before .set-missed .ensures))
+returns-2 c =
+    let s6 = c .before .before .before .before .before .before in
+    let s10 = s6 .before .before .before .before in
+    let s12 = s10 .before .before in
+    let s13 = s12 .before in
+    let s15 = s13 .before .before in
+    let s16 = s15 .before in
+    let s17 = s16 .before in
+    let s21 = s17 .before .before .before .before in
+    acknowledge-done _ _ _ (s21 .pre) _ _ _ _ (s16 .a .ensures) (s15 .b .ensures) (s17 .held .ensures) (s13 .missed .ensures) (s12 .if1 .left) _
+    (c .before .before .set-held .ensures ∙ rw (s6 .set-held-op .ensures, s10 .set-missed .ensures))
 
 pub acknowledge-spec : {M : Type 1} → statement M
 acknowledge-spec =

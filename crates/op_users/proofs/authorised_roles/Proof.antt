@@ -23,7 +23,10 @@ a-requires c κs = search needs
 
 -- src/lib.rt:58:8
 present-requires : tie.Need-present-requires
-present-requires c κs = let r = spoken _ _ (c .before .a .ensures) (arguments-in toAuthorised _ _ _ (c .before .before .before .before .pre) .0) in (c .before .before .before .before .pre .climbed .ready .whole, r .0, r .1)
+present-requires c κs =
+    let s4 = c .before .before .before .before in
+    let r = spoken _ _ (c .before .a .ensures) (arguments-in toAuthorised _ _ _ (s4 .pre) .0) in
+    (s4 .pre .climbed .ready .whole, r .0, r .1)
 
 -- src/lib.rt:59:9
 same-length : tie.Need-same-length
@@ -31,7 +34,10 @@ same-length c = search needs
 
 -- src/lib.rt:59:9
 returns : tie.Need-returns
-returns c = user-absent _ authorised-officers _ _ _ (c .before .before .before .before .before .before .pre) _ _ (c .before .before .before .a .ensures) (c .before .present .ensures) (eq-eqb _ _ (c .if1 .taken))
+returns c =
+    let s6 = c .before .before .before .before .before .before in
+    user-absent _ authorised-officers _ _ _ (s6 .pre) _ _ (c .before .before .before .a .ensures) (c .before .present .ensures)
+    (eq-eqb _ _ (c .if1 .taken))
 
 -- src/lib.rt:61:9
 has-role-requires : tie.Need-has-role-requires
@@ -43,7 +49,12 @@ same-length-2 c = search needs
 
 -- src/lib.rt:62:9
 returns-2 : tie.Need-returns-2
-returns-2 c = no-officer _ authorised-officers _ _ _ (c .before .before .before .before .before .before .before .before .before .pre) _ _ (c .before .before .before .before .before .before .a .ensures) (c .before .before .before .before .present .ensures) (ne-eqb _ _ (c .before .before .before .if1 .left)) _ (c .before .has-role .ensures) (not-true _ (c .if2 .taken))
+returns-2 c =
+    let s4 = c .before .before .before .before in
+    let s6 = s4 .before .before in
+    let s9 = s6 .before .before .before in
+    no-officer _ authorised-officers _ _ _ (s9 .pre) _ _ (s6 .a .ensures) (s4 .present .ensures) (ne-eqb _ _ (c .before .before .before .if1 .left)) _
+    (c .before .has-role .ensures) (not-true _ (c .if2 .taken))
 
 -- src/lib.rt:64:9
 b-requires : tie.Need-b-requires
@@ -51,7 +62,11 @@ b-requires c κs = search needs
 
 -- src/lib.rt:65:30
 current-requires : tie.Need-current-requires
-current-requires c κs = let r = spoken _ _ (c .before .before .before .before .before .before .before .before .a .ensures) (arguments-in toAuthorised _ _ _ (c .before .before .before .before .before .before .before .before .before .before .before .pre) .0) in (c .before .before .before .before .before .before .before .before .before .before .before .pre .climbed .ready .whole, r .0, r .1)
+current-requires c κs =
+    let s8 = c .before .before .before .before .before .before .before .before in
+    let s11 = s8 .before .before .before in
+    let r = spoken _ _ (s8 .a .ensures) (arguments-in toAuthorised _ _ _ (s11 .pre) .0) in
+    (s11 .pre .climbed .ready .whole, r .0, r .1)
 
 -- src/lib.rt:65:9
 roles-within-requires : tie.Need-roles-within-requires
@@ -63,11 +78,25 @@ same-length-3 c = search needs
 
 -- src/lib.rt:66:9
 returns-3 : tie.Need-returns-3
-returns-3 c = authorised-13 _ _ _ (c .before .before .before .before .before .before .before .before .before .before .before .before .before .before .pre) _ _ (c .before .before .before .before .before .before .before .before .before .before .before .a .ensures) (c .before .before .before .before .before .before .before .before .before .present .ensures) (ne-eqb _ _ (c .before .before .before .before .before .before .before .before .if1 .left)) _ (c .before .before .before .before .before .before .has-role .ensures) (not-false _ (c .before .before .before .before .before .if2 .left)) _ (c .before .before .before .before .b .ensures) _ (c .before .roles-within .ensures ∙ rw (c .before .before .current .ensures)) (not-true _ (c .if3 .taken))
+returns-3 c =
+    let s4 = c .before .before .before .before in
+    let s5 = s4 .before in
+    let s6 = s5 .before in
+    let s8 = s6 .before .before in
+    let s9 = s8 .before in
+    let s11 = s9 .before .before in
+    let s14 = s11 .before .before .before in
+    authorised-13 _ _ _ (s14 .pre) _ _ (s11 .a .ensures) (s9 .present .ensures) (ne-eqb _ _ (s8 .if1 .left)) _ (s6 .has-role .ensures)
+    (not-false _ (s5 .if2 .left)) _ (s4 .b .ensures) _ (c .before .roles-within .ensures ∙ rw (c .before .before .current .ensures))
+    (not-true _ (c .if3 .taken))
 
 -- src/lib.rt:68:5
 set-authorised-requires : tie.Need-set-authorised-requires
-set-authorised-requires c κs = let r = spoken _ _ (c .before .before .before .before .before .before .before .before .before .before .before .before .a .ensures) (arguments-in toAuthorised _ _ _ (c .before .before .before .before .before .before .before .before .before .before .before .before .before .before .before .pre) .0) in (c .before .before .before .before .before .before .before .before .before .before .before .before .before .before .before .pre .climbed .ready .whole, r .0, r .1)
+set-authorised-requires c κs =
+    let s12 = c .before .before .before .before .before .before .before .before .before .before .before .before in
+    let s15 = s12 .before .before .before in
+    let r = spoken _ _ (s12 .a .ensures) (arguments-in toAuthorised _ _ _ (s15 .pre) .0) in
+    (s15 .pre .climbed .ready .whole, r .0, r .1)
 
 -- src/lib.rt:53:1
 same-length-4 : tie.Need-same-length-4
@@ -75,7 +104,20 @@ same-length-4 c = search needs
 
 -- src/lib.rt:53:1
 returns-4 : tie.Need-returns-4
-returns-4 c = authorised-done _ _ _ (c .before .before .before .before .before .before .before .before .before .before .before .before .before .before .before .before .before .before .pre) _ _ (c .before .before .before .before .before .before .before .before .before .before .before .before .before .before .before .a .ensures) (c .before .before .before .before .before .before .before .before .before .before .before .before .before .present .ensures) (ne-eqb _ _ (c .before .before .before .before .before .before .before .before .before .before .before .before .if1 .left)) _ (c .before .before .before .before .before .before .before .before .before .before .has-role .ensures) (not-false _ (c .before .before .before .before .before .before .before .before .before .if2 .left)) _ (c .before .before .before .before .before .before .before .before .b .ensures) _ (c .before .before .before .before .before .roles-within .ensures ∙ rw (c .before .before .before .before .before .before .current .ensures)) (not-false _ (c .before .before .before .before .if3 .left)) _ (c .before .before .set-authorised .ensures)
+returns-4 c =
+    let s4 = c .before .before .before .before in
+    let s5 = s4 .before in
+    let s6 = s5 .before in
+    let s8 = s6 .before .before in
+    let s9 = s8 .before in
+    let s10 = s9 .before in
+    let s12 = s10 .before .before in
+    let s13 = s12 .before in
+    let s15 = s13 .before .before in
+    let s18 = s15 .before .before .before in
+    authorised-done _ _ _ (s18 .pre) _ _ (s15 .a .ensures) (s13 .present .ensures) (ne-eqb _ _ (s12 .if1 .left)) _ (s10 .has-role .ensures)
+    (not-false _ (s9 .if2 .left)) _ (s8 .b .ensures) _ (s5 .roles-within .ensures ∙ rw (s6 .current .ensures)) (not-false _ (s4 .if3 .left)) _
+    (c .before .before .set-authorised .ensures)
 
 pub authorised-roles-spec : {M : Type 1} → statement M
 authorised-roles-spec =

@@ -21,7 +21,10 @@ a-requires c κs = c .before .before .pre .climbed .ready .request
 
 -- src/lib.rt:40:8
 present-requires : tie.Need-present-requires
-present-requires c κs = let r = spoken _ _ (c .before .a .ensures) (arguments-in toClearance _ _ _ (c .before .before .before .before .pre) .0) in (c .before .before .before .before .pre .climbed .ready .whole, r .0, r .1)
+present-requires c κs =
+    let s4 = c .before .before .before .before in
+    let r = spoken _ _ (c .before .a .ensures) (arguments-in toClearance _ _ _ (s4 .pre) .0) in
+    (s4 .pre .climbed .ready .whole, r .0, r .1)
 
 -- src/lib.rt:41:9
 same-length : tie.Need-same-length
@@ -29,7 +32,10 @@ same-length c = search needs
 
 -- src/lib.rt:41:9
 returns : tie.Need-returns
-returns c = user-absent _ clearance-officers _ _ _ (c .before .before .before .before .before .before .pre) _ _ (c .before .before .before .a .ensures) (c .before .present .ensures) (eq-eqb _ _ (c .if1 .taken))
+returns c =
+    let s6 = c .before .before .before .before .before .before in
+    user-absent _ clearance-officers _ _ _ (s6 .pre) _ _ (c .before .before .before .a .ensures) (c .before .present .ensures)
+    (eq-eqb _ _ (c .if1 .taken))
 
 -- src/lib.rt:43:9
 has-role-requires : tie.Need-has-role-requires
@@ -41,15 +47,26 @@ same-length-2 c = search needs
 
 -- src/lib.rt:44:9
 returns-2 : tie.Need-returns-2
-returns-2 c = no-officer _ clearance-officers _ _ _ (c .before .before .before .before .before .before .before .before .before .pre) _ _ (c .before .before .before .before .before .before .a .ensures) (c .before .before .before .before .present .ensures) (ne-eqb _ _ (c .before .before .before .if1 .left)) _ (c .before .has-role .ensures) (not-true _ (c .if2 .taken))
+returns-2 c =
+    let s4 = c .before .before .before .before in
+    let s6 = s4 .before .before in
+    let s9 = s6 .before .before .before in
+    no-officer _ clearance-officers _ _ _ (s9 .pre) _ _ (s6 .a .ensures) (s4 .present .ensures) (ne-eqb _ _ (c .before .before .before .if1 .left)) _
+    (c .before .has-role .ensures) (not-true _ (c .if2 .taken))
 
 -- src/lib.rt:46:49
 b-requires : tie.Need-b-requires
-b-requires c κs = c .before .before .before .before .before .before .before .before .before .before .pre .climbed .ready .request
+b-requires c κs =
+    let s10 = c .before .before .before .before .before .before .before .before .before .before in
+    s10 .pre .climbed .ready .request
 
 -- src/lib.rt:46:9
 try-clearance-requires : tie.Need-try-clearance-requires
-try-clearance-requires c κs = let r = spoken _ _ (c .before .before .before .before .before .before .before .before .a .ensures) (arguments-in toClearance _ _ _ (c .before .before .before .before .before .before .before .before .before .before .before .pre) .0) in ((c .before .before .before .before .before .before .before .before .before .before .before .pre .climbed .ready .whole, r .0, r .1), c .before .before .before .before .before .before .before .before .before .before .before .pre .climbed .ready .good)
+try-clearance-requires c κs =
+    let s8 = c .before .before .before .before .before .before .before .before in
+    let s11 = s8 .before .before .before in
+    let r = spoken _ _ (s8 .a .ensures) (arguments-in toClearance _ _ _ (s11 .pre) .0) in
+    ((s11 .pre .climbed .ready .whole, r .0, r .1), s11 .pre .climbed .ready .good)
 
 -- src/lib.rt:47:9
 same-length-3 : tie.Need-same-length-3
@@ -57,7 +74,17 @@ same-length-3 c = search needs
 
 -- src/lib.rt:47:9
 returns-3 : tie.Need-returns-3
-returns-3 c = rw (c .before .before .before .try-clearance .ensures .back (not-true _ (c .if3 .taken))) (clearance-13 _ _ _ (c .before .before .before .before .before .before .before .before .before .before .before .before .before .before .before .pre) _ _ (c .before .before .before .before .before .before .before .before .before .before .before .before .a .ensures) (c .before .before .before .before .before .before .before .before .before .before .present .ensures) (ne-eqb _ _ (c .before .before .before .before .before .before .before .before .before .if1 .left)) _ (c .before .before .before .before .before .before .before .has-role .ensures) (not-false _ (c .before .before .before .before .before .before .if2 .left)) _ (c .before .before .before .before .b .ensures) _ (c .before .before .before .try-clearance .ensures .secure) (not-true _ (c .if3 .taken)))
+returns-3 c =
+    let s4 = c .before .before .before .before in
+    let s6 = s4 .before .before in
+    let s7 = s6 .before in
+    let s9 = s7 .before .before in
+    let s10 = s9 .before in
+    let s12 = s10 .before .before in
+    let s15 = s12 .before .before .before in
+    rw (c .before .before .before .try-clearance .ensures .back (not-true _ (c .if3 .taken)))
+    (clearance-13 _ _ _ (s15 .pre) _ _ (s12 .a .ensures) (s10 .present .ensures) (ne-eqb _ _ (s9 .if1 .left)) _ (s7 .has-role .ensures)
+    (not-false _ (s6 .if2 .left)) _ (s4 .b .ensures) _ (c .before .before .before .try-clearance .ensures .secure) (not-true _ (c .if3 .taken)))
 
 -- src/lib.rt:35:1
 same-length-4 : tie.Need-same-length-4
@@ -65,7 +92,17 @@ same-length-4 c = search needs
 
 -- src/lib.rt:35:1
 returns-4 : tie.Need-returns-4
-returns-4 c = clearance-done _ _ _ (c .before .before .before .before .before .before .before .before .before .before .before .before .before .before .before .pre) _ _ (c .before .before .before .before .before .before .before .before .before .before .before .before .a .ensures) (c .before .before .before .before .before .before .before .before .before .before .present .ensures) (ne-eqb _ _ (c .before .before .before .before .before .before .before .before .before .if1 .left)) _ (c .before .before .before .before .before .before .before .has-role .ensures) (not-false _ (c .before .before .before .before .before .before .if2 .left)) _ (c .before .before .before .before .b .ensures) _ (c .before .before .before .try-clearance .ensures .secure) (not-false _ (c .if3 .left)) _ (c .before .before .before .try-clearance .ensures .kept (not-false _ (c .if3 .left)))
+returns-4 c =
+    let s4 = c .before .before .before .before in
+    let s6 = s4 .before .before in
+    let s7 = s6 .before in
+    let s9 = s7 .before .before in
+    let s10 = s9 .before in
+    let s12 = s10 .before .before in
+    let s15 = s12 .before .before .before in
+    clearance-done _ _ _ (s15 .pre) _ _ (s12 .a .ensures) (s10 .present .ensures) (ne-eqb _ _ (s9 .if1 .left)) _ (s7 .has-role .ensures)
+    (not-false _ (s6 .if2 .left)) _ (s4 .b .ensures) _ (c .before .before .before .try-clearance .ensures .secure) (not-false _ (c .if3 .left)) _
+    (c .before .before .before .try-clearance .ensures .kept (not-false _ (c .if3 .left)))
 
 pub clearance-spec : {M : Type 1} → statement M
 clearance-spec =

@@ -10,13 +10,13 @@ shared-slice-read-n c = search needs
 
 returns : tie.Need-returns
 returns c =
-    let s4 = c .before .before .before .before in
-    resolve-stop _ (s4 .args .l .0) _ (s4 .pre .2) (λ z. omega (arith, z .low, c .if1 .taken))
+    let s4 : _ → _ = λ _. c .before .before .before .before in
+    resolve-stop _ (s4 c .args .l .0) _ (s4 c .pre .2) (λ z. omega (arith, z .low, c .if1 .taken))
 
 returns-2 : tie.Need-returns-2
 returns-2 c =
-    let s5 = c .before .before .before .before .before in
-    resolve-stop _ (s5 .args .l .0) _ (s5 .pre .2) (λ z. omega (arith, z .high, c .if2 .taken))
+    let s5 : _ → _ = λ _. c .before .before .before .before .before in
+    resolve-stop _ (s5 c .args .l .0) _ (s5 c .pre .2) (λ z. omega (arith, z .high, c .if2 .taken))
 
 kind-requires : tie.Need-kind-requires
 kind-requires c κs = search needs

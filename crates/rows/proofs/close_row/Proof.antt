@@ -40,15 +40,15 @@ loop-less c = omega arith
 
 loop-again : tie.Need-loop-again Inv-loop μ-loop
 loop-again c =
-    let s4 = c .before .before .before .before in
-    let s7 = s4 .before .before .before in
-    let s9 = s7 .before .before in
-    let a = s9 .args in (
+    let s4 : _ → _ = λ _. c .before .before .before .before in
+    let s7 : _ → _ = λ _. s4 c .before .before .before in
+    let s9 : _ → _ = λ _. s7 c .before .before in
+    let a = s9 c .args in (
       search needs,
       omega arith,
       omega arith,
-      closing-step _ (row-name (a .r)) _ _ (tablesOf (a .t .now)) _ _ _ _ (s7 .loop .inv .1)
-          (s7 .loop .inv .3) (s4 .row-word .ensures) (c .before .before .set-row-word .ensures),
+      closing-step _ (row-name (a .r)) _ _ (tablesOf (a .t .now)) _ _ _ _ (s7 c .loop .inv .1)
+          (s7 c .loop .inv .3) (s4 c .row-word .ensures) (c .before .before .set-row-word .ensures),
     )
 
 set-row-word-requires-2 : tie.Need-set-row-word-requires-2 Inv-loop μ-loop
@@ -59,11 +59,11 @@ same-length c = search needs
 
 returns : tie.Need-returns Inv-loop μ-loop
 returns c =
-    let s5 = c .before .before .before .before .before in
-    let s7 = s5 .before .before in
-    let a = s7 .args in
-    closing-end _ (row-name (a .r)) (a .e .0) _ (tablesOf (a .t .now)) (row-out (a .r) _ (bounded _) _) (s7 .pre .2) (s5 .loop .i) _ _
-    (omega arith) (s5 .loop .inv .3) (c .before .before .set-row-word2 .ensures)
+    let s5 : _ → _ = λ _. c .before .before .before .before .before in
+    let s7 : _ → _ = λ _. s5 c .before .before in
+    let a = s7 c .args in
+    closing-end _ (row-name (a .r)) (a .e .0) _ (tablesOf (a .t .now)) (row-out (a .r) _ (bounded _) _) (s7 c .pre .2) (s5 c .loop .i) _ _
+    (omega arith) (s5 c .loop .inv .3) (c .before .before .set-row-word2 .ensures)
 
 pub close-row-spec : {M : Type 1} → statement M
 close-row-spec =

@@ -35,8 +35,8 @@ loop-less c = omega arith
 
 loop-again : tie.Need-loop-again Inv-loop μ-loop
 loop-again c =
-    let s5 = c .before .before .before .before .before in
-    (omega arith, none-more _ _ _ (s5 .loop .inv .1) (λ z. c .if1 .left (c .before .before .before .place .ensures ∙ z)))
+    let s5 : _ → _ = λ _. c .before .before .before .before .before in
+    (omega arith, none-more _ _ _ (s5 c .loop .inv .1) (λ z. c .if1 .left (c .before .before .before .place .ensures ∙ z)))
 
 returns-2 : tie.Need-returns-2 Inv-loop μ-loop
 returns-2 c = seek-none _ _ _ (λ j h. c .before .loop .inv .1 j (omega arith))

@@ -2,7 +2,21 @@ use lib.Dec.{eqb}
 use Rattle.ladder.specs.DispatchLaws.{none-left, numbersOf, of-arity}
 use Rattle.model.specs.Request.Allowed.{arity}
 use Rattle.step.specs.DispatchLaws.{taking}
-use Rattle.model.specs.Request.Operations.{operations, toCreate, toDelete, toDeviceLevel, toEdit, toGrant, toLevel, toLogin, toMark, toMaximum, toRelease, toRevoke, toShow}
+use Rattle.model.specs.Request.Operations.{
+  operations,
+  toCreate,
+  toDelete,
+  toDeviceLevel,
+  toEdit,
+  toGrant,
+  toLevel,
+  toLogin,
+  toMark,
+  toMaximum,
+  toRelease,
+  toRevoke,
+  toShow,
+}
 use borrow.Author.Needs.{needs}
 use Rattle.step.proofs.act_one.Statement.{statement}
 use Rattle.step.proofs.act_one.Tie as tie
@@ -22,40 +36,64 @@ use Rattle.op_entities.proofs.mark.Reads as mark-reads
 use Rattle.op_entities.proofs.release.Reads as release-reads
 
 create-requires : tie.Need-create-requires
-create-requires c κs = (taking toCreate _ _ _ _ (c .before .before .before .before .pre .0) (c .before .before .before .before .pre .1) (c .before .match .keys1), c .before .before .before .before .pre .3)
+create-requires c κs =
+    let s4 = c .before .before .before .before in
+    (taking toCreate _ _ _ _ (s4 .pre .0) (s4 .pre .1) (c .before .match .keys1), s4 .pre .3)
 
 delete-requires : tie.Need-delete-requires
-delete-requires c κs = (taking toDelete _ _ _ _ (c .before .before .before .before .pre .0) (c .before .before .before .before .pre .1) (c .before .match .keys2), c .before .before .before .before .pre .3)
+delete-requires c κs =
+    let s4 = c .before .before .before .before in
+    (taking toDelete _ _ _ _ (s4 .pre .0) (s4 .pre .1) (c .before .match .keys2), s4 .pre .3)
 
 edit-requires : tie.Need-edit-requires
-edit-requires c κs = (taking toEdit _ _ _ _ (c .before .before .before .before .pre .0) (c .before .before .before .before .pre .1) (c .before .match .keys3), c .before .before .before .before .pre .3)
+edit-requires c κs =
+    let s4 = c .before .before .before .before in
+    (taking toEdit _ _ _ _ (s4 .pre .0) (s4 .pre .1) (c .before .match .keys3), s4 .pre .3)
 
 level-requires : tie.Need-level-requires
-level-requires c κs = (taking toLevel _ _ _ _ (c .before .before .before .before .pre .0) (c .before .before .before .before .pre .1) (c .before .match .keys4), c .before .before .before .before .pre .3)
+level-requires c κs =
+    let s4 = c .before .before .before .before in
+    (taking toLevel _ _ _ _ (s4 .pre .0) (s4 .pre .1) (c .before .match .keys4), s4 .pre .3)
 
 mark-requires : tie.Need-mark-requires
-mark-requires c κs = (taking toMark _ _ _ _ (c .before .before .before .before .pre .0) (c .before .before .before .before .pre .1) (c .before .match .keys5), c .before .before .before .before .pre .3)
+mark-requires c κs =
+    let s4 = c .before .before .before .before in
+    (taking toMark _ _ _ _ (s4 .pre .0) (s4 .pre .1) (c .before .match .keys5), s4 .pre .3)
 
 grant-requires : tie.Need-grant-requires
-grant-requires c κs = (taking toGrant _ _ _ _ (c .before .before .before .before .pre .0) (c .before .before .before .before .pre .1) (c .before .match .keys6), c .before .before .before .before .pre .3)
+grant-requires c κs =
+    let s4 = c .before .before .before .before in
+    (taking toGrant _ _ _ _ (s4 .pre .0) (s4 .pre .1) (c .before .match .keys6), s4 .pre .3)
 
 revoke-requires : tie.Need-revoke-requires
-revoke-requires c κs = (taking toRevoke _ _ _ _ (c .before .before .before .before .pre .0) (c .before .before .before .before .pre .1) (c .before .match .keys7), c .before .before .before .before .pre .3)
+revoke-requires c κs =
+    let s4 = c .before .before .before .before in
+    (taking toRevoke _ _ _ _ (s4 .pre .0) (s4 .pre .1) (c .before .match .keys7), s4 .pre .3)
 
 show-requires : tie.Need-show-requires
-show-requires c κs = (taking toShow _ _ _ _ (c .before .before .before .before .pre .0) (c .before .before .before .before .pre .1) (c .before .match .keys8), c .before .before .before .before .pre .3)
+show-requires c κs =
+    let s4 = c .before .before .before .before in
+    (taking toShow _ _ _ _ (s4 .pre .0) (s4 .pre .1) (c .before .match .keys8), s4 .pre .3)
 
 login-requires : tie.Need-login-requires
-login-requires c κs = (taking toLogin _ _ _ _ (c .before .before .before .before .pre .0) (c .before .before .before .before .pre .1) (c .before .match .keys9), c .before .before .before .before .pre .3)
+login-requires c κs =
+    let s4 = c .before .before .before .before in
+    (taking toLogin _ _ _ _ (s4 .pre .0) (s4 .pre .1) (c .before .match .keys9), s4 .pre .3)
 
 maximum-requires : tie.Need-maximum-requires
-maximum-requires c κs = (taking toMaximum _ _ _ _ (c .before .before .before .before .pre .0) (c .before .before .before .before .pre .1) (c .before .match .keys10), c .before .before .before .before .pre .3)
+maximum-requires c κs =
+    let s4 = c .before .before .before .before in
+    (taking toMaximum _ _ _ _ (s4 .pre .0) (s4 .pre .1) (c .before .match .keys10), s4 .pre .3)
 
 device-level-requires : tie.Need-device-level-requires
-device-level-requires c κs = (taking toDeviceLevel _ _ _ _ (c .before .before .before .before .pre .0) (c .before .before .before .before .pre .1) (c .before .match .keys11), c .before .before .before .before .pre .3)
+device-level-requires c κs =
+    let s4 = c .before .before .before .before in
+    (taking toDeviceLevel _ _ _ _ (s4 .pre .0) (s4 .pre .1) (c .before .match .keys11), s4 .pre .3)
 
 release-requires : tie.Need-release-requires
-release-requires c κs = (taking toRelease _ _ _ _ (c .before .before .before .before .pre .0) (c .before .before .before .before .pre .1) (c .before .match .keys12), c .before .before .before .before .pre .3)
+release-requires c κs =
+    let s4 = c .before .before .before .before in
+    (taking toRelease _ _ _ _ (s4 .pre .0) (s4 .pre .1) (c .before .match .keys12), s4 .pre .3)
 
 same-length : tie.Need-same-length
 same-length c = search needs
@@ -132,8 +170,8 @@ returns-12 c = search needs
 returns-13 : tie.Need-returns-13
 unfolding numbersOf operations
 returns-13 c =
-    let s3 = c .before .before .before in
-    none-left (λ p. eqb (arity p) 1) _ (of-arity _ 0 (s3 .pre .2)) (rw (← s3 .pre .1) at (c .match .rest))
+    none-left (λ p. eqb (arity p) 1) _ (of-arity _ 0 (c .before .before .before .pre .2))
+    (rw (← c .before .before .before .pre .1) at (c .match .rest))
 
 pub act-one-spec : {M : Type 1} → statement M
 act-one-spec =

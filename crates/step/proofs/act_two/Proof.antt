@@ -12,10 +12,14 @@ use Rattle.op_places.proofs.relocate.Reads as relocate-reads
 use Rattle.op_entities.proofs.copy.Reads as copy-reads
 
 relocate-requires : tie.Need-relocate-requires
-relocate-requires c κs = (taking toMove _ _ _ _ (c .before .before .before .before .pre .0) (c .before .before .before .before .pre .1) (c .before .match .keys1), c .before .before .before .before .pre .3, c .before .before .before .before .pre .4)
+relocate-requires c κs =
+    let s4 = c .before .before .before .before in
+    (taking toMove _ _ _ _ (s4 .pre .0) (s4 .pre .1) (c .before .match .keys1), s4 .pre .3, s4 .pre .4)
 
 copy-requires : tie.Need-copy-requires
-copy-requires c κs = (taking toCopy _ _ _ _ (c .before .before .before .before .pre .0) (c .before .before .before .before .pre .1) (c .before .match .keys2), c .before .before .before .before .pre .3, c .before .before .before .before .pre .4)
+copy-requires c κs =
+    let s4 = c .before .before .before .before in
+    (taking toCopy _ _ _ _ (s4 .pre .0) (s4 .pre .1) (c .before .match .keys2), s4 .pre .3, s4 .pre .4)
 
 same-length : tie.Need-same-length
 same-length c = search needs
@@ -32,8 +36,8 @@ returns-2 c = search needs
 returns-3 : tie.Need-returns-3
 unfolding numbersOf operations
 returns-3 c =
-    let s3 = c .before .before .before in
-    none-left (λ p. eqb (arity p) 2) _ (of-arity _ 1 (s3 .pre .2)) (rw (← s3 .pre .1) at (c .match .rest))
+    none-left (λ p. eqb (arity p) 2) _ (of-arity _ 1 (c .before .before .before .pre .2))
+    (rw (← c .before .before .before .pre .1) at (c .match .rest))
 
 pub act-two-spec : {M : Type 1} → statement M
 act-two-spec =

@@ -27,11 +27,16 @@ same-length c = search needs
 
 -- src/lib.rt:135:9
 returns : tie.Need-returns
-returns c = unknown _ _ (c .before .before .before .before .before .before .pre) _ (c .before .before .before .requester .ensures) (sym (c .before .is-known .ensures) ∙ not-true _ (c .if1 .taken))
+returns c =
+    let s6 = c .before .before .before .before .before .before in
+    unknown _ _ (s6 .pre) _ (c .before .before .before .requester .ensures) (sym (c .before .is-known .ensures) ∙ not-true _ (c .if1 .taken))
 
 -- src/lib.rt:137:9
 attend-requires : tie.Need-attend-requires
-attend-requires c κs = known-climbed _ _ (c .before .before .before .before .before .before .before .pre) _ (c .before .before .before .before .requester .ensures) (sym (c .before .before .is-known .ensures) ∙ not-false _ (c .before .if1 .left))
+attend-requires c κs =
+    let s4 = c .before .before .before .before in
+    let s7 = s4 .before .before .before in
+    known-climbed _ _ (s7 .pre) _ (s4 .requester .ensures) (sym (c .before .before .is-known .ensures) ∙ not-false _ (c .before .if1 .left))
 
 -- src/lib.rt:139:38
 noticed-requires : tie.Need-noticed-requires
@@ -39,7 +44,13 @@ noticed-requires c κs = search needs
 
 -- src/lib.rt:139:9
 leave-requires : tie.Need-leave-requires
-leave-requires c κs = let k = known-climbed _ _ (c .before .before .before .before .before .before .before .before .before .before .before .before .before .pre) _ (c .before .before .before .before .before .before .before .before .before .before .requester .ensures) (sym (c .before .before .before .before .before .before .before .before .is-known .ensures) ∙ not-false _ (c .before .before .before .before .before .before .before .if1 .left)) in (search needs, k .low, k .high)
+leave-requires c κs =
+    let s7 : _ → _ = λ _. c .before .before .before .before .before .before .before in
+    let s8 : _ → _ = λ _. s7 c .before in
+    let s10 : _ → _ = λ _. s8 c .before .before in
+    let s13 : _ → _ = λ _. s10 c .before .before .before in
+    let k = known-climbed _ _ (s13 c .pre) _ (s10 c .requester .ensures) (sym (s8 c .is-known .ensures) ∙ not-false _ (s7 c .if1 .left)) in
+    (search needs, k .low, k .high)
 
 -- src/lib.rt:129:1
 same-length-2 : tie.Need-same-length-2
@@ -47,7 +58,16 @@ same-length-2 c = search needs
 
 -- src/lib.rt:129:1
 returns-2 : tie.Need-returns-2
-returns-2 c = judged-refused (c .before .before .before .before .before .before .before .before .attend .ensures) (known-climbed _ _ (c .before .before .before .before .before .before .before .before .before .before .before .before .before .before .before .before .pre) _ (c .before .before .before .before .before .before .before .before .before .before .before .before .before .requester .ensures) (sym (c .before .before .before .before .before .before .before .before .before .before .before .is-known .ensures) ∙ not-false _ (c .before .before .before .before .before .before .before .before .before .before .if1 .left))) (c .before .before .before .noticed .ensures) (c .before .before .before .before .before .if2 .taken) (c .before .before .leave .ensures)
+returns-2 c =
+    let s5 = c .before .before .before .before .before in
+    let s8 = s5 .before .before .before in
+    let s10 = s8 .before .before in
+    let s11 = s10 .before in
+    let s13 = s11 .before .before in
+    let s16 = s13 .before .before .before in
+    judged-refused (s8 .attend .ensures) (known-climbed _ _ (s16 .pre) _ (s13 .requester .ensures)
+    (sym (s11 .is-known .ensures) ∙ not-false _ (s10 .if1 .left))) (c .before .before .before .noticed .ensures) (s5 .if2 .taken)
+    (c .before .before .leave .ensures)
 
 -- src/lib.rt:129:1
 same-length-3 : tie.Need-same-length-3

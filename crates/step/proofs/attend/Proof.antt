@@ -33,11 +33,25 @@ same-length c = search needs
 
 -- src/lib.rt:123:9
 returns-2 : tie.Need-returns-2
-returns-2 c = off _ _ _ (c .before .before .before .before .before .before .before .before .before .pre) _ (c .before .before .before .before .before .well-made .ensures) (not-false _ (c .before .before .before .before .if1 .left)) _ _ (sym (c .before .before .before .before .before .before .operation .ensures)) (c .before .before .device .ensures) (c .if2 .taken)
+returns-2 c =
+    let s4 = c .before .before .before .before in
+    let s5 = s4 .before in
+    let s6 = s5 .before in
+    let s9 = s6 .before .before .before in
+    off _ _ _ (s9 .pre) _ (s5 .well-made .ensures) (not-false _ (s4 .if1 .left)) _ _ (sym (s6 .operation .ensures))
+    (c .before .before .device .ensures) (c .if2 .taken)
 
 -- src/lib.rt:125:5
 serve-requires : tie.Need-serve-requires
-serve-requires c κs = (on _ _ _ (c .before .before .before .before .before .before .before .before .before .before .pre) _ (c .before .before .before .before .before .before .well-made .ensures) (not-false _ (c .before .before .before .before .before .if1 .left)) _ _ (sym (c .before .before .before .before .before .before .before .operation .ensures)) (c .before .before .before .device .ensures) (c .before .if2 .left), sym (c .before .before .before .before .before .before .before .operation .ensures))
+serve-requires c κs =
+    let s5 = c .before .before .before .before .before in
+    let s6 = s5 .before in
+    let s7 = s6 .before in
+    let s10 = s7 .before .before .before in (
+      on _ _ _ (s10 .pre) _ (s6 .well-made .ensures) (not-false _ (s5 .if1 .left)) _ _ (sym (s7 .operation .ensures))
+          (c .before .before .before .device .ensures) (c .before .if2 .left),
+      sym (s7 .operation .ensures),
+    )
 
 -- src/lib.rt:114:1
 same-length-2 : tie.Need-same-length-2

@@ -20,28 +20,44 @@ use Rattle.step.proofs.serve_one.Reads as serve-one-reads
 use Rattle.step.proofs.serve_two.Reads as serve-two-reads
 
 serve-two-requires : tie.Need-serve-two-requires
-serve-two-requires c κs = (c .before .before .before .before .pre .0, c .before .before .before .before .pre .1, arity-named _ toMove _ (c .before .before .before .before .pre .1) (c .before .match .keys1))
+serve-two-requires c κs =
+    let s4 = c .before .before .before .before in
+    (s4 .pre .0, s4 .pre .1, arity-named _ toMove _ (s4 .pre .1) (c .before .match .keys1))
 
 serve-two-requires-2 : tie.Need-serve-two-requires-2
-serve-two-requires-2 c κs = (c .before .before .before .before .pre .0, c .before .before .before .before .pre .1, arity-named _ toCopy _ (c .before .before .before .before .pre .1) (c .before .match .keys2))
+serve-two-requires-2 c κs =
+    let s4 = c .before .before .before .before in
+    (s4 .pre .0, s4 .pre .1, arity-named _ toCopy _ (s4 .pre .1) (c .before .match .keys2))
 
 clear-requires : tie.Need-clear-requires
-clear-requires c κs = taking-none toClear _ _ _ _ refl (c .before .before .before .before .pre .0) (c .before .before .before .before .pre .1) (c .before .match .keys3)
+clear-requires c κs =
+    let s4 = c .before .before .before .before in
+    taking-none toClear _ _ _ _ refl (s4 .pre .0) (s4 .pre .1) (c .before .match .keys3)
 
 logout-requires : tie.Need-logout-requires
-logout-requires c κs = taking-none toLogout _ _ _ _ refl (c .before .before .before .before .pre .0) (c .before .before .before .before .pre .1) (c .before .match .keys4)
+logout-requires c κs =
+    let s4 = c .before .before .before .before in
+    taking-none toLogout _ _ _ _ refl (s4 .pre .0) (s4 .pre .1) (c .before .match .keys4)
 
 current-roles-requires : tie.Need-current-roles-requires
-current-roles-requires c κs = taking-none toCurrent _ _ _ _ refl (c .before .before .before .before .pre .0) (c .before .before .before .before .pre .1) (c .before .match .keys5)
+current-roles-requires c κs =
+    let s4 = c .before .before .before .before in
+    taking-none toCurrent _ _ _ _ refl (s4 .pre .0) (s4 .pre .1) (c .before .match .keys5)
 
 clearance-requires : tie.Need-clearance-requires
-clearance-requires c κs = taking-none toClearance _ _ _ _ refl (c .before .before .before .before .pre .0) (c .before .before .before .before .pre .1) (c .before .match .keys6)
+clearance-requires c κs =
+    let s4 = c .before .before .before .before in
+    taking-none toClearance _ _ _ _ refl (s4 .pre .0) (s4 .pre .1) (c .before .match .keys6)
 
 authorised-roles-requires : tie.Need-authorised-roles-requires
-authorised-roles-requires c κs = taking-none toAuthorised _ _ _ _ refl (c .before .before .before .before .pre .0) (c .before .before .before .before .pre .1) (c .before .match .keys7)
+authorised-roles-requires c κs =
+    let s4 = c .before .before .before .before in
+    taking-none toAuthorised _ _ _ _ refl (s4 .pre .0) (s4 .pre .1) (c .before .match .keys7)
 
 acknowledge-requires : tie.Need-acknowledge-requires
-acknowledge-requires c κs = taking-none toAcknowledge _ _ _ _ refl (c .before .before .before .before .pre .0) (c .before .before .before .before .pre .1) (c .before .match .keys8)
+acknowledge-requires c κs =
+    let s4 = c .before .before .before .before in
+    taking-none toAcknowledge _ _ _ _ refl (s4 .pre .0) (s4 .pre .1) (c .before .match .keys8)
 
 serve-one-requires : tie.Need-serve-one-requires
 unfolding numbersOf operations

@@ -22,7 +22,20 @@ enum-known-found-2 c = search needs
 
 -- src/lib.rt:79:29
 act-two-requires : tie.Need-act-two-requires
-act-two-requires c κs = (two-climbed _ _ _ _ (c .before .before .before .before .before .before .before .before .pre .0) (c .before .before .before .before .before .before .before .before .pre .1) (c .before .before .before .before .before .before .before .before .pre .2) (c .before .before .found2 .given .0 .0) (c .before .before .found2 .given .0 .1 .0) (sym (c .before .before .before .before .two-operands .ensures) ∙ c .before .before .found2 .given .1), c .before .before .before .before .before .before .before .before .pre .1, c .before .before .before .before .before .before .before .before .pre .2, two-first _ _ _ _ (c .before .before .before .before .before .before .before .before .pre .0) (c .before .before .before .before .before .before .before .before .pre .1) (c .before .before .before .before .before .before .before .before .pre .2) (c .before .before .found2 .given .0 .0) (c .before .before .found2 .given .0 .1 .0) (sym (c .before .before .before .before .two-operands .ensures) ∙ c .before .before .found2 .given .1), two-second _ _ _ _ (c .before .before .before .before .before .before .before .before .pre .0) (c .before .before .before .before .before .before .before .before .pre .1) (c .before .before .before .before .before .before .before .before .pre .2) (c .before .before .found2 .given .0 .0) (c .before .before .found2 .given .0 .1 .0) (sym (c .before .before .before .before .two-operands .ensures) ∙ c .before .before .found2 .given .1))
+act-two-requires c κs =
+    let s4 = c .before .before .before .before in
+    let s8 = s4 .before .before .before .before in (
+      two-climbed _ _ _ _ (s8 .pre .0) (s8 .pre .1) (s8 .pre .2) (c .before .before .found2 .given .0 .0) (c .before .before .found2 .given .0 .1 .0)
+          (sym (s4 .two-operands .ensures) ∙ c .before .before .found2 .given .1),
+      s8 .pre .1,
+      s8 .pre .2,
+      two-first _ _ _ _ (s8 .pre .0) (s8 .pre .1)
+          (s8 .pre .2) (c .before .before .found2 .given .0 .0) (c .before .before .found2 .given .0 .1 .0)
+          (sym (s4 .two-operands .ensures) ∙ c .before .before .found2 .given .1),
+      two-second _ _ _ _ (s8 .pre .0) (s8 .pre .1) (s8 .pre .2)
+          (c .before .before .found2 .given .0 .0) (c .before .before .found2 .given .0 .1 .0)
+          (sym (s4 .two-operands .ensures) ∙ c .before .before .found2 .given .1),
+    )
 
 -- src/lib.rt:72:1
 same-length : tie.Need-same-length
@@ -30,7 +43,9 @@ same-length c = search needs
 
 -- src/lib.rt:72:1
 returns : tie.Need-returns
-returns c = two-refused _ _ _ _ (c .before .before .before .before .before .before .before .pre .0) (c .before .before .before .before .before .before .before .pre .1) (c .before .before .before .before .before .before .before .pre .2) _ (sym (c .before .before .before .two-operands .ensures) ∙ c .before .found .given .1)
+returns c =
+    let s7 = c .before .before .before .before .before .before .before in
+    two-refused _ _ _ _ (s7 .pre .0) (s7 .pre .1) (s7 .pre .2) _ (sym (c .before .before .before .two-operands .ensures) ∙ c .before .found .given .1)
 
 -- src/lib.rt:72:1
 same-length-2 : tie.Need-same-length-2

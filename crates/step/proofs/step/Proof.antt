@@ -20,16 +20,24 @@ same-length : tie.Need-same-length
 same-length c = search needs
 
 returns-3 : tie.Need-returns-3
-returns-3 c = judged-settled _ _ (c .before .before .before .before .if1 .left) (c .before .before .before .if2 .left) _ (c .before .judged .ensures) (c .if3 .taken)
+returns-3 c =
+    let s4 = c .before .before .before .before in
+    judged-settled _ _ (s4 .if1 .left) (c .before .before .before .if2 .left) _ (c .before .judged .ensures) (c .if3 .taken)
 
 advance-requires : tie.Need-advance-requires
-advance-requires c κs = judged-ready _ _ (c .before .before .before .before .before .if1 .left) (c .before .before .before .before .if2 .left) _ (c .before .before .judged .ensures) (c .before .if3 .left)
+advance-requires c κs =
+    let s4 = c .before .before .before .before in
+    let s5 = s4 .before in
+    judged-ready _ _ (s5 .if1 .left) (s4 .if2 .left) _ (c .before .before .judged .ensures) (c .before .if3 .left)
 
 same-length-2 : tie.Need-same-length-2
 same-length-2 c = search needs
 
 returns-4 : tie.Need-returns-4
-returns-4 c = stepped-settled _ _ (c .before .before .before .before .before .before .before .before .if1 .left) (c .before .before .before .before .before .before .before .if2 .left) _ _ (c .before .before .advance .kept .0) (c .before .before .advance .ensures)
+returns-4 c =
+    let s7 = c .before .before .before .before .before .before .before in
+    let s8 = s7 .before in
+    stepped-settled _ _ (s8 .if1 .left) (s7 .if2 .left) _ _ (c .before .before .advance .kept .0) (c .before .before .advance .ensures)
 
 pub step-spec : {M : Type 1} → statement M
 step-spec =

@@ -23,23 +23,23 @@ sub-tally-places c = search needs
 
 tally-places-requires : tie.Need-tally-places-requires
 tally-places-requires c κs =
-    let s4 = c .before .before .before .before in (
-      s4 .pre .0,
-      tallied-less (s4 .args .t .now) (s4 .args .v .now) (s4 .args .b .now) ((s4 .args .k - 1 + 1) * entityCount) _
-          (omega (arith, c .if1 .left)) (s4 .pre .1),
-      omega (arith, s4 .pre .2),
-      s4 .pre .3,
-      s4 .pre .4,
+    let s4 : _ → _ = λ _. c .before .before .before .before in (
+      s4 c .pre .0,
+      tallied-less (s4 c .args .t .now) (s4 c .args .v .now) (s4 c .args .b .now) ((s4 c .args .k - 1 + 1) * entityCount) _
+          (omega (arith, c .if1 .left)) (s4 c .pre .1),
+      omega (arith, s4 c .pre .2),
+      s4 c .pre .3,
+      s4 c .pre .4,
     )
 
 add-result : tie.Need-add-result
 add-result c =
-    let s5 = c .before .before .before .before .before in
+    let s5 : _ → _ = λ _. c .before .before .before .before .before in
     omega (
       arith,
-      tally-more (s5 .args .t .now) (s5 .args .v .now) (s5 .args .k) (s5 .args .e .0) _ (c .before .if1 .left)
+      tally-more (s5 c .args .t .now) (s5 c .args .v .now) (s5 c .args .k) (s5 c .args .e .0) _ (c .before .if1 .left)
           (c .tally-places .ensures),
-      under-few (s5 .args .t .now) (s5 .args .v .now) (s5 .pre .0) (s5 .args .k) (s5 .args .e .0) (s5 .pre .2),
+      under-few (s5 c .args .t .now) (s5 c .args .v .now) (s5 c .pre .0) (s5 c .args .k) (s5 c .args .e .0) (s5 c .pre .2),
     )
 
 returns-2 : tie.Need-returns-2

@@ -34,15 +34,15 @@ element-copy-out-s c = omega (arith, c .loop-test .taken)
 
 add-s-2 : tie.Need-add-s-2 Inv-loop μ-loop
 add-s-2 c =
-    let s6 = c .before .before .before .before .before .before in
+    let s6 : _ → _ = λ _. c .before .before .before .before .before .before in
     omega (
       arith,
       c .before .loop-test .taken,
-      tally-entity (s6 .args .t .now) (s6 .args .v .now)
+      tally-entity (s6 c .args .t .now) (s6 c .args .v .now)
           (c .before .before .before .tally-rows .last .1 .1 .0) _ (c .before .before .before .tally-rows .ensures) (c .before .before .loop .e) _
           (c .before .loop-test .taken) (omega arith) (c .before .before .loop .inv .1),
-      followed-few (s6 .args .t .now) (s6 .args .v .now)
-          (s6 .pre .0) (c .before .before .loop .e + 1),
+      followed-few (s6 c .args .t .now) (s6 c .args .v .now)
+          (s6 c .pre .0) (c .before .before .loop .e + 1),
     )
 
 add-e : tie.Need-add-e Inv-loop μ-loop
@@ -53,18 +53,18 @@ loop-less c = omega (arith, c .before .loop-test .taken)
 
 loop-again : tie.Need-loop-again Inv-loop μ-loop
 loop-again c =
-    let s6 = c .before .before .before .before .before .before in (
+    let s6 : _ → _ = λ _. c .before .before .before .before .before .before in (
       omega (arith, c .before .loop-test .taken),
-      tally-entity (s6 .args .t .now) (s6 .args .v .now)
+      tally-entity (s6 c .args .t .now) (s6 c .args .v .now)
           (c .before .before .before .tally-rows .last .1 .1 .0) _ (c .before .before .before .tally-rows .ensures) (c .before .before .loop .e) _
           (c .before .loop-test .taken) (omega arith) (c .before .before .loop .inv .1),
     )
 
 returns : tie.Need-returns Inv-loop μ-loop
 returns c =
-    let s5 = c .before .before .before .before .before in
+    let s5 : _ → _ = λ _. c .before .before .before .before .before in
     let q : c .before .loop .e ≡ entityCount = omega (arith, c .before .loop .inv .0, c .loop-test .left) in (
-      c .before .loop .inv .1 ∙ ap (λ (n : ℕ). length (followed (s5 .args .t .now) (s5 .args .v .now) n)) q,
+      c .before .loop .inv .1 ∙ ap (λ (n : ℕ). length (followed (s5 c .args .t .now) (s5 c .args .v .now) n)) q,
       c .before .before .tally-rows .ensures,
     )
 

@@ -48,59 +48,59 @@ cast-s c = search needs
 add-s : tie.Need-add-s Inv-loop μ-loop
 unfolding leads
 add-s c =
-    let s7 = c .before .before .before .before .before .before .before in
+    let s7 : _ → _ = λ _. c .before .before .before .before .before .before .before in
     omega (
       arith,
-      s7 .pre .2,
-      guided-next (s7 .args .t .now) (s7 .args .v .now) (s7 .pre .0) (s7 .args .e .0) _ _ refl
+      s7 c .pre .2,
+      guided-next (s7 c .args .t .now) (s7 c .args .v .now) (s7 c .pre .0) (s7 c .args .e .0) _ _ refl
           (c .before .before .loop-test .taken) _ (c .before .place .ensures),
     )
 
 mul-s-2 : tie.Need-mul-s-2 Inv-loop μ-loop
 unfolding leads
 mul-s-2 c =
-    let s7 = c .before .before .before .before .before .before .before in
+    let s7 : _ → _ = λ _. c .before .before .before .before .before .before .before in
     omega (
       arith,
-      s7 .pre .2,
-      guided-next (s7 .args .t .now) (s7 .args .v .now) (s7 .pre .0) (s7 .args .e .0) _ _ refl
+      s7 c .pre .2,
+      guided-next (s7 c .args .t .now) (s7 c .args .v .now) (s7 c .pre .0) (s7 c .args .e .0) _ _ refl
           (c .before .before .loop-test .taken) _ (c .before .place .ensures),
     )
 
 element-copy-out-s : tie.Need-element-copy-out-s Inv-loop μ-loop
 unfolding leads
 element-copy-out-s c =
-    let s7 = c .before .before .before .before .before .before .before in
+    let s7 : _ → _ = λ _. c .before .before .before .before .before .before .before in
     omega (
       arith,
-      s7 .pre .2,
-      guided-next (s7 .args .t .now) (s7 .args .v .now) (s7 .pre .0) (s7 .args .e .0) _ _ refl
+      s7 c .pre .2,
+      guided-next (s7 c .args .t .now) (s7 c .args .v .now) (s7 c .pre .0) (s7 c .args .e .0) _ _ refl
           (c .before .before .loop-test .taken) _ (c .before .place .ensures),
     )
 
 add-s-2 : tie.Need-add-s-2 Inv-loop μ-loop
 unfolding leads
 add-s-2 c =
-    let s4 = c .before .before .before .before in
-    let s8 = s4 .before .before .before .before in
-    let g = guided-next (s8 .args .t .now) (s8 .args .v .now) (s8 .pre .0) (s8 .args .e .0) _ _ refl
+    let s4 : _ → _ = λ _. c .before .before .before .before in
+    let s8 : _ → _ = λ _. s4 c .before .before .before .before in
+    let g = guided-next (s8 c .args .t .now) (s8 c .args .v .now) (s8 c .pre .0) (s8 c .args .e .0) _ _ refl
     (c .before .before .before .loop-test .taken) _ (c .before .before .place .ensures) in
     omega (
       arith,
-      tally-place (s8 .args .t .now) (s8 .args .v .now) (s8 .args .b .now) _ (s8 .pre .1) (s8 .args .k) (s8 .args .e .0)
-          (s4 .loop .p) _ _ (g .0) (g .1) (omega arith) (c .before .before .place .ensures) (s4 .loop .inv .1),
-      inside-few (s8 .args .t .now)
-          (s8 .args .v .now) (s8 .pre .0) (s8 .args .k) (s8 .args .e .0) (s4 .loop .p + 1) (s8 .pre .2)
+      tally-place (s8 c .args .t .now) (s8 c .args .v .now) (s8 c .args .b .now) _ (s8 c .pre .1) (s8 c .args .k) (s8 c .args .e .0)
+          (s4 c .loop .p) _ _ (g .0) (g .1) (omega arith) (c .before .before .place .ensures) (s4 c .loop .inv .1),
+      inside-few (s8 c .args .t .now)
+          (s8 c .args .v .now) (s8 c .pre .0) (s8 c .args .k) (s8 c .args .e .0) (s4 c .loop .p + 1) (s8 c .pre .2)
           (omega (arith, c .before .before .before .loop-test .taken)),
     )
 
 add-p : tie.Need-add-p Inv-loop μ-loop
 unfolding leads
 add-p c =
-    let s8 = c .before .before .before .before .before .before .before .before in
+    let s8 : _ → _ = λ _. c .before .before .before .before .before .before .before .before in
     omega (
       arith,
-      guided-place (s8 .args .t .now) (s8 .args .v .now) (s8 .pre .0) (s8 .args .e .0) _ _ refl
+      guided-place (s8 c .args .t .now) (s8 c .args .v .now) (s8 c .pre .0) (s8 c .args .e .0) _ _ refl
           (c .before .before .before .loop-test .taken),
     )
 
@@ -110,22 +110,22 @@ loop-less c = omega (arith, c .before .before .before .loop-test .taken)
 loop-again : tie.Need-loop-again Inv-loop μ-loop
 unfolding leads
 loop-again c =
-    let s4 = c .before .before .before .before in
-    let s8 = s4 .before .before .before .before in
-    let g = guided-next (s8 .args .t .now) (s8 .args .v .now) (s8 .pre .0) (s8 .args .e .0) _ _ refl
+    let s4 : _ → _ = λ _. c .before .before .before .before in
+    let s8 : _ → _ = λ _. s4 c .before .before .before .before in
+    let g = guided-next (s8 c .args .t .now) (s8 c .args .v .now) (s8 c .pre .0) (s8 c .args .e .0) _ _ refl
     (c .before .before .before .loop-test .taken) _ (c .before .before .place .ensures) in (
       omega (arith, c .before .before .before .loop-test .taken),
-      tally-place (s8 .args .t .now) (s8 .args .v .now) (s8 .args .b .now) _
-          (s8 .pre .1) (s8 .args .k) (s8 .args .e .0) (s4 .loop .p) _ _ (g .0) (g .1) (omega arith) (c .before .before .place .ensures)
-          (s4 .loop .inv .1),
+      tally-place (s8 c .args .t .now) (s8 c .args .v .now) (s8 c .args .b .now) _
+          (s8 c .pre .1) (s8 c .args .k) (s8 c .args .e .0) (s4 c .loop .p) _ _ (g .0) (g .1) (omega arith) (c .before .before .place .ensures)
+          (s4 c .loop .inv .1),
     )
 
 returns : tie.Need-returns Inv-loop μ-loop
 unfolding leads
 returns c =
-    let s5 = c .before .before .before .before .before in
-    let q : c .before .loop .p ≡ leads (s5 .args .v .now) (s5 .args .e .0) = omega (arith, c .before .loop .inv .0, c .loop-test .left) in
-    c .before .loop .inv .1 ∙ ap (λ (n : ℕ). length (inside (s5 .args .t .now) (s5 .args .v .now) (s5 .args .k) (s5 .args .e .0) n)) q
+    let s5 : _ → _ = λ _. c .before .before .before .before .before in
+    let q : c .before .loop .p ≡ leads (s5 c .args .v .now) (s5 c .args .e .0) = omega (arith, c .before .loop .inv .0, c .loop-test .left) in
+    c .before .loop .inv .1 ∙ ap (λ (n : ℕ). length (inside (s5 c .args .t .now) (s5 c .args .v .now) (s5 c .args .k) (s5 c .args .e .0) n)) q
 
 pub tally-places-spec : {M : Type 1} → statement M
 tally-places-spec =

@@ -21,11 +21,11 @@ add-t9 c = omega (arith, c .before .loop-test .taken)
 
 tally-requires : tie.Need-tally-requires Inv-loop μ-loop
 tally-requires c κs =
-    let s4 = c .before .before .before .before in (
-      s4 .pre .0,
-      tallied-less (s4 .args .t .now) (s4 .args .v .now) (c .before .before .loop .b) _ _ (omega arith)
+    let s4 : _ → _ = λ _. c .before .before .before .before in (
+      s4 c .pre .0,
+      tallied-less (s4 c .args .t .now) (s4 c .args .v .now) (c .before .before .loop .b) _ _ (omega arith)
           (c .before .before .loop .inv .1),
-      s4 .pre .2,
+      s4 c .pre .2,
       omega arith,
       omega (arith, c .before .loop-test .taken),
     )
@@ -56,10 +56,10 @@ loop-less c = omega (arith, c .before .before .before .before .before .pre .2, c
 
 loop-again : tie.Need-loop-again Inv-loop μ-loop
 loop-again c =
-    let s5 = c .before .before .before .before .before in (
+    let s5 : _ → _ = λ _. c .before .before .before .before .before in (
       omega (arith, c .before .before .loop-test .taken),
-      tallied-more (s5 .args .t .now) (s5 .args .v .now) (c .before .before .before .loop .b)
-          (s5 .args .k) (c .before .before .before .loop .i) _ (s5 .pre .2) (c .before .before .loop-test .taken)
+      tallied-more (s5 c .args .t .now) (s5 c .args .v .now) (c .before .before .before .loop .b)
+          (s5 c .args .k) (c .before .before .before .loop .i) _ (s5 c .pre .2) (c .before .before .loop-test .taken)
           (c .before .before .before .loop .inv .1) (c .tally .ensures),
     )
 

@@ -16,8 +16,8 @@ used-requires c κs = search needs
 
 weigh-requires : tie.Need-weigh-requires
 weigh-requires c κs =
-    let s4 = c .before .before .before .before in
-    omega (arith, c .used .ensures, s4 .pre .0 .admitted .good .0 .entities (s4 .args .e .0) .filled .packed .room)
+    let s4 : _ → _ = λ _. c .before .before .before .before in
+    omega (arith, c .used .ensures, s4 c .pre .0 .admitted .good .0 .entities (s4 c .args .e .0) .filled .packed .room)
 
 returns : tie.Need-returns
 returns c =

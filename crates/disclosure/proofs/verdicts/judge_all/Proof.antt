@@ -47,13 +47,13 @@ add-t10 c = omega arith
 
 judge-requires : tie.Need-judge-requires Inv-loop μ-loop
 judge-requires c κs =
-    let s4 = c .before .before .before .before in
-    let s6 = s4 .before .before in (
+    let s4 : _ → _ = λ _. c .before .before .before .before in
+    let s6 : _ → _ = λ _. s4 c .before .before in (
       record {
-        admitted = s6 .pre .0;
-        clearance = s4 .clearance .ensures;
+        admitted = s6 c .pre .0;
+        clearance = s4 c .clearance .ensures;
         screen = c .before .before .level .ensures ∙ ap
-            (levelOf (tablesOf (s6 .args .t .now))) (c .before .before .before .device .ensures);
+            (levelOf (tablesOf (s6 c .args .t .now))) (c .before .before .before .device .ensures);
       },
       omega arith,
       omega arith,
@@ -82,9 +82,9 @@ loop-again c = (omega arith, judged-more _ _ _ _ _ (c .before .loop-test .taken)
 
 returns : tie.Need-returns Inv-loop μ-loop
 returns c =
-    let s6 = c .before .before .before .before .before .before in
+    let s6 : _ → _ = λ _. c .before .before .before .before .before .before in
     let e : c .before .loop .i ≡ entityCount = omega arith in
-    subst (λ (n : ℕ). Judged (tablesOf (s6 .args .t .now)) (s6 .args .u .0) n (c .before .loop .v)) e (c .before .loop .inv .1)
+    subst (λ (n : ℕ). Judged (tablesOf (s6 c .args .t .now)) (s6 c .args .u .0) n (c .before .loop .v)) e (c .before .loop .inv .1)
 
 pub judge-all-spec : {M : Type 1} → statement M
 judge-all-spec =

@@ -104,16 +104,16 @@ visit-entity-returns t c =
 visit-entity-visit-places-requires : (t : ℕ) → visit-entity-lts.Need-visit-places-requires (visit-entity-calls t) (visit-entity-at t) visit-entity.Post
 unfolding leads listed
 visit-entity-visit-places-requires t c κs =
-    let s4 = c .before .before .before .before in
-    let s10 = s4 .before .before .before .before .before .before in (
-      omega (arith, s10 .pre .0),
+    let s4 : _ → _ = λ _. c .before .before .before .before in
+    let s10 : _ → _ = λ _. s4 c .before .before .before .before .before .before in (
+      omega (arith, s10 c .pre .0),
       (
-        s10 .pre .1 .0,
+        s10 c .pre .1 .0,
         pos-of-ne-zero (c .before .if1 .left),
         refl,
-        places-room (s10 .args .t .now)
-            (s10 .args .v .now) (s10 .args .left) (s10 .args .e .0) _ _ (c .before .if1 .left) refl refl _ _ _ _ _ (s4 .visit-here .ensures)
-            (s10 .pre .1 .1),
+        places-room (s10 c .args .t .now)
+            (s10 c .args .v .now) (s10 c .args .left) (s10 c .args .e .0) _ _ (c .before .if1 .left) refl refl _ _ _ _ _ (s4 c .visit-here .ensures)
+            (s10 c .pre .1 .1),
       ),
     )
 
@@ -170,33 +170,33 @@ visit-places-cast-if1 t c = search needs
 visit-places-add-if1 : (t : ℕ) → visit-places-lts.Need-add-if1 (visit-places-calls t) (visit-places-at t) visit-places.Post visit-places-Inv-loop
     visit-places-μ-loop
 visit-places-add-if1 t c =
-    let s6 = c .before .before .before .before .before .before in
+    let s6 : _ → _ = λ _. c .before .before .before .before .before .before in
     omega (
       arith,
-      s6 .pre .1 .0 .few,
-      guided-next _ _ (s6 .pre .1 .0 .guided) _ _ _ (s6 .pre .1 .2) (c .before .before .loop-test .taken) _
+      s6 c .pre .1 .0 .few,
+      guided-next _ _ (s6 c .pre .1 .0 .guided) _ _ _ (s6 c .pre .1 .2) (c .before .before .loop-test .taken) _
           (c .before .place .ensures),
     )
 
 visit-places-mul-if1-2 : (t : ℕ) → visit-places-lts.Need-mul-if1-2 (visit-places-calls t) (visit-places-at t) visit-places.Post
     visit-places-Inv-loop visit-places-μ-loop
 visit-places-mul-if1-2 t c =
-    let s6 = c .before .before .before .before .before .before in
+    let s6 : _ → _ = λ _. c .before .before .before .before .before .before in
     omega (
       arith,
-      s6 .pre .1 .0 .few,
-      guided-next _ _ (s6 .pre .1 .0 .guided) _ _ _ (s6 .pre .1 .2) (c .before .before .loop-test .taken) _
+      s6 c .pre .1 .0 .few,
+      guided-next _ _ (s6 c .pre .1 .0 .guided) _ _ _ (s6 c .pre .1 .2) (c .before .before .loop-test .taken) _
           (c .before .place .ensures),
     )
 
 visit-places-element-copy-out-if1 : (t : ℕ) → visit-places-lts.Need-element-copy-out-if1 (visit-places-calls t) (visit-places-at t)
     visit-places.Post visit-places-Inv-loop visit-places-μ-loop
 visit-places-element-copy-out-if1 t c =
-    let s6 = c .before .before .before .before .before .before in
+    let s6 : _ → _ = λ _. c .before .before .before .before .before .before in
     omega (
       arith,
-      s6 .pre .1 .0 .few,
-      guided-next _ _ (s6 .pre .1 .0 .guided) _ _ _ (s6 .pre .1 .2) (c .before .before .loop-test .taken) _
+      s6 c .pre .1 .0 .few,
+      guided-next _ _ (s6 c .pre .1 .0 .guided) _ _ _ (s6 c .pre .1 .2) (c .before .before .loop-test .taken) _
           (c .before .place .ensures),
     )
 
@@ -211,16 +211,16 @@ visit-places-loop-less t c = omega (arith, c .before .before .before .before .lo
 visit-places-loop-again : (t : ℕ) → visit-places-lts.Need-loop-again (visit-places-calls t) (visit-places-at t) visit-places.Post
     visit-places-Inv-loop visit-places-μ-loop
 visit-places-loop-again t c =
-    let s4 = c .before .before .before .before in
-    let s5 = s4 .before in
-    let s8 = s5 .before .before .before in
-    let g = guided-next _ _ (s8 .pre .1 .0 .guided) _ _ _ (s8 .pre .1 .2) (s4 .loop-test .taken) _ (c .before .before .before .place .ensures)
+    let s4 : _ → _ = λ _. c .before .before .before .before in
+    let s5 : _ → _ = λ _. s4 c .before in
+    let s8 : _ → _ = λ _. s5 c .before .before .before in
+    let g = guided-next _ _ (s8 c .pre .1 .0 .guided) _ _ _ (s8 c .pre .1 .2) (s4 c .loop-test .taken) _ (c .before .before .before .place .ensures)
     in (
-      omega (arith, s4 .loop-test .taken),
-      places-skip (s8 .args .t .now) (s8 .args .v .now) (s8 .args .left - 1) (s8 .args .e .0) _ _
-          (c .before .before .before .place .ensures) _ _ _ _ _ (tally-nothing (s8 .args .t .now) (s8 .args .v .now) (s8 .args .b .now) _
-          (s8 .pre .1 .0 .tallied) (s8 .args .left - 1) _ (omega (arith, s8 .pre .1 .0 .few)) (omega arith) (g .0) (g .1) (c .if1 .taken))
-          (s5 .loop .inv .1),
+      omega (arith, s4 c .loop-test .taken),
+      places-skip (s8 c .args .t .now) (s8 c .args .v .now) (s8 c .args .left - 1) (s8 c .args .e .0) _ _
+          (c .before .before .before .place .ensures) _ _ _ _ _ (tally-nothing (s8 c .args .t .now) (s8 c .args .v .now) (s8 c .args .b .now) _
+          (s8 c .pre .1 .0 .tallied) (s8 c .args .left - 1) _ (omega (arith, s8 c .pre .1 .0 .few)) (omega arith) (g .0) (g .1) (c .if1 .taken))
+          (s5 c .loop .inv .1),
     )
 
 visit-places-add-longer : (t : ℕ) → visit-places-lts.Need-add-longer (visit-places-calls t) (visit-places-at t) visit-places.Post
@@ -230,8 +230,8 @@ visit-places-add-longer t c = omega arith
 visit-places-sub-longer : (t : ℕ) → visit-places-lts.Need-sub-longer (visit-places-calls t) (visit-places-at t) visit-places.Post
     visit-places-Inv-loop visit-places-μ-loop
 visit-places-sub-longer t c =
-    let s8 = c .before .before .before .before .before .before .before .before in
-    omega (arith, s8 .pre .1 .0 .few)
+    let s8 : _ → _ = λ _. c .before .before .before .before .before .before .before .before in
+    omega (arith, s8 c .pre .1 .0 .few)
 
 visit-places-mul-longer : (t : ℕ) → visit-places-lts.Need-mul-longer (visit-places-calls t) (visit-places-at t) visit-places.Post
     visit-places-Inv-loop visit-places-μ-loop
@@ -240,8 +240,8 @@ visit-places-mul-longer t c = omega arith
 visit-places-array-write-longer : (t : ℕ) → visit-places-lts.Need-array-write-longer (visit-places-calls t) (visit-places-at t) visit-places.Post
     visit-places-Inv-loop visit-places-μ-loop
 visit-places-array-write-longer t c =
-    let s8 = c .before .before .before .before .before .before .before .before in
-    omega (arith, s8 .pre .1 .1, s8 .pre .1 .0 .few)
+    let s8 : _ → _ = λ _. c .before .before .before .before .before .before .before .before in
+    omega (arith, s8 c .pre .1 .1, s8 c .pre .1 .0 .few)
 
 visit-places-cast-w : (t : ℕ) → visit-places-lts.Need-cast-w (visit-places-calls t) (visit-places-at t) visit-places.Post visit-places-Inv-loop
     visit-places-μ-loop
@@ -254,112 +254,112 @@ visit-places-mul-w t c = search needs
 visit-places-element-copy-out-w : (t : ℕ) → visit-places-lts.Need-element-copy-out-w (visit-places-calls t) (visit-places-at t) visit-places.Post
     visit-places-Inv-loop visit-places-μ-loop
 visit-places-element-copy-out-w t c =
-    let s4 = c .before .before .before .before in
-    let s5 = s4 .before in
-    let s9 = s5 .before .before .before .before in
-    omega (arith, guided-next _ _ (s9 .pre .1 .0 .guided) _ _ _ (s9 .pre .1 .2) (s5 .loop-test .taken) _ (s4 .place .ensures))
+    let s4 : _ → _ = λ _. c .before .before .before .before in
+    let s5 : _ → _ = λ _. s4 c .before in
+    let s9 : _ → _ = λ _. s5 c .before .before .before .before in
+    omega (arith, guided-next _ _ (s9 c .pre .1 .0 .guided) _ _ _ (s9 c .pre .1 .2) (s5 c .loop-test .taken) _ (s4 c .place .ensures))
 
 visit-places-sub-visit-here : (t : ℕ) → visit-places-lts.Need-sub-visit-here (visit-places-calls t) (visit-places-at t) visit-places.Post
     visit-places-Inv-loop visit-places-μ-loop
 visit-places-sub-visit-here t c =
-    let s11 = c .before .before .before .before .before .before .before .before .before .before .before in
-    omega (arith, s11 .pre .1 .1)
+    let s11 : _ → _ = λ _. c .before .before .before .before .before .before .before .before .before .before .before in
+    omega (arith, s11 c .pre .1 .1)
 
 visit-places-visit-here-requires : (t : ℕ) → visit-places-lts.Need-visit-here-requires (visit-places-calls t) (visit-places-at t)
     visit-places.Post visit-places-Inv-loop visit-places-μ-loop
 unfolding listed
 visit-places-visit-here-requires t c κs =
-    let s7 = c .before .before .before .before .before .before .before in
-    let s8 = s7 .before in
-    let s9 = s8 .before in
-    let s12 = s9 .before .before .before in (
-      omega (arith, s12 .pre .1 .0 .few),
-      padded-more _ _ _ _ (omega (arith, s12 .pre .1 .1, s12 .pre .1 .0 .few)) (s12 .pre .1 .0 .padded),
-      here-room (s12 .args .t .now) (s12 .args .v .now) (s12 .args .left - 1) (s7 .place .result .0) _ (s9 .loop .room) _ refl
-          (turn-room (s12 .args .t .now) (s12 .args .v .now) (s12 .args .left - 1) (s12 .args .e .0) _ _ (s7 .place .ensures) _ _ _ _ _ _
-          (s8 .loop-test .taken) (s9 .loop .inv .1) (s12 .pre .1 .3)),
+    let s7 : _ → _ = λ _. c .before .before .before .before .before .before .before in
+    let s8 : _ → _ = λ _. s7 c .before in
+    let s9 : _ → _ = λ _. s8 c .before in
+    let s12 : _ → _ = λ _. s9 c .before .before .before in (
+      omega (arith, s12 c .pre .1 .0 .few),
+      padded-more _ _ _ _ (omega (arith, s12 c .pre .1 .1, s12 c .pre .1 .0 .few)) (s12 c .pre .1 .0 .padded),
+      here-room (s12 c .args .t .now) (s12 c .args .v .now) (s12 c .args .left - 1) (s7 c .place .result .0) _ (s9 c .loop .room) _ refl
+          (turn-room (s12 c .args .t .now) (s12 c .args .v .now) (s12 c .args .left - 1) (s12 c .args .e .0) _ _ (s7 c .place .ensures) _ _ _ _ _ _
+          (s8 c .loop-test .taken) (s9 c .loop .inv .1) (s12 c .pre .1 .3)),
     )
 
 visit-places-add-p-2 : (t : ℕ) → visit-places-lts.Need-add-p-2 (visit-places-calls t) (visit-places-at t) visit-places.Post visit-places-Inv-loop
     visit-places-μ-loop
 visit-places-add-p-2 t c =
-    let s11 = c .before .before .before .before .before .before .before .before .before .before .before in
-    omega (arith, s11 .loop-test .taken)
+    let s11 : _ → _ = λ _. c .before .before .before .before .before .before .before .before .before .before .before in
+    omega (arith, s11 c .loop-test .taken)
 
 visit-places-loop-less-2 : (t : ℕ) → visit-places-lts.Need-loop-less-2 (visit-places-calls t) (visit-places-at t) visit-places.Post
     visit-places-Inv-loop visit-places-μ-loop
 visit-places-loop-less-2 t c =
-    let s11 = c .before .before .before .before .before .before .before .before .before .before .before in
-    omega (arith, s11 .loop-test .taken)
+    let s11 : _ → _ = λ _. c .before .before .before .before .before .before .before .before .before .before .before in
+    omega (arith, s11 c .loop-test .taken)
 
 visit-places-loop-again-2 : (t : ℕ) → visit-places-lts.Need-loop-again-2 (visit-places-calls t) (visit-places-at t) visit-places.Post
     visit-places-Inv-loop visit-places-μ-loop
 unfolding leads listed
 visit-places-loop-again-2 t c =
-    let s4 = c .before .before .before .before in
-    let s10 = s4 .before .before .before .before .before .before in
-    let s12 = s10 .before .before in
-    let s15 = s12 .before .before .before in (
+    let s4 : _ → _ = λ _. c .before .before .before .before in
+    let s10 : _ → _ = λ _. s4 c .before .before .before .before .before .before in
+    let s12 : _ → _ = λ _. s10 c .before .before in
+    let s15 : _ → _ = λ _. s12 c .before .before .before in (
       omega arith,
-      places-turn (s15 .args .t .now) (s15 .args .v .now) (s15 .args .left - 1) (s15 .args .e .0) _ _ (s10 .place .ensures) _ _
-          (nameCount - (s15 .args .left - 1)) _ _ _ _ _ _ (s15 .pre .1 .0 .padded) (omega (arith, s15 .pre .1 .1, s15 .pre .1 .0 .few))
-          (omega (arith, s15 .pre .1 .1, s15 .pre .1 .0 .few)) (s12 .loop .inv .1) (entity-alone (s15 .args .t .now) (s15 .args .v .now)
-          (s15 .args .left - 1) (s10 .place .result .0) _ _ _ _ _ _ (omega (arith, s4 .if2 .taken)) refl (c .before .before .visit-here .ensures)),
+      places-turn (s15 c .args .t .now) (s15 c .args .v .now) (s15 c .args .left - 1) (s15 c .args .e .0) _ _ (s10 c .place .ensures) _ _
+          (nameCount - (s15 c .args .left - 1)) _ _ _ _ _ _ (s15 c .pre .1 .0 .padded) (omega (arith, s15 c .pre .1 .1, s15 c .pre .1 .0 .few))
+          (omega (arith, s15 c .pre .1 .1, s15 c .pre .1 .0 .few)) (s12 c .loop .inv .1) (entity-alone (s15 c .args .t .now) (s15 c .args .v .now)
+          (s15 c .args .left - 1) (s10 c .place .result .0) _ _ _ _ _ _ (omega (arith, s4 c .if2 .taken)) refl (c .before .before .visit-here .ensures)),
     )
 
 visit-places-sub-visit-entity : (t : ℕ) → visit-places-lts.Need-sub-visit-entity (visit-places-calls t) (visit-places-at t) visit-places.Post
     visit-places-Inv-loop visit-places-μ-loop
 visit-places-sub-visit-entity t c =
-    let s11 = c .before .before .before .before .before .before .before .before .before .before .before in
-    omega (arith, s11 .pre .1 .1)
+    let s11 : _ → _ = λ _. c .before .before .before .before .before .before .before .before .before .before .before in
+    omega (arith, s11 c .pre .1 .1)
 
 visit-places-visit-entity-requires : (t : ℕ) → visit-places-lts.Need-visit-entity-requires (visit-places-calls t) (visit-places-at t)
     visit-places.Post visit-places-Inv-loop visit-places-μ-loop
 visit-places-visit-entity-requires t c κs =
-    let s7 = c .before .before .before .before .before .before .before in
-    let s8 = s7 .before in
-    let s9 = s8 .before in
-    let s12 = s9 .before .before .before in
-    let g = guided-next _ _ (s12 .pre .1 .0 .guided) _ _ _ (s12 .pre .1 .2) (s8 .loop-test .taken) _ (s7 .place .ensures) in (
-      omega (arith, s12 .pre .0, s12 .pre .1 .1),
+    let s7 : _ → _ = λ _. c .before .before .before .before .before .before .before in
+    let s8 : _ → _ = λ _. s7 c .before in
+    let s9 : _ → _ = λ _. s8 c .before in
+    let s12 : _ → _ = λ _. s9 c .before .before .before in
+    let g = guided-next _ _ (s12 c .pre .1 .0 .guided) _ _ _ (s12 c .pre .1 .2) (s8 c .loop-test .taken) _ (s7 c .place .ensures) in (
+      omega (arith, s12 c .pre .0, s12 c .pre .1 .1),
       (
         record {
-          guided = s12 .pre .1 .0 .guided;
-          tallied = s12 .pre .1 .0 .tallied;
+          guided = s12 c .pre .1 .0 .guided;
+          tallied = s12 c .pre .1 .0 .tallied;
           low = g .0;
           high
               = g .1;
-          few = omega (arith, s12 .pre .1 .0 .few);
-          padded = padded-more _ _ _ _ (omega (arith, s12 .pre .1 .1, s12 .pre .1 .0 .few))
-              (s12 .pre .1 .0 .padded);
+          few = omega (arith, s12 c .pre .1 .0 .few);
+          padded = padded-more _ _ _ _ (omega (arith, s12 c .pre .1 .1, s12 c .pre .1 .0 .few))
+              (s12 c .pre .1 .0 .padded);
         },
-        turn-room (s12 .args .t .now) (s12 .args .v .now) (s12 .args .left - 1) (s12 .args .e .0) _ _
-            (s7 .place .ensures) _ _ _ _ _ _ (s8 .loop-test .taken) (s9 .loop .inv .1) (s12 .pre .1 .3),
+        turn-room (s12 c .args .t .now) (s12 c .args .v .now) (s12 c .args .left - 1) (s12 c .args .e .0) _ _
+            (s7 c .place .ensures) _ _ _ _ _ _ (s8 c .loop-test .taken) (s9 c .loop .inv .1) (s12 c .pre .1 .3),
       ),
     )
 
 visit-places-add-p-3 : (t : ℕ) → visit-places-lts.Need-add-p-3 (visit-places-calls t) (visit-places-at t) visit-places.Post visit-places-Inv-loop
     visit-places-μ-loop
 visit-places-add-p-3 t c =
-    let s11 = c .before .before .before .before .before .before .before .before .before .before .before in
-    omega (arith, s11 .loop-test .taken)
+    let s11 : _ → _ = λ _. c .before .before .before .before .before .before .before .before .before .before .before in
+    omega (arith, s11 c .loop-test .taken)
 
 visit-places-loop-less-3 : (t : ℕ) → visit-places-lts.Need-loop-less-3 (visit-places-calls t) (visit-places-at t) visit-places.Post
     visit-places-Inv-loop visit-places-μ-loop
 visit-places-loop-less-3 t c =
-    let s11 = c .before .before .before .before .before .before .before .before .before .before .before in
-    omega (arith, s11 .loop-test .taken)
+    let s11 : _ → _ = λ _. c .before .before .before .before .before .before .before .before .before .before .before in
+    omega (arith, s11 c .loop-test .taken)
 
 visit-places-loop-again-3 : (t : ℕ) → visit-places-lts.Need-loop-again-3 (visit-places-calls t) (visit-places-at t) visit-places.Post
     visit-places-Inv-loop visit-places-μ-loop
 visit-places-loop-again-3 t c =
-    let s10 = c .before .before .before .before .before .before .before .before .before .before in
-    let s12 = s10 .before .before in
-    let s15 = s12 .before .before .before in (
+    let s10 : _ → _ = λ _. c .before .before .before .before .before .before .before .before .before .before in
+    let s12 : _ → _ = λ _. s10 c .before .before in
+    let s15 : _ → _ = λ _. s12 c .before .before .before in (
       omega arith,
-      places-turn (s15 .args .t .now) (s15 .args .v .now) (s15 .args .left - 1) (s15 .args .e .0) _ _ (s10 .place .ensures) _ _
-          (nameCount - (s15 .args .left - 1)) _ _ _ _ _ _ (s15 .pre .1 .0 .padded) (omega (arith, s15 .pre .1 .1, s15 .pre .1 .0 .few))
-          (omega (arith, s15 .pre .1 .1, s15 .pre .1 .0 .few)) (s12 .loop .inv .1) (c .before .before .visit-entity .ensures),
+      places-turn (s15 c .args .t .now) (s15 c .args .v .now) (s15 c .args .left - 1) (s15 c .args .e .0) _ _ (s10 c .place .ensures) _ _
+          (nameCount - (s15 c .args .left - 1)) _ _ _ _ _ _ (s15 c .pre .1 .0 .padded) (omega (arith, s15 c .pre .1 .1, s15 c .pre .1 .0 .few))
+          (omega (arith, s15 c .pre .1 .1, s15 c .pre .1 .0 .few)) (s12 c .loop .inv .1) (c .before .before .visit-entity .ensures),
     )
 
 visit-places-same-length : (t : ℕ) → visit-places-lts.Need-same-length (visit-places-calls t) (visit-places-at t) visit-places.Post
@@ -369,8 +369,8 @@ visit-places-same-length t c = visited-length _ _ _ _ _ _ (c .before .loop .inv 
 visit-places-returns : (t : ℕ) → visit-places-lts.Need-returns (visit-places-calls t) (visit-places-at t) visit-places.Post visit-places-Inv-loop
     visit-places-μ-loop
 visit-places-returns t c =
-    let s4 = c .before .before .before .before in
-    places-done (s4 .args .t .now) (s4 .args .v .now) (s4 .args .left - 1) (s4 .args .e .0) _ _ _ _ _ _ _ (omega arith)
+    let s4 : _ → _ = λ _. c .before .before .before .before in
+    places-done (s4 c .args .t .now) (s4 c .args .v .now) (s4 c .args .left - 1) (s4 c .args .e .0) _ _ _ _ _ _ _ (omega arith)
     (c .before .loop .inv .1)
 
 pub +visit-entity+visit-places-spec : {M : Type 1} → statement M

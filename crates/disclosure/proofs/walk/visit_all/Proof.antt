@@ -40,10 +40,10 @@ loop-less c = omega (arith, c .before .before .loop-test .taken)
 
 loop-again : tie.Need-loop-again Inv-loop μ-loop
 loop-again c =
-    let s6 = c .before .before .before .before .before .before in (
+    let s6 : _ → _ = λ _. c .before .before .before .before .before .before in (
       omega (arith, c .before .before .loop-test .taken),
-      all-skip (s6 .args .t .now) (s6 .args .v .now) _ _ _ _
-          (sym (last-row (s6 .args .t .now) (s6 .args .v .now) (s6 .args .b .now) _ (s6 .pre .1) _ (c .before .before .loop-test .taken)
+      all-skip (s6 c .args .t .now) (s6 c .args .v .now) _ _ _ _
+          (sym (last-row (s6 c .args .t .now) (s6 c .args .v .now) (s6 c .args .b .now) _ (s6 c .pre .1) _ (c .before .before .loop-test .taken)
           (omega arith)) ∙ c .if1 .taken) (c .before .before .before .loop .inv .1),
     )
 
@@ -58,18 +58,18 @@ add-t14 c = omega (arith, c .before .before .loop-test .taken)
 
 visit-entity-requires : tie.Need-visit-entity-requires Inv-loop μ-loop
 visit-entity-requires c κs =
-    let s4 = c .before .before .before .before in
-    let s7 = s4 .before .before .before in (
+    let s4 : _ → _ = λ _. c .before .before .before .before in
+    let s7 : _ → _ = λ _. s4 c .before .before .before in (
       record {
-        guided = s7 .pre .0;
-        tallied = s7 .pre .1;
+        guided = s7 c .pre .0;
+        tallied = s7 c .pre .1;
         low = omega arith;
         high = omega (arith, c .before .before .before .loop-test .taken);
         few
             = omega arith;
         padded = padded-one _;
       },
-      all-room _ _ _ _ _ _ _ (c .before .before .before .loop-test .taken) (s4 .loop .inv .1) (s7 .pre .2),
+      all-room _ _ _ _ _ _ _ (c .before .before .before .loop-test .taken) (s4 c .loop .inv .1) (s7 c .pre .2),
     )
 
 add-e-2 : tie.Need-add-e-2 Inv-loop μ-loop
@@ -80,9 +80,9 @@ loop-less-2 c = omega (arith, c .before .before .before .before .before .before 
 
 loop-again-2 : tie.Need-loop-again-2 Inv-loop μ-loop
 loop-again-2 c =
-    let s6 = c .before .before .before .before .before .before in
-    let s7 = s6 .before in
-    (omega (arith, s6 .loop-test .taken), all-turn _ _ _ _ _ _ _ _ (s7 .loop .inv .1) (c .before .before .visit-entity .ensures))
+    let s6 : _ → _ = λ _. c .before .before .before .before .before .before in
+    let s7 : _ → _ = λ _. s6 c .before in
+    (omega (arith, s6 c .loop-test .taken), all-turn _ _ _ _ _ _ _ _ (s7 c .loop .inv .1) (c .before .before .visit-entity .ensures))
 
 same-length : tie.Need-same-length Inv-loop μ-loop
 same-length c = visited-length _ _ _ _ _ _ (c .before .loop .inv .1)

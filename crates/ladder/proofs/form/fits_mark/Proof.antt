@@ -32,7 +32,8 @@ c-requires c κs = search needs
 returns : tie.Need-returns
 unfolding fits lengthFits rangeAt aFlag unused
 returns c =
-    let q = requestOf (c .before .before .before .before .before .args .q .now) in
+    let s5 = c .before .before .before .before .before in
+    let q = requestOf (s5 .args .q .now) in
     rw (c .before .before .before .takes-one .ensures, c .before .before .a .ensures, c .before .b .ensures, c .c .ensures)
     (one-form q (aFlag (q .a)) (unused (q .b)) (unused (q .c)))
 

@@ -32,7 +32,8 @@ takes-one-requires c κs = search needs
 returns : tie.Need-returns
 unfolding fits lengthFits rangeAt aPosition aWho anOperation between
 returns c =
-    let q = requestOf (c .before .before .before .before .before .args .q .now) in
+    let s5 = c .before .before .before .before .before in
+    let q = requestOf (s5 .args .q .now) in
     rw (c .takes-one .ensures, c .before .before .before .a .ensures, c .before .before .b .ensures, c .before .c .ensures)
     (one-form q (aWho (q .a)) (anOperation (q .b)) (aPosition (q .c)))
 

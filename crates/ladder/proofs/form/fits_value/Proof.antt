@@ -27,9 +27,9 @@ c-requires c κs = search needs
 returns : tie.Need-returns
 unfolding fits lengthFits rangeAt free unused
 returns c =
-    let q = requestOf (c .before .before .before .before .args .q .now) in
-    rw (c .before .before .takes-one .ensures, c .before .b .ensures, c .c .ensures)
-    (one-form q (free (q .a)) (unused (q .b)) (unused (q .c)))
+    let s4 = c .before .before .before .before in
+    let q = requestOf (s4 .args .q .now) in
+    rw (c .before .before .takes-one .ensures, c .before .b .ensures, c .c .ensures) (one-form q (free (q .a)) (unused (q .b)) (unused (q .c)))
 
 pub fits-value-spec : {M : Type 1} → statement M
 fits-value-spec = tie.close (tie.spec takes-one-requires b-requires c-requires returns)

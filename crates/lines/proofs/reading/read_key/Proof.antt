@@ -43,10 +43,10 @@ loop-less c = search needs
 
 loop-again : tie.Need-loop-again Inv-loop μ-loop
 loop-again c =
-    let s5 = c .before .before .before .before .before in
+    let s5 : _ → _ = λ _. c .before .before .before .before .before in
     let test = c .before .before .loop-test in
     let l = c .before .before .before .loop in
-    let a = s5 .args in
+    let a = s5 c .args in
     (omega arith, l .inv .1 ∙ key-turn (a .s .now) (a .key .now) (a .at) (l .i) (l .same) (test .taken) (omega arith))
 
 returns-2 : tie.Need-returns-2 Inv-loop μ-loop
@@ -59,11 +59,11 @@ add-t6 c = search needs
 
 returns-3 : tie.Need-returns-3 Inv-loop μ-loop
 returns-3 c =
-    let s4 = c .before .before .before .before in
+    let s4 : _ → _ = λ _. c .before .before .before .before in
     let if2 = c .if2 in
     let test = c .before .loop-test in
     let l = c .before .before .loop in
-    let a = s4 .args in
+    let a = s4 c .args in
     let test = test in
     let l = l in
     let a = a in

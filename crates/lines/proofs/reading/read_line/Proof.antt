@@ -28,28 +28,28 @@ returns-2 c = line-no-key (rw (c .enum-told .given .1) at (c .before .before .re
 
 shared-slice-read-b : tie.Need-shared-slice-read-b
 shared-slice-read-b c =
-    let s4 = c .before .before .before .before in
-    let s5 = s4 .before in
-    let s8 = s5 .before .before .before in
+    let s4 : _ → _ = λ _. c .before .before .before .before in
+    let s5 : _ → _ = λ _. s4 c .before in
+    let s8 : _ → _ = λ _. s5 c .before .before .before in
     let i = c .before .before .i in
-    let read-key = s4 .read-key in
-    let if1 = s5 .if1 in
-    let pre = s8 .pre in
+    let read-key = s4 c .read-key in
+    let if1 = s5 c .if1 in
+    let pre = s8 c .pre in
     let k = rw (i .given .1) at (read-key .ensures) in
     let room = key-room pre (if1 .left) k in
     omega (arith, room)
 
 returns-3 : tie.Need-returns-3
 returns-3 c =
-    let s5 = c .before .before .before .before .before in
-    let s6 = s5 .before in
-    let s9 = s6 .before .before .before in
+    let s5 : _ → _ = λ _. c .before .before .before .before .before in
+    let s6 : _ → _ = λ _. s5 c .before in
+    let s9 : _ → _ = λ _. s6 c .before .before .before in
     let if2 = c .if2 in
     let i = c .before .before .before .i in
-    let read-key = s5 .read-key in
-    let if1 = s6 .if1 in
-    let pre = s9 .pre in
-    let a = s9 .args in
+    let read-key = s5 c .read-key in
+    let if1 = s6 c .if1 in
+    let pre = s9 c .pre in
+    let a = s9 c .args in
     let k = rw (i .given .1) at (read-key .ensures) in
     let room = key-room pre (if1 .left) k in
     let none = other (byte (a .s .now) (i .given .0 .0)) (if2 .taken) in
@@ -57,14 +57,14 @@ returns-3 c =
 
 add-if3 : tie.Need-add-if3
 add-if3 c =
-    let s5 = c .before .before .before .before .before in
-    let s6 = s5 .before in
-    let s9 = s6 .before .before .before in
+    let s5 : _ → _ = λ _. c .before .before .before .before .before in
+    let s6 : _ → _ = λ _. s5 c .before in
+    let s9 : _ → _ = λ _. s6 c .before .before .before in
     let i = c .before .before .before .i in
-    let read-key = s5 .read-key in
-    let if1 = s6 .if1 in
-    let pre = s9 .pre in
-    let good = s9 .good in
+    let read-key = s5 c .read-key in
+    let if1 = s6 c .if1 in
+    let pre = s9 c .pre in
+    let good = s9 c .good in
     let k = rw (i .given .1) at (read-key .ensures) in
     let room = key-room pre (if1 .left) k in
     omega (arith, room, good)
@@ -110,27 +110,27 @@ digit-requires c κs =
 
 add-value : tie.Need-add-value
 add-value c =
-    let s6 = c .before .before .before .before .before .before in
-    let s8 = s6 .before .before in
-    let s9 = s8 .before in
-    let s12 = s9 .before .before .before in
-    let i = s6 .i in
-    let read-key = s8 .read-key in
-    let if1 = s9 .if1 in
-    let pre = s12 .pre in
-    let good = s12 .good in
+    let s6 : _ → _ = λ _. c .before .before .before .before .before .before in
+    let s8 : _ → _ = λ _. s6 c .before .before in
+    let s9 : _ → _ = λ _. s8 c .before in
+    let s12 : _ → _ = λ _. s9 c .before .before .before in
+    let i = s6 c .i in
+    let read-key = s8 c .read-key in
+    let if1 = s9 c .if1 in
+    let pre = s12 c .pre in
+    let good = s12 c .good in
     let k = rw (i .given .1) at (read-key .ensures) in
     let room = key-room pre (if1 .left) k in
     omega (arith, room, good)
 
 value-requires : tie.Need-value-requires
 value-requires c κs =
-    let s6 = c .before .before .before .before .before .before in
-    let s12 = s6 .before .before .before .before .before .before in
+    let s6 : _ → _ = λ _. c .before .before .before .before .before .before in
+    let s12 : _ → _ = λ _. s6 c .before .before .before .before .before .before in
     let digit = c .digit in
     let if2 = c .before .before .before .if2 in
-    let i = s6 .i in
-    let a = s12 .args in
+    let i = s6 c .i in
+    let a = s12 c .args in
     let r = range (byte (a .s .now) (i .given .0 .0)) (if2 .left) in
     omega (arith, digit .ensures, r .1)
 

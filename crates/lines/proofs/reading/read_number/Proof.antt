@@ -35,10 +35,10 @@ value-requires c κs = search needs
 
 returns-4 : tie.Need-returns-4 Inv-loop μ-loop
 returns-4 c =
-    let s5 = c .before .before .before .before .before in
+    let s5 : _ → _ = λ _. c .before .before .before .before .before in
     let value = c .value in
     let if4 = c .before .if4 in
-    let if1 = s5 .if1 in
+    let if1 = s5 c .if1 in
     number-got (value .ensures) (omega arith) (number-zero _ _ (if1 .left) (if4 .taken))
 
 digit-requires : tie.Need-digit-requires Inv-loop μ-loop
@@ -46,12 +46,12 @@ digit-requires c κs = search needs
 
 loop-holds : tie.Need-loop-holds Inv-loop μ-loop
 loop-holds c =
-    let s5 = c .before .before .before .before .before in
+    let s5 : _ → _ = λ _. c .before .before .before .before .before in
     let digit = c .digit in
     let if4 = c .before .if4 in
     let if3 = c .before .before .if3 in
     let if2 = c .before .before .before .if2 in
-    let if1 = s5 .if1 in
+    let if1 = s5 c .if1 in
     (omega arith, omega (arith, digit .ensures, if3 .left), rw (digit .ensures) (number-first _ _ (if1 .left) (if2 .left) (if3 .left) (if4 .left)))
 
 shared-slice-read-b : tie.Need-shared-slice-read-b Inv-loop μ-loop
@@ -83,12 +83,12 @@ digit-requires-2 c κs =
 
 add-v : tie.Need-add-v Inv-loop μ-loop
 add-v c =
-    let s4 = c .before .before .before .before in
-    let s12 = s4 .before .before .before .before .before .before .before .before in
+    let s4 : _ → _ = λ _. c .before .before .before .before in
+    let s12 : _ → _ = λ _. s4 c .before .before .before .before .before .before .before .before in
     let digit2 = c .digit2 in
     let if5 = c .before .if5 in
-    let l = s4 .loop in
-    let a = s12 .args in
+    let l = s4 c .loop in
+    let a = s12 c .args in
     omega (arith, digit2 .ensures, range (byte (a .s .now) (l .i)) (if5 .left) .1, l .inv .1)
 
 returns-6 : tie.Need-returns-6 Inv-loop μ-loop
@@ -113,15 +113,15 @@ loop-less c = search needs
 
 loop-again : tie.Need-loop-again Inv-loop μ-loop
 loop-again c =
-    let s4 = c .before .before .before .before in
-    let s5 = s4 .before in
-    let s13 = s5 .before .before .before .before .before .before .before .before in
+    let s4 : _ → _ = λ _. c .before .before .before .before in
+    let s5 : _ → _ = λ _. s4 c .before in
+    let s13 : _ → _ = λ _. s5 c .before .before .before .before .before .before .before .before in
     let if6 = c .if6 in
     let digit2 = c .before .digit2 in
     let if5 = c .before .before .if5 in
-    let test = s4 .loop-test in
-    let l = s5 .loop in
-    let a = s13 .args in
+    let test = s4 c .loop-test in
+    let l = s5 c .loop in
+    let a = s13 c .args in
     let r = range (byte (a .s .now) (l .i)) (if5 .left) in
     (omega arith, if6 .left, rw (digit2 .ensures) (l .inv .2 ∙ more-turn _ _ _ (test .taken) (r .0) (r .1) (rw (digit2 .ensures) at (if6 .left))))
 

@@ -14,14 +14,14 @@ write-bytes-requires c κs =
 
 sub-write-number : tie.Need-sub-write-number
 sub-write-number c =
-    let s6 = c .before .before .before .before .before .before in
+    let s6 : _ → _ = λ _. c .before .before .before .before .before .before in
     omega (
       arith,
-      s6 .pre,
+      s6 c .pre,
       c .before .before .write-bytes .ensures .many,
       c .before .before .write-bytes .kept .0,
-      length-line (s6 .args .key .now)
-          (digits (s6 .args .v)),
+      length-line
+          (s6 c .args .key .now) (digits (s6 c .args .v)),
     )
 
 part-write-number-start : tie.Need-part-write-number-start
@@ -32,7 +32,8 @@ part-write-number-end c = search needs
 
 write-number-requires : tie.Need-write-number-requires
 write-number-requires c κs =
-    let s = c .before .before .before .before .before .before .before in
+    let s7 : _ → _ = λ _. c .before .before .before .before .before .before .before in
+    let s = s7 c in
     let w = c .before .before .before .write-bytes in
     omega (arith, s .pre, w .ensures .many, w .kept .0, length-line (s .args .key .now) (digits (s .args .v)), length-part (w .last .0) (w .result))
 
@@ -47,9 +48,7 @@ written : (c : tie.After-slice-known3)
     let k = c .before .before .before .before .before .before .write-bytes in
     let n = c .before .before .write-number in
     LineWrote (s .args .key .now) (digits (s .args .v)) (s .args .out .now) (k .last .0) (n .last .0) (k .result) (n .result)
-written c =
-    let s6 = c .before .before .before .before .before .before in
-    line-wrote (start c .pre) (s6 .write-bytes .ensures) (c .before .before .write-number .ensures)
+written c = line-wrote (start c .pre) (c .before .before .before .before .before .before .write-bytes .ensures) (c .before .before .write-number .ensures)
 
 add-end : tie.Need-add-end
 add-end c = omega (arith, written c .room)

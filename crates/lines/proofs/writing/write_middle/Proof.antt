@@ -31,9 +31,9 @@ write-short-requires-2 c κs = (
 -- there is room for four digits after the ten thousands
 behind : (c : tie.After-slice-known3) → c .before .before .write-short2 .result + 4 ≤ length (c .before .before .write-short2 .last .0)
 behind c =
-    let s4 = c .before .before .before .before in
-    let s6 = s4 .before .before in
-    more-room (s6 .args .v) (s4 .if1 .left) (omega (arith, s6 .pre .0)) (s6 .pre .1) (c .before .before .write-short2 .ensures)
+    let s4 : _ → _ = λ _. c .before .before .before .before in
+    let s6 : _ → _ = λ _. s4 c .before .before in
+    more-room (s6 c .args .v) (s4 c .if1 .left) (omega (arith, s6 c .pre .0)) (s6 c .pre .1) (c .before .before .write-short2 .ensures)
 
 sub-write-four : tie.Need-sub-write-four
 sub-write-four c = omega (arith, behind c)
@@ -57,15 +57,15 @@ write-four-requires c κs = (
 
 add-result : tie.Need-add-result
 add-result c =
-    let s6 = c .before .before .before .before .before .before in
-    let s10 = s6 .before .before .before .before in
+    let s6 : _ → _ = λ _. c .before .before .before .before .before .before in
+    let s10 : _ → _ = λ _. s6 c .before .before .before .before in
     omega (
       arith,
-      s6 .write-short2 .ensures .many,
-      length-most (s10 .args .v / 10000),
+      s6 c .write-short2 .ensures .many,
+      length-most (s10 c .args .v / 10000),
       c .before .before .write-four .ensures .many,
       four-long
-          (s10 .args .v % 10000),
+          (s10 c .args .v % 10000),
     )
 
 same-length-2 : tie.Need-same-length-2
@@ -73,10 +73,11 @@ same-length-2 c = search needs
 
 returns-2 : tie.Need-returns-2
 returns-2 c =
-    let s6 = c .before .before .before .before .before .before in
-    let s8 = s6 .before .before in
-    let s10 = s8 .before .before in
-    wrote-more (s10 .args .v) (s8 .if1 .left) (omega (arith, s10 .pre .0)) (s6 .write-short2 .ensures) (c .before .before .write-four .ensures)
+    let s6 : _ → _ = λ _. c .before .before .before .before .before .before in
+    let s8 : _ → _ = λ _. s6 c .before .before in
+    let s10 : _ → _ = λ _. s8 c .before .before in
+    wrote-more (s10 c .args .v) (s8 c .if1 .left) (omega (arith, s10 c .pre .0)) (s6 c .write-short2 .ensures)
+    (c .before .before .write-four .ensures)
 
 pub write-middle-spec : {M : Type 1} → statement M
 write-middle-spec =

@@ -34,15 +34,15 @@ returns-2 c = search needs
 
 write-middle-requires : tie.Need-write-middle-requires
 write-middle-requires c κs =
-    let s4 = c .before .before .before .before in
-    (omega (arith, s4 .fits .v), omega (arith, s4 .pre, length-more (s4 .args .v) (c .before .if2 .left) (omega (arith, s4 .fits .v))))
+    let s4 : _ → _ = λ _. c .before .before .before .before in
+    (omega (arith, s4 c .fits .v), omega (arith, s4 c .pre, length-more (s4 c .args .v) (c .before .if2 .left) (omega (arith, s4 c .fits .v))))
 
 -- there is room for four digits after the ten thousands
 behind : (c : tie.After-slice-known3) → c .before .before .write-middle .result + 4 ≤ length (c .before .before .write-middle .last .0)
 behind c =
-    let s4 = c .before .before .before .before in
-    let s7 = s4 .before .before .before in
-    more-room (s7 .args .v) (s4 .if2 .left) (omega (arith, s7 .fits .v)) (s7 .pre) (c .before .before .write-middle .ensures)
+    let s4 : _ → _ = λ _. c .before .before .before .before in
+    let s7 : _ → _ = λ _. s4 c .before .before .before in
+    more-room (s7 c .args .v) (s4 c .if2 .left) (omega (arith, s7 c .fits .v)) (s7 c .pre) (c .before .before .write-middle .ensures)
 
 sub-write-four : tie.Need-sub-write-four
 sub-write-four c = omega (arith, behind c)
@@ -66,15 +66,15 @@ write-four-requires c κs = (
 
 add-result : tie.Need-add-result
 add-result c =
-    let s6 = c .before .before .before .before .before .before in
-    let s11 = s6 .before .before .before .before .before in
+    let s6 : _ → _ = λ _. c .before .before .before .before .before .before in
+    let s11 : _ → _ = λ _. s6 c .before .before .before .before .before in
     omega (
       arith,
-      s6 .write-middle .ensures .many,
-      length-most (s11 .args .v / 10000),
+      s6 c .write-middle .ensures .many,
+      length-most (s11 c .args .v / 10000),
       c .before .before .write-four .ensures .many,
       four-long
-          (s11 .args .v % 10000),
+          (s11 c .args .v % 10000),
     )
 
 same-length-3 : tie.Need-same-length-3
@@ -82,10 +82,11 @@ same-length-3 c = search needs
 
 returns-3 : tie.Need-returns-3
 returns-3 c =
-    let s6 = c .before .before .before .before .before .before in
-    let s8 = s6 .before .before in
-    let s11 = s8 .before .before .before in
-    wrote-more (s11 .args .v) (s8 .if2 .left) (omega (arith, s11 .fits .v)) (s6 .write-middle .ensures) (c .before .before .write-four .ensures)
+    let s6 : _ → _ = λ _. c .before .before .before .before .before .before in
+    let s8 : _ → _ = λ _. s6 c .before .before in
+    let s11 : _ → _ = λ _. s8 c .before .before .before in
+    wrote-more (s11 c .args .v) (s8 c .if2 .left) (omega (arith, s11 c .fits .v)) (s6 c .write-middle .ensures)
+    (c .before .before .write-four .ensures)
 
 pub write-number-spec : {M : Type 1} → statement M
 write-number-spec =

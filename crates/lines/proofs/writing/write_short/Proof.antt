@@ -61,8 +61,8 @@ add-out-4 c = search needs
 
 slice-write-out-4 : tie.Need-slice-write-out-4
 slice-write-out-4 c =
-    let s4 = c .before .before .before .before in
-    omega (arith, s4 .pre .1, length-three (s4 .args .v) (c .before .if2 .left) (c .if3 .taken))
+    let s4 : _ → _ = λ _. c .before .before .before .before in
+    omega (arith, s4 c .pre .1, length-three (s4 c .args .v) (c .before .if2 .left) (c .if3 .taken))
 
 mul-out-2 : tie.Need-mul-out-2
 mul-out-2 c = search needs
@@ -78,8 +78,8 @@ add-out-5 c = search needs
 
 slice-write-out-5 : tie.Need-slice-write-out-5
 slice-write-out-5 c =
-    let s4 = c .before .before .before .before in
-    simp length-set (omega (arith, s4 .pre .1, length-three (s4 .args .v) (c .before .if2 .left) (c .if3 .taken)))
+    let s4 : _ → _ = λ _. c .before .before .before .before in
+    simp length-set (omega (arith, s4 c .pre .1, length-three (s4 c .args .v) (c .before .if2 .left) (c .if3 .taken)))
 
 mul-out-3 : tie.Need-mul-out-3
 mul-out-3 c = search needs
@@ -95,21 +95,19 @@ add-out-6 c = search needs
 
 slice-write-out-6 : tie.Need-slice-write-out-6
 slice-write-out-6 c =
-    let s4 = c .before .before .before .before in
-    simp length-set (omega (arith, s4 .pre .1, length-three (s4 .args .v) (c .before .if2 .left) (c .if3 .taken)))
+    let s4 : _ → _ = λ _. c .before .before .before .before in
+    simp length-set (omega (arith, s4 c .pre .1, length-three (s4 c .args .v) (c .before .if2 .left) (c .if3 .taken)))
 
 same-length-3 : tie.Need-same-length-3
 same-length-3 c = search needs
 
 returns-3 : tie.Need-returns-3
-returns-3 c =
-    let s4 = c .before .before .before .before in
-    wrote-three (s4 .args .v) (c .before .if2 .left) (c .if3 .taken) (s4 .pre .1)
+returns-3 c = wrote-three (c .before .before .before .before .args .v) (c .before .if2 .left) (c .if3 .taken) (c .before .before .before .before .pre .1)
 
 write-four-requires : tie.Need-write-four-requires
 write-four-requires c κs =
-    let s5 = c .before .before .before .before .before in
-    (s5 .pre .0, omega (arith, s5 .pre .1, length-four (s5 .args .v) (c .before .if3 .left) (s5 .pre .0)))
+    let s5 : _ → _ = λ _. c .before .before .before .before .before in
+    (s5 c .pre .0, omega (arith, s5 c .pre .1, length-four (s5 c .args .v) (c .before .if3 .left) (s5 c .pre .0)))
 
 same-length-4 : tie.Need-same-length-4
 same-length-4 c = search needs

@@ -18,7 +18,9 @@ same-length : tie.Need-same-length
 same-length c = search needs
 
 returns : tie.Need-returns
-returns c = clear-done _ _ _ _ _ (c .before .before .before .before .before .before .before .before .pre) (c .before .before .before .device .ensures) (c .before .before .empty .ensures)
+returns c =
+    let s8 = c .before .before .before .before .before .before .before .before in
+    clear-done _ _ _ _ _ (s8 .pre) (c .before .before .before .device .ensures) (c .before .before .empty .ensures)
 
 pub clear-spec : {M : Type 1} → statement M
 clear-spec = tie.close (tie.spec device-requires empty-requires same-length returns)

@@ -36,7 +36,10 @@ loop-less : tie.Need-loop-less Inv-loop μ-loop
 loop-less c = omega arith
 
 loop-again : tie.Need-loop-again Inv-loop μ-loop
-loop-again c = (search needs, omega arith, c .before .before .set-shown .ensures ∙ wipe-more _ _ _ _ _ (c .before .before .before .before .before .before .before .before .before .loop .inv .2) (c .before .before .before .before .before .before .set-place .ensures))
+loop-again c =
+    let s6 : _ → _ = λ _. c .before .before .before .before .before .before in
+    let s9 : _ → _ = λ _. s6 c .before .before .before in
+    (search needs, omega arith, c .before .before .set-shown .ensures ∙ wipe-more _ _ _ _ _ (s9 c .loop .inv .2) (s6 c .set-place .ensures))
 
 set-used-requires : tie.Need-set-used-requires Inv-loop μ-loop
 set-used-requires c κs = search needs
@@ -45,7 +48,10 @@ same-length : tie.Need-same-length Inv-loop μ-loop
 same-length c = search needs
 
 returns : tie.Need-returns Inv-loop μ-loop
-returns c = let z : c .before .before .before .before .before .loop .i ≡ 8 = omega arith in c .before .before .set-used .ensures ∙ wipe-all _ _ _ (rw z at (c .before .before .before .before .before .loop .inv .2))
+returns c =
+    let s5 : _ → _ = λ _. c .before .before .before .before .before in
+    let z : s5 c .loop .i ≡ 8 = omega arith in
+    c .before .before .set-used .ensures ∙ wipe-all _ _ _ (rw z at (s5 c .loop .inv .2))
 
 pub empty-spec : {M : Type 1} → statement M
 empty-spec =

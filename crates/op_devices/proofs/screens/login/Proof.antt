@@ -36,7 +36,13 @@ same-length-2 c = search needs
 
 -- src/screens.rt:86:9
 returns-2 : tie.Need-returns-2
-returns-2 c = login-taken _ _ _ _ (c .before .before .before .before .before .before .before .before .before .before .before .pre) _ (c .before .before .before .before .before .before .before .is-device .ensures) (not-false _ (c .before .before .before .before .before .before .if1 .left)) _ (c .before .before .before .before .device .ensures) _ (c .before .nobody-on .ensures) (c .if2 .taken)
+returns-2 c =
+    let s4 = c .before .before .before .before in
+    let s6 = s4 .before .before in
+    let s7 = s6 .before in
+    let s11 = s7 .before .before .before .before in
+    login-taken _ _ _ _ (s11 .pre) _ (s7 .is-device .ensures) (not-false _ (s6 .if1 .left)) _ (s4 .device .ensures) _ (c .before .nobody-on .ensures)
+    (c .if2 .taken)
 
 -- src/screens.rt:88:5
 set-device-requires : tie.Need-set-device-requires
@@ -48,7 +54,15 @@ same-length-3 c = search needs
 
 -- src/screens.rt:78:1
 returns-3 : tie.Need-returns-3
-returns-3 c = login-done _ _ _ _ (c .before .before .before .before .before .before .before .before .before .before .before .before .before .before .before .pre) _ (c .before .before .before .before .before .before .before .before .before .before .before .is-device .ensures) (not-false _ (c .before .before .before .before .before .before .before .before .before .before .if1 .left)) _ (c .before .before .before .before .before .before .before .before .device .ensures) _ (c .before .before .before .before .before .nobody-on .ensures) _ (c .before .before .before .before .if2 .left) (c .before .before .set-device .ensures)
+returns-3 c =
+    let s4 = c .before .before .before .before in
+    let s5 = s4 .before in
+    let s8 = s5 .before .before .before in
+    let s10 = s8 .before .before in
+    let s11 = s10 .before in
+    let s15 = s11 .before .before .before .before in
+    login-done _ _ _ _ (s15 .pre) _ (s11 .is-device .ensures) (not-false _ (s10 .if1 .left)) _ (s8 .device .ensures) _ (s5 .nobody-on .ensures) _
+    (s4 .if2 .left) (c .before .before .set-device .ensures)
 
 pub login-spec : {M : Type 1} → statement M
 login-spec =

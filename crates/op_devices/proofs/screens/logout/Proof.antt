@@ -26,7 +26,13 @@ same-length : tie.Need-same-length
 same-length c = search needs
 
 returns : tie.Need-returns
-returns c = logout-done _ _ _ _ _ (c .before .before .before .before .before .before .before .before .before .before .before .before .before .before .before .before .pre) (c .before .before .before .before .before .before .before .before .before .before .before .device .ensures) _ _ (c .before .before .before .before .before .before .before .before .before .before .empty .ensures) (c .before .before .before .before .before .before .set-device .ensures) (c .before .before .set-current .ensures)
+returns c =
+    let s6 = c .before .before .before .before .before .before in
+    let s10 = s6 .before .before .before .before in
+    let s11 = s10 .before in
+    let s16 = s11 .before .before .before .before .before in
+    logout-done _ _ _ _ _ (s16 .pre) (s11 .device .ensures) _ _ (s10 .empty .ensures) (s6 .set-device .ensures)
+    (c .before .before .set-current .ensures)
 
 pub logout-spec : {M : Type 1} → statement M
 logout-spec =

@@ -17,7 +17,9 @@ same-length : tie.Need-same-length
 same-length c = search needs
 
 returns : tie.Need-returns
-returns c = c .before .before .before .set-shown .ensures ∙ put-again _ _ _ _ _ _ (c .before .before .before .before .before .before .pre .1) (c .before .before .before .before .before .before .pre .2) (omega arith)
+returns c =
+    let s6 : _ → _ = λ _. c .before .before .before .before .before .before in
+    c .before .before .before .set-shown .ensures ∙ put-again _ _ _ _ _ _ (s6 c .pre .1) (s6 c .pre .2) (omega arith)
 
 set-place-requires : tie.Need-set-place-requires
 set-place-requires c κs = search needs
@@ -32,7 +34,12 @@ same-length-2 : tie.Need-same-length-2
 same-length-2 c = search needs
 
 returns-2 : tie.Need-returns-2
-returns-2 c = c .before .before .set-used .ensures ∙ rw (c .before .before .before .before .before .before .set-place .ensures, c .before .before .before .before .before .before .before .before .before .before .before .set-shown .ensures) (put-new _ _ _ _ _ _ (c .before .before .before .before .before .before .before .before .before .before .before .before .before .before .pre .1) (c .before .before .before .before .before .before .before .before .before .before .before .before .before .before .pre .2) (omega arith))
+returns-2 c =
+    let s6 : _ → _ = λ _. c .before .before .before .before .before .before in
+    let s11 : _ → _ = λ _. s6 c .before .before .before .before .before in
+    let s14 : _ → _ = λ _. s11 c .before .before .before in
+    c .before .before .set-used .ensures ∙ rw (s6 c .set-place .ensures, s11 c .set-shown .ensures)
+    (put-new _ _ _ _ _ _ (s14 c .pre .1) (s14 c .pre .2) (omega arith))
 
 pub put-on-spec : {M : Type 1} → statement M
 put-on-spec =

@@ -26,7 +26,9 @@ same-length c = search needs
 
 -- src/settings.rt:36:9
 returns : tie.Need-returns
-returns c = device-level-10 _ _ _ _ (c .before .before .before .before .before .pre .0) (c .before .before .before .before .before .pre .1) _ (c .before .is-device .ensures) (not-true _ (c .if1 .taken))
+returns c =
+    let s5 = c .before .before .before .before .before in
+    device-level-10 _ _ _ _ (s5 .pre .0) (s5 .pre .1) _ (c .before .is-device .ensures) (not-true _ (c .if1 .taken))
 
 -- src/settings.rt:38:19
 a-requires : tie.Need-a-requires
@@ -54,11 +56,27 @@ same-length-2 c = search needs
 
 -- src/settings.rt:41:9
 returns-2 : tie.Need-returns-2
-returns-2 c = device-level-12 _ _ _ _ (c .before .before .before .before .before .before .before .before .before .before .before .before .before .before .before .before .pre .0) (c .before .before .before .before .before .before .before .before .before .before .before .before .before .before .before .before .pre .1) _ (c .before .before .before .before .before .before .before .before .before .before .before .before .is-device .ensures) (not-false _ (c .before .before .before .before .before .before .before .before .before .before .before .if1 .left)) _ (c .before .before .before .before .before .before .before .before .before .before .a .ensures) _ (c .before .before .before .before .before .before .before .before .device .ensures) _ _ (c .before .before .before .lower .ensures ∙ rw (c .before .before .before .before .level .ensures)) (c .before .has-role .ensures) (c .if2 .taken)
+returns-2 c =
+    let s4 = c .before .before .before .before in
+    let s8 = s4 .before .before .before .before in
+    let s10 = s8 .before .before in
+    let s11 = s10 .before in
+    let s12 = s11 .before in
+    let s16 = s12 .before .before .before .before in
+    device-level-12 _ _ _ _ (s16 .pre .0) (s16 .pre .1) _ (s12 .is-device .ensures) (not-false _ (s11 .if1 .left)) _ (s10 .a .ensures) _
+    (s8 .device .ensures) _ _ (c .before .before .before .lower .ensures ∙ rw (s4 .level .ensures)) (c .before .has-role .ensures) (c .if2 .taken)
 
 -- src/settings.rt:43:9
 try-device-level-requires : tie.Need-try-device-level-requires
-try-device-level-requires c κs = ((c .before .before .before .before .before .before .before .before .before .before .before .before .before .before .before .before .before .pre .0 .climbed .ready .whole, c .before .before .before .before .before .before .before .before .before .before .before .before .before .before .before .before .before .pre .1 .low, c .before .before .before .before .before .before .before .before .before .before .before .before .before .before .before .before .before .pre .1 .high), c .before .before .before .before .before .before .before .before .before .before .before .before .before .before .before .before .before .pre .0 .climbed .ready .good, device-agrees _ _ .to (is-true _ (sym (c .before .before .before .before .before .before .before .before .before .before .before .before .before .is-device .ensures) ∙ not-false _ (c .before .before .before .before .before .before .before .before .before .before .before .before .if1 .left))))
+try-device-level-requires c κs =
+    let s12 = c .before .before .before .before .before .before .before .before .before .before .before .before in
+    let s13 = s12 .before in
+    let s17 = s13 .before .before .before .before in (
+      (s17 .pre .0 .climbed .ready .whole, s17 .pre .1 .low, s17 .pre .1 .high),
+      s17 .pre .0 .climbed .ready .good,
+      device-agrees _ _ .to
+          (is-true _ (sym (s13 .is-device .ensures) ∙ not-false _ (s12 .if1 .left))),
+    )
 
 -- src/settings.rt:44:9
 same-length-3 : tie.Need-same-length-3
@@ -66,7 +84,20 @@ same-length-3 c = search needs
 
 -- src/settings.rt:44:9
 returns-3 : tie.Need-returns-3
-returns-3 c = rw (c .before .before .before .try-device-level .ensures .back (not-true _ (c .if3 .taken))) (device-level-13 _ _ _ _ (c .before .before .before .before .before .before .before .before .before .before .before .before .before .before .before .before .before .before .before .before .before .pre .0) (c .before .before .before .before .before .before .before .before .before .before .before .before .before .before .before .before .before .before .before .before .before .pre .1) _ (c .before .before .before .before .before .before .before .before .before .before .before .before .before .before .before .before .before .is-device .ensures) (not-false _ (c .before .before .before .before .before .before .before .before .before .before .before .before .before .before .before .before .if1 .left)) _ (c .before .before .before .before .before .before .before .before .before .before .before .before .before .before .before .a .ensures) _ (c .before .before .before .before .before .before .before .before .before .before .before .before .before .device .ensures) _ _ (c .before .before .before .before .before .before .before .before .lower .ensures ∙ rw (c .before .before .before .before .before .before .before .before .before .level .ensures)) (c .before .before .before .before .before .before .has-role .ensures) (c .before .before .before .before .before .if2 .left) _ (c .before .before .before .try-device-level .ensures .secure) (not-true _ (c .if3 .taken)))
+returns-3 c =
+    let s5 = c .before .before .before .before .before in
+    let s6 = s5 .before in
+    let s8 = s6 .before .before in
+    let s9 = s8 .before in
+    let s13 = s9 .before .before .before .before in
+    let s15 = s13 .before .before in
+    let s16 = s15 .before in
+    let s17 = s16 .before in
+    let s21 = s17 .before .before .before .before in
+    rw (c .before .before .before .try-device-level .ensures .back (not-true _ (c .if3 .taken)))
+    (device-level-13 _ _ _ _ (s21 .pre .0) (s21 .pre .1) _ (s17 .is-device .ensures) (not-false _ (s16 .if1 .left)) _ (s15 .a .ensures) _
+    (s13 .device .ensures) _ _ (s8 .lower .ensures ∙ rw (s9 .level .ensures)) (s6 .has-role .ensures) (s5 .if2 .left) _
+    (c .before .before .before .try-device-level .ensures .secure) (not-true _ (c .if3 .taken)))
 
 -- src/settings.rt:31:1
 same-length-4 : tie.Need-same-length-4
@@ -74,7 +105,20 @@ same-length-4 c = search needs
 
 -- src/settings.rt:31:1
 returns-4 : tie.Need-returns-4
-returns-4 c = device-level-done _ _ _ _ (c .before .before .before .before .before .before .before .before .before .before .before .before .before .before .before .before .before .before .before .before .before .pre .0) (c .before .before .before .before .before .before .before .before .before .before .before .before .before .before .before .before .before .before .before .before .before .pre .1) _ (c .before .before .before .before .before .before .before .before .before .before .before .before .before .before .before .before .before .is-device .ensures) (not-false _ (c .before .before .before .before .before .before .before .before .before .before .before .before .before .before .before .before .if1 .left)) _ (c .before .before .before .before .before .before .before .before .before .before .before .before .before .before .before .a .ensures) _ (c .before .before .before .before .before .before .before .before .before .before .before .before .before .device .ensures) _ _ (c .before .before .before .before .before .before .before .before .lower .ensures ∙ rw (c .before .before .before .before .before .before .before .before .before .level .ensures)) (c .before .before .before .before .before .before .has-role .ensures) (c .before .before .before .before .before .if2 .left) _ (c .before .before .before .try-device-level .ensures .secure) (not-false _ (c .if3 .left)) _ (c .before .before .before .try-device-level .ensures .kept (not-false _ (c .if3 .left)))
+returns-4 c =
+    let s5 = c .before .before .before .before .before in
+    let s6 = s5 .before in
+    let s8 = s6 .before .before in
+    let s9 = s8 .before in
+    let s13 = s9 .before .before .before .before in
+    let s15 = s13 .before .before in
+    let s16 = s15 .before in
+    let s17 = s16 .before in
+    let s21 = s17 .before .before .before .before in
+    device-level-done _ _ _ _ (s21 .pre .0) (s21 .pre .1) _ (s17 .is-device .ensures) (not-false _ (s16 .if1 .left)) _ (s15 .a .ensures) _
+    (s13 .device .ensures) _ _ (s8 .lower .ensures ∙ rw (s9 .level .ensures)) (s6 .has-role .ensures) (s5 .if2 .left) _
+    (c .before .before .before .try-device-level .ensures .secure) (not-false _ (c .if3 .left)) _
+    (c .before .before .before .try-device-level .ensures .kept (not-false _ (c .if3 .left)))
 
 pub device-level-spec : {M : Type 1} → statement M
 device-level-spec =

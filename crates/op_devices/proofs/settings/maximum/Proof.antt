@@ -23,7 +23,9 @@ same-length c = search needs
 
 -- src/settings.rt:16:9
 returns : tie.Need-returns
-returns c = maximum-10 _ _ _ _ (c .before .before .before .before .before .pre .0) (c .before .before .before .before .before .pre .1) _ (c .before .is-device .ensures) (not-true _ (c .if1 .taken))
+returns c =
+    let s5 = c .before .before .before .before .before in
+    maximum-10 _ _ _ _ (s5 .pre .0) (s5 .pre .1) _ (c .before .is-device .ensures) (not-true _ (c .if1 .taken))
 
 -- src/settings.rt:18:9
 has-role-requires : tie.Need-has-role-requires
@@ -35,7 +37,11 @@ same-length-2 c = search needs
 
 -- src/settings.rt:19:9
 returns-2 : tie.Need-returns-2
-returns-2 c = maximum-12 _ _ _ _ (c .before .before .before .before .before .before .before .before .pre .0) (c .before .before .before .before .before .before .before .before .pre .1) _ (c .before .before .before .before .is-device .ensures) (not-false _ (c .before .before .before .if1 .left)) _ (c .before .has-role .ensures) (not-true _ (c .if2 .taken))
+returns-2 c =
+    let s4 = c .before .before .before .before in
+    let s8 = s4 .before .before .before .before in
+    maximum-12 _ _ _ _ (s8 .pre .0) (s8 .pre .1) _ (s4 .is-device .ensures) (not-false _ (c .before .before .before .if1 .left)) _
+    (c .before .has-role .ensures) (not-true _ (c .if2 .taken))
 
 -- src/settings.rt:21:19
 a-requires : tie.Need-a-requires
@@ -55,7 +61,16 @@ same-length-3 c = search needs
 
 -- src/settings.rt:23:9
 returns-3 : tie.Need-returns-3
-returns-3 c = maximum-13 _ _ _ _ (c .before .before .before .before .before .before .before .before .before .before .before .before .before .pre .0) (c .before .before .before .before .before .before .before .before .before .before .before .before .before .pre .1) _ (c .before .before .before .before .before .before .before .before .before .is-device .ensures) (not-false _ (c .before .before .before .before .before .before .before .before .if1 .left)) _ (c .before .before .before .before .before .before .has-role .ensures) (not-false _ (c .before .before .before .before .before .if2 .left)) _ (c .before .before .before .before .a .ensures) _ (c .before .at-most .ensures ∙ rw (c .before .before .level .ensures)) (not-true _ (c .if3 .taken))
+returns-3 c =
+    let s4 = c .before .before .before .before in
+    let s5 = s4 .before in
+    let s6 = s5 .before in
+    let s8 = s6 .before .before in
+    let s9 = s8 .before in
+    let s13 = s9 .before .before .before .before in
+    maximum-13 _ _ _ _ (s13 .pre .0) (s13 .pre .1) _ (s9 .is-device .ensures) (not-false _ (s8 .if1 .left)) _ (s6 .has-role .ensures)
+    (not-false _ (s5 .if2 .left)) _ (s4 .a .ensures) _ (c .before .at-most .ensures ∙ rw (c .before .before .level .ensures))
+    (not-true _ (c .if3 .taken))
 
 -- src/settings.rt:25:5
 set-maximum-requires : tie.Need-set-maximum-requires
@@ -67,7 +82,19 @@ same-length-4 c = search needs
 
 -- src/settings.rt:11:1
 returns-4 : tie.Need-returns-4
-returns-4 c = maximum-done _ _ _ _ (c .before .before .before .before .before .before .before .before .before .before .before .before .before .before .before .before .before .pre .0) (c .before .before .before .before .before .before .before .before .before .before .before .before .before .before .before .before .before .pre .1) _ (c .before .before .before .before .before .before .before .before .before .before .before .before .before .is-device .ensures) (not-false _ (c .before .before .before .before .before .before .before .before .before .before .before .before .if1 .left)) _ (c .before .before .before .before .before .before .before .before .before .before .has-role .ensures) (not-false _ (c .before .before .before .before .before .before .before .before .before .if2 .left)) _ (c .before .before .before .before .before .before .before .before .a .ensures) _ (c .before .before .before .before .before .at-most .ensures ∙ rw (c .before .before .before .before .before .before .level .ensures)) (not-false _ (c .before .before .before .before .if3 .left)) _ (c .before .before .set-maximum .ensures)
+returns-4 c =
+    let s4 = c .before .before .before .before in
+    let s5 = s4 .before in
+    let s6 = s5 .before in
+    let s8 = s6 .before .before in
+    let s9 = s8 .before in
+    let s10 = s9 .before in
+    let s12 = s10 .before .before in
+    let s13 = s12 .before in
+    let s17 = s13 .before .before .before .before in
+    maximum-done _ _ _ _ (s17 .pre .0) (s17 .pre .1) _ (s13 .is-device .ensures) (not-false _ (s12 .if1 .left)) _ (s10 .has-role .ensures)
+    (not-false _ (s9 .if2 .left)) _ (s8 .a .ensures) _ (s5 .at-most .ensures ∙ rw (s6 .level .ensures)) (not-false _ (s4 .if3 .left)) _
+    (c .before .before .set-maximum .ensures)
 
 pub maximum-spec : {M : Type 1} → statement M
 maximum-spec =

@@ -23,7 +23,10 @@ same-length : tie.Need-same-length
 same-length c = search needs
 
 returns : tie.Need-returns
-returns c = tried-left _ _ _ (device-above _ (c .before .before .before .before .before .pre .1) _ _ (c .before .before .before .before .before .pre .2) (c .before .before .before .before .before .pre .0 .1) (c .before .before .before .before .before .pre .0 .2) _ (c .before .before .maximum .ensures) _ (c .before .at-most .ensures) (not-true _ (c .if1 .taken))) refl
+returns c =
+    let s5 = c .before .before .before .before .before in
+    tried-left _ _ _ (device-above _ (s5 .pre .1) _ _ (s5 .pre .2) (s5 .pre .0 .1) (s5 .pre .0 .2) _ (c .before .before .maximum .ensures) _
+    (c .before .at-most .ensures) (not-true _ (c .if1 .taken))) refl
 
 used-requires : tie.Need-used-requires
 used-requires c κs = search needs
@@ -35,7 +38,14 @@ same-length-2 : tie.Need-same-length-2
 same-length-2 c = search needs
 
 returns-2 : tie.Need-returns-2
-returns-2 c = tried-left _ _ _ (sym (not-true _ (c .if2 .taken)) ∙ device-shows _ (c .before .before .before .before .before .before .before .before .before .pre .1) _ _ (c .before .before .before .before .before .before .before .before .before .pre .2) (c .before .before .before .before .before .before .before .before .before .pre .0 .1) (c .before .before .before .before .before .before .before .before .before .pre .0 .2) _ (c .before .before .before .before .before .before .maximum .ensures) _ (c .before .before .before .before .before .at-most .ensures) (not-false _ (c .before .before .before .before .if1 .left)) _ _ (c .before .before .used .ensures) (c .before .all-at-most .ensures)) refl
+returns-2 c =
+    let s4 = c .before .before .before .before in
+    let s5 = s4 .before in
+    let s6 = s5 .before in
+    let s9 = s6 .before .before .before in
+    tried-left _ _ _ (sym (not-true _ (c .if2 .taken)) ∙ device-shows _ (s9 .pre .1) _ _ (s9 .pre .2) (s9 .pre .0 .1) (s9 .pre .0 .2) _
+    (s6 .maximum .ensures) _ (s5 .at-most .ensures) (not-false _ (s4 .if1 .left)) _ _ (c .before .before .used .ensures)
+    (c .before .all-at-most .ensures)) refl
 
 set-level-requires : tie.Need-set-level-requires
 set-level-requires c κs = search needs
@@ -44,7 +54,17 @@ same-length-3 : tie.Need-same-length-3
 same-length-3 c = search needs
 
 returns-3 : tie.Need-returns-3
-returns-3 c = tried-set _ _ _ (sym (not-false _ (c .before .before .before .before .if2 .left)) ∙ device-shows _ (c .before .before .before .before .before .before .before .before .before .before .before .before .before .pre .1) _ _ (c .before .before .before .before .before .before .before .before .before .before .before .before .before .pre .2) (c .before .before .before .before .before .before .before .before .before .before .before .before .before .pre .0 .1) (c .before .before .before .before .before .before .before .before .before .before .before .before .before .pre .0 .2) _ (c .before .before .before .before .before .before .before .before .before .before .maximum .ensures) _ (c .before .before .before .before .before .before .before .before .before .at-most .ensures) (not-false _ (c .before .before .before .before .before .before .before .before .if1 .left)) _ _ (c .before .before .before .before .before .before .used .ensures) (c .before .before .before .before .before .all-at-most .ensures)) (c .before .before .set-level .ensures)
+returns-3 c =
+    let s4 = c .before .before .before .before in
+    let s5 = s4 .before in
+    let s6 = s5 .before in
+    let s8 = s6 .before .before in
+    let s9 = s8 .before in
+    let s10 = s9 .before in
+    let s13 = s10 .before .before .before in
+    tried-set _ _ _ (sym (not-false _ (s4 .if2 .left)) ∙ device-shows _ (s13 .pre .1) _ _ (s13 .pre .2) (s13 .pre .0 .1) (s13 .pre .0 .2) _
+    (s10 .maximum .ensures) _ (s9 .at-most .ensures) (not-false _ (s8 .if1 .left)) _ _ (s6 .used .ensures) (s5 .all-at-most .ensures))
+    (c .before .before .set-level .ensures)
 
 pub try-device-level-spec : {M : Type 1} → statement M
 try-device-level-spec =

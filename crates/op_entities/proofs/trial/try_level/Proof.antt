@@ -32,7 +32,15 @@ same-length-2 : tie.Need-same-length-2
 same-length-2 c = search needs
 
 returns-2 : tie.Need-returns-2
-returns-2 c = tried-back _ _ _ _ _ (c .before .before .before .before .before .is-secure .ensures) (c .before .before .before .before .if1 .left) (c .before .before .before .before .before .before .before .before .before .set-level .ensures) (entity-back _ _ _ _ level _ _ (c .before .before .before .before .before .before .before .before .before .before .before .before .before .before .pre .0) (c .before .before .set-level2 .kept .0 ∙ c .before .before .before .before .before .before .before .before .before .set-level .kept .0 ∙ c .before .before .before .before .before .before .before .before .before .before .before .before .before .before .pre .0) (c .before .before .before .before .before .before .before .before .before .before .before .level .ensures) (c .before .before .before .before .before .before .before .before .before .set-level .ensures) (c .before .before .set-level2 .ensures))
+returns-2 c =
+    let s4 = c .before .before .before .before in
+    let s5 = s4 .before in
+    let s9 = s5 .before .before .before .before in
+    let s11 = s9 .before .before in
+    let s14 = s11 .before .before .before in
+    tried-back _ _ _ _ _ (s5 .is-secure .ensures) (s4 .if1 .left) (s9 .set-level .ensures)
+    (entity-back _ _ _ _ level _ _ (s14 .pre .0) (c .before .before .set-level2 .kept .0 ∙ s9 .set-level .kept .0 ∙ s14 .pre .0) (s11 .level .ensures)
+    (s9 .set-level .ensures) (c .before .before .set-level2 .ensures))
 
 pub try-level-spec : {M : Type 1} → statement M
 try-level-spec =

@@ -34,7 +34,15 @@ same-length : tie.Need-same-length
 same-length c = search needs
 
 returns : tie.Need-returns
-returns c = bear-stores (tablesOf (c .before .before .before .before .before .before .before .before .before .before .before .before .before .before .before .before .before .before .before .args .t .now)) _ _ _ _ _ _ _ (c .before .before .before .before .before .before .before .before .before .before .before .before .before .before .before .before .sort-kind .ensures) (c .before .before .before .before .before .before .before .before .before .before .before .sort-type .ensures) _ _ _ _ (c .before .before .before .before .before .before .before .before .before .before .before .before .before .before .before .set-kind .ensures) (c .before .before .before .before .before .before .before .before .before .before .set-type .ensures) (c .before .before .before .before .before .before .set-level .ensures) (c .before .before .copy-triples .ensures)
+returns c =
+    let s6 = c .before .before .before .before .before .before in
+    let s10 = s6 .before .before .before .before in
+    let s11 = s10 .before in
+    let s15 = s11 .before .before .before .before in
+    let s16 = s15 .before in
+    let s19 = s16 .before .before .before in
+    bear-stores (tablesOf (s19 .args .t .now)) _ _ _ _ _ _ _ (s16 .sort-kind .ensures) (s11 .sort-type .ensures) _ _ _ _ (s15 .set-kind .ensures)
+    (s10 .set-type .ensures) (s6 .set-level .ensures) (c .before .before .copy-triples .ensures)
 
 pub bear-spec : {M : Type 1} → statement M
 bear-spec =

@@ -36,7 +36,15 @@ loop-less : tie.Need-loop-less Inv-loop μ-loop
 loop-less c = omega arith
 
 loop-again : tie.Need-loop-again Inv-loop μ-loop
-loop-again c = (search needs, omega arith, copying-step _ _ (tablesOf (c .before .before .before .before .before .before .before .before .before .args .t .now)) _ _ _ _ (c .before .before .before .before .before .before .before .loop .inv .2) (c .before .before .before .before .triple .ensures) (c .before .before .set-triple .ensures))
+loop-again c =
+    let s4 : _ → _ = λ _. c .before .before .before .before in
+    let s7 : _ → _ = λ _. s4 c .before .before .before in
+    let s9 : _ → _ = λ _. s7 c .before .before in (
+      search needs,
+      omega arith,
+      copying-step _ _ (tablesOf (s9 c .args .t .now)) _ _ _ _ (s7 c .loop .inv .2) (s4 c .triple .ensures)
+          (c .before .before .set-triple .ensures),
+    )
 
 same-length : tie.Need-same-length Inv-loop μ-loop
 same-length c = search needs

@@ -33,7 +33,14 @@ loop-less : tie.Need-loop-less Inv-loop μ-loop
 loop-less c = omega arith
 
 loop-again : tie.Need-loop-again Inv-loop μ-loop
-loop-again c = (search needs, omega arith, blank-step _ _ (bounded _) _ _ _ (c .before .before .before .before .loop-test .taken) (c .before .before .before .before .before .loop .inv .2) (c .before .before .set-entity-at .ensures))
+loop-again c =
+    let s4 : _ → _ = λ _. c .before .before .before .before in
+    let s5 : _ → _ = λ _. s4 c .before in (
+      search needs,
+      omega arith,
+      blank-step _ _ (bounded _) _ _ _ (s4 c .loop-test .taken) (s5 c .loop .inv .2)
+          (c .before .before .set-entity-at .ensures),
+    )
 
 same-length : tie.Need-same-length Inv-loop μ-loop
 same-length c = search needs

@@ -25,7 +25,12 @@ same-length : tie.Need-same-length
 same-length c = search needs
 
 returns : tie.Need-returns
-returns c = put-stores (tablesOf (c .before .before .before .before .before .before .before .before .before .before .before .args .t .now)) _ _ _ (c .before .before .before .before .before .before .before .before .used .ensures) (c .before .before .before .before .before .before .before .before .before .before .before .pre .2) _ _ (c .before .before .before .before .before .before .set-place .ensures) (c .before .before .set-used .ensures)
+returns c =
+    let s6 = c .before .before .before .before .before .before in
+    let s8 = s6 .before .before in
+    let s11 = s8 .before .before .before in
+    put-stores (tablesOf (s11 .args .t .now)) _ _ _ (s8 .used .ensures) (s11 .pre .2) _ _ (s6 .set-place .ensures)
+    (c .before .before .set-used .ensures)
 
 pub put-last-spec : {M : Type 1} → statement M
 put-last-spec =

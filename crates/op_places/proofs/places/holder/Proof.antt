@@ -30,7 +30,10 @@ add-t8 : tie.Need-add-t8 Inv-loop μ-loop
 add-t8 c = omega arith
 
 returns : tie.Need-returns Inv-loop μ-loop
-returns c = parent-here (tablesOf (c .before .before .before .before .before .args .t .now)) _ _ (c .before .before .loop-test .taken) (c .before .before .before .loop .inv .1) (sym (c .before .stands-in .ensures) ∙ c .if1 .taken)
+returns c =
+    let s5 = c .before .before .before .before .before in
+    parent-here (tablesOf (s5 .args .t .now)) _ _ (c .before .before .loop-test .taken) (c .before .before .before .loop .inv .1)
+    (sym (c .before .stands-in .ensures) ∙ c .if1 .taken)
 
 add-i : tie.Need-add-i Inv-loop μ-loop
 add-i c = omega arith
@@ -39,7 +42,12 @@ loop-less : tie.Need-loop-less Inv-loop μ-loop
 loop-less c = omega arith
 
 loop-again : tie.Need-loop-again Inv-loop μ-loop
-loop-again c = (omega arith, unheld-more (tablesOf (c .before .before .before .before .before .args .t .now)) _ _ (c .before .before .before .loop .inv .1) (sym (c .before .stands-in .ensures) ∙ c .if1 .left))
+loop-again c =
+    let s5 : _ → _ = λ _. c .before .before .before .before .before in (
+      omega arith,
+      unheld-more (tablesOf (s5 c .args .t .now)) _ _ (c .before .before .before .loop .inv .1)
+          (sym (c .before .stands-in .ensures) ∙ c .if1 .left),
+    )
 
 returns-2 : tie.Need-returns-2 Inv-loop μ-loop
 returns-2 c = parent-none (tablesOf (c .before .before .before .args .t .now)) _ (c .before .loop .i) (omega arith) (c .before .loop .inv .1)

@@ -22,13 +22,20 @@ loop-holds : tie.Need-loop-holds Inv-loop μ-loop
 loop-holds c = (omega arith, search needs, refl)
 
 returns : tie.Need-returns Inv-loop μ-loop
-returns c = climb-met (parentIn (tablesOf (c .before .before .before .before .before .before .args .t .now))) _ (65 - c .before .before .before .before .loop .i) _ (omega arith) (c .if1 .taken) ∙ c .before .before .before .before .loop .inv .2
+returns c =
+    let s4 : _ → _ = λ _. c .before .before .before .before in
+    let s6 : _ → _ = λ _. s4 c .before .before in
+    climb-met (parentIn (tablesOf (s6 c .args .t .now))) _ (65 - s4 c .loop .i) _ (omega arith) (c .if1 .taken) ∙ s4 c .loop .inv .2
 
 holder-requires : tie.Need-holder-requires Inv-loop μ-loop
 holder-requires c κs = search needs
 
 returns-2 : tie.Need-returns-2 Inv-loop μ-loop
-returns-2 c = climb-top (parentIn (tablesOf (c .before .before .before .before .before .before .before .before .before .args .t .now))) _ (65 - c .before .before .before .before .before .before .before .loop .i) _ (c .before .before .before .if1 .left) (sym (c .before .before .holder .ensures) ∙ c .if2 .taken) ∙ c .before .before .before .before .before .before .before .loop .inv .2
+returns-2 c =
+    let s7 = c .before .before .before .before .before .before .before in
+    let s9 = s7 .before .before in
+    climb-top (parentIn (tablesOf (s9 .args .t .now))) _ (65 - s7 .loop .i) _ (c .before .before .before .if1 .left)
+    (sym (c .before .before .holder .ensures) ∙ c .if2 .taken) ∙ s7 .loop .inv .2
 
 add-i : tie.Need-add-i Inv-loop μ-loop
 add-i c = omega arith
@@ -37,7 +44,14 @@ loop-less : tie.Need-loop-less Inv-loop μ-loop
 loop-less c = omega arith
 
 loop-again : tie.Need-loop-again Inv-loop μ-loop
-loop-again c = (omega arith, omega (arith, c .if2 .left), climb-on (parentIn (tablesOf (c .before .before .before .before .before .before .before .before .before .args .t .now))) _ _ _ _ _ (omega arith) (c .before .before .holder .ensures) (c .before .before .before .if1 .left) (c .if2 .left) ∙ c .before .before .before .before .before .before .before .loop .inv .2)
+loop-again c =
+    let s7 : _ → _ = λ _. c .before .before .before .before .before .before .before in
+    let s9 : _ → _ = λ _. s7 c .before .before in (
+      omega arith,
+      omega (arith, c .if2 .left),
+      climb-on (parentIn (tablesOf (s9 c .args .t .now))) _ _ _ _ _ (omega arith)
+          (c .before .before .holder .ensures) (c .before .before .before .if1 .left) (c .if2 .left) ∙ s7 c .loop .inv .2,
+    )
 
 returns-3 : tie.Need-returns-3 Inv-loop μ-loop
 returns-3 c = climb-end (parentIn (tablesOf (c .before .before .before .args .t .now))) _ (65 - c .before .loop .i) _ (omega arith) ∙ c .before .loop .inv .2

@@ -12,7 +12,9 @@ used-requires : tie.Need-used-requires
 used-requires c κs = search needs
 
 returns : tie.Need-returns
-returns c = inside-empty (tablesOf (c .before .before .before .before .before .args .t .now)) (c .before .before .before .before .before .pre .1) _ _ _ (c .before .before .before .used .ensures) (c .before .before .if1 .taken)
+returns c =
+    let s5 = c .before .before .before .before .before in
+    inside-empty (tablesOf (s5 .args .t .now)) (s5 .pre .1) _ _ _ (c .before .before .before .used .ensures) (c .before .before .if1 .taken)
 
 inside-requires : tie.Need-inside-requires
 inside-requires c κs = search needs

@@ -17,7 +17,9 @@ kind-requires : tie.Need-kind-requires
 kind-requires c κs = search needs
 
 returns-2 : tie.Need-returns-2
-returns-2 c = stands-there _ (c .before .before .before .before .pre .1) _ _ _ (c .before .before .before .before .pre .2) _ (c .before .before .holds .ensures) (c .before .if1 .left) _ (c .kind .ensures)
+returns-2 c =
+    let s4 = c .before .before .before .before in
+    stands-there _ (s4 .pre .1) _ _ _ (s4 .pre .2) _ (c .before .before .holds .ensures) (c .before .if1 .left) _ (c .kind .ensures)
 
 pub stands-in-spec : {M : Type 1} → statement M
 stands-in-spec = tie.close (tie.spec holds-requires returns kind-requires returns-2)

@@ -31,7 +31,10 @@ add-result : tie.Need-add-result Inv-loop μ-loop
 add-result c = omega arith
 
 returns : tie.Need-returns Inv-loop μ-loop
-returns c = vacant-here (tablesOf (c .before .before .before .before .before .args .t .now)) _ (c .before .before .loop-test .taken) (c .before .before .before .loop .inv .1) (sym (c .before .kind .ensures) ∙ c .if1 .taken)
+returns c =
+    let s5 = c .before .before .before .before .before in
+    vacant-here (tablesOf (s5 .args .t .now)) _ (c .before .before .loop-test .taken) (c .before .before .before .loop .inv .1)
+    (sym (c .before .kind .ensures) ∙ c .if1 .taken)
 
 add-i : tie.Need-add-i Inv-loop μ-loop
 add-i c = omega arith
@@ -40,7 +43,12 @@ loop-less : tie.Need-loop-less Inv-loop μ-loop
 loop-less c = omega arith
 
 loop-again : tie.Need-loop-again Inv-loop μ-loop
-loop-again c = (omega arith, present-more (tablesOf (c .before .before .before .before .before .args .t .now)) _ (c .before .before .before .loop .inv .1) (λ z. c .if1 .left (c .before .kind .ensures ∙ z)))
+loop-again c =
+    let s5 : _ → _ = λ _. c .before .before .before .before .before in (
+      omega arith,
+      present-more (tablesOf (s5 c .args .t .now)) _ (c .before .before .before .loop .inv .1)
+          (λ z. c .if1 .left (c .before .kind .ensures ∙ z)),
+    )
 
 returns-2 : tie.Need-returns-2 Inv-loop μ-loop
 returns-2 c = vacant-none (tablesOf (c .before .before .before .args .t .now)) (c .before .loop .i) (omega arith) (c .before .loop .inv .1)

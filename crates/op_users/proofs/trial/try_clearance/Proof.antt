@@ -24,19 +24,40 @@ same-length : tie.Need-same-length
 same-length c = search needs
 
 returns : tie.Need-returns
-returns c = tried-set _ _ _ (clearance-off _ (c .before .before .before .before .before .before .before .before .before .pre .1) _ _ (c .before .before .before .before .before .before .before .before .before .pre .0 .1) (c .before .before .before .before .before .before .before .before .before .pre .0 .2) _ (c .before .before .before .before .before .before .device .ensures) (c .before .before .before .before .if1 .taken)) (c .before .before .set-clearance .ensures)
+returns c =
+    let s4 = c .before .before .before .before in
+    let s6 = s4 .before .before in
+    let s9 = s6 .before .before .before in
+    tried-set _ _ _ (clearance-off _ (s9 .pre .1) _ _ (s9 .pre .0 .1) (s9 .pre .0 .2) _ (s6 .device .ensures) (s4 .if1 .taken))
+    (c .before .before .set-clearance .ensures)
 
 used-requires : tie.Need-used-requires
-used-requires c κs = let r = device-there _ (c .before .before .before .before .before .before .pre .1 .0) _ (λ q. c .before .if1 .left (c .before .before .before .device .ensures ∙ q)) in (c .before .before .before .before .before .before .pre .0 .0, omega (arith, c .before .before .before .device .ensures, r .0), omega (arith, c .before .before .before .device .ensures, r .1))
+used-requires c κs =
+    let s6 : _ → _ = λ _. c .before .before .before .before .before .before in
+    let r = device-there _ (s6 c .pre .1 .0) _ (λ q. c .before .if1 .left (c .before .before .before .device .ensures ∙ q)) in (
+      s6 c .pre .0 .0,
+      omega (arith, c .before .before .before .device .ensures, r .0),
+      omega
+          (arith, c .before .before .before .device .ensures, r .1),
+    )
 
 all-at-most-requires : tie.Need-all-at-most-requires
-all-at-most-requires c κs = let r = device-there _ (c .before .before .before .before .before .before .before .pre .1 .0) _ (λ q. c .before .before .if1 .left (c .before .before .before .before .device .ensures ∙ q)) in ((c .before .before .before .before .before .before .before .pre .0 .0, omega (arith, c .before .before .before .before .device .ensures, r .0), omega (arith, c .before .before .before .before .device .ensures, r .1)), c .before .before .before .before .before .before .before .pre .1 .0, c .used .ensures)
+all-at-most-requires c κs =
+    let s4 : _ → _ = λ _. c .before .before .before .before in
+    let s7 : _ → _ = λ _. s4 c .before .before .before in
+    let r = device-there _ (s7 c .pre .1 .0) _ (λ q. c .before .before .if1 .left (s4 c .device .ensures ∙ q)) in
+    ((s7 c .pre .0 .0, omega (arith, s4 c .device .ensures, r .0), omega (arith, s4 c .device .ensures, r .1)), s7 c .pre .1 .0, c .used .ensures)
 
 same-length-2 : tie.Need-same-length-2
 same-length-2 c = search needs
 
 returns-2 : tie.Need-returns-2
-returns-2 c = tried-left _ _ _ (sym (not-true _ (c .if2 .taken)) ∙ clearance-on _ (c .before .before .before .before .before .before .before .before .before .pre .1) _ _ (c .before .before .before .before .before .before .before .before .before .pre .0 .1) (c .before .before .before .before .before .before .before .before .before .pre .0 .2) _ _ _ (c .before .before .before .before .before .before .device .ensures) (c .before .before .before .before .if1 .left) (c .before .before .used .ensures) (c .before .all-at-most .ensures)) refl
+returns-2 c =
+    let s4 = c .before .before .before .before in
+    let s6 = s4 .before .before in
+    let s9 = s6 .before .before .before in
+    tried-left _ _ _ (sym (not-true _ (c .if2 .taken)) ∙ clearance-on _ (s9 .pre .1) _ _ (s9 .pre .0 .1) (s9 .pre .0 .2) _ _ _ (s6 .device .ensures)
+    (s4 .if1 .left) (c .before .before .used .ensures) (c .before .all-at-most .ensures)) refl
 
 set-clearance-requires-2 : tie.Need-set-clearance-requires-2
 set-clearance-requires-2 c κs = search needs
@@ -45,7 +66,15 @@ same-length-3 : tie.Need-same-length-3
 same-length-3 c = search needs
 
 returns-3 : tie.Need-returns-3
-returns-3 c = tried-set _ _ _ (sym (not-false _ (c .before .before .before .before .if2 .left)) ∙ clearance-on _ (c .before .before .before .before .before .before .before .before .before .before .before .before .before .pre .1) _ _ (c .before .before .before .before .before .before .before .before .before .before .before .before .before .pre .0 .1) (c .before .before .before .before .before .before .before .before .before .before .before .before .before .pre .0 .2) _ _ _ (c .before .before .before .before .before .before .before .before .before .before .device .ensures) (c .before .before .before .before .before .before .before .before .if1 .left) (c .before .before .before .before .before .before .used .ensures) (c .before .before .before .before .before .all-at-most .ensures)) (c .before .before .set-clearance2 .ensures)
+returns-3 c =
+    let s4 = c .before .before .before .before in
+    let s5 = s4 .before in
+    let s6 = s5 .before in
+    let s8 = s6 .before .before in
+    let s10 = s8 .before .before in
+    let s13 = s10 .before .before .before in
+    tried-set _ _ _ (sym (not-false _ (s4 .if2 .left)) ∙ clearance-on _ (s13 .pre .1) _ _ (s13 .pre .0 .1) (s13 .pre .0 .2) _ _ _
+    (s10 .device .ensures) (s8 .if1 .left) (s6 .used .ensures) (s5 .all-at-most .ensures)) (c .before .before .set-clearance2 .ensures)
 
 pub try-clearance-spec : {M : Type 1} → statement M
 try-clearance-spec =

@@ -77,7 +77,8 @@ part-first-ref-start c = search needs
 
 part-first-ref-end : tie.Need-part-first-ref-end
 part-first-ref-end c =
-    let a = c .before .before .before .before .before .before .before .before .before .before .before .before in
+    let s12 : _ → _ = λ _. c .before .before .before .before .before .before .before .before .before .before .before .before in
+    let a = s12 c in
     rw (a .pre .1) (omega arith)
 
 first-ref-requires : tie.Need-first-ref-requires
@@ -98,7 +99,8 @@ same-length c = search needs
 
 returns-3 : tie.Need-returns-3
 returns-3 c =
-    let l3 = c .before .before .before .before in
+    let s4 = c .before .before .before .before in
+    let l3 = s4 in
     let v2 = l3 .before .before .before in
     let l2 = v2 .before .before in
     let v1 = l2 .before .before .before in
@@ -114,7 +116,8 @@ part-second-ref-start c = search needs
 
 part-second-ref-end : tie.Need-part-second-ref-end
 part-second-ref-end c =
-    let l3 = c .before .before .before .before .before in
+    let s5 : _ → _ = λ _. c .before .before .before .before .before in
+    let l3 = s5 c in
     let a = l3 .before .before .before .before .before .before .before .before .before .before .before .before .before .before in
     omega (arith, first-length (a .args .w .now) (l3 .first-ref .last .1 .1 .0) (a .pre .1) (l3 .first-ref .kept .1 .1 .0))
 
@@ -137,7 +140,8 @@ same-length-2 c = search needs
 
 returns-4 : tie.Need-returns-4
 returns-4 c =
-    let l4 = c .before .before .before .before in
+    let s4 = c .before .before .before .before in
+    let l4 = s4 in
     let v3 = l4 .before .before .before in
     let l3 = v3 .before .before .before .before in
     let v2 = l3 .before .before .before in

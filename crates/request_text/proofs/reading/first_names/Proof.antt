@@ -37,10 +37,10 @@ mul-out c = search needs
 
 slice-write-out : tie.Need-slice-write-out Inv-loop μ-loop
 slice-write-out c =
-    let s5 = c .before .before .before .before .before in
-    let s8 = s5 .before .before .before in
-    let l = s5 .loop in
-    let pre = s8 .pre in
+    let s5 : _ → _ = λ _. c .before .before .before .before .before in
+    let s8 : _ → _ = λ _. s5 c .before .before .before in
+    let l = s5 c .loop in
+    let pre = s8 c .pre in
     omega (arith, l .inv .2, pre .1)
 
 add-k : tie.Need-add-k Inv-loop μ-loop
@@ -51,14 +51,14 @@ same-length-2 c = simp length-set (c .before .before .before .before .before .be
 
 returns-2 : tie.Need-returns-2 Inv-loop μ-loop
 returns-2 c =
-    let s4 = c .before .before .before .before in
-    let s6 = s4 .before .before in
-    let s9 = s6 .before .before .before in
+    let s4 : _ → _ = λ _. c .before .before .before .before in
+    let s6 : _ → _ = λ _. s4 c .before .before in
+    let s9 : _ → _ = λ _. s6 c .before .before .before in
     let if1 = c .if1 in
     let v = c .before .before .v in
-    let read-number = s4 .read-number in
-    let l = s6 .loop in
-    let pre = s9 .pre in
+    let read-number = s4 c .read-number in
+    let l = s6 c .loop in
+    let pre = s9 c .pre in
     let number = rw (v .given .1) at (read-number .ensures) in
     names-end (l .inv .3) (l .inv .0) (omega (arith, l .inv .2, pre .1)) number (further-end _ _ (furtherMost - l .k) (if1 .taken))
 
@@ -72,16 +72,16 @@ same-length-3 c =
 
 returns-3 : tie.Need-returns-3 Inv-loop μ-loop
 returns-3 c =
-    let s4 = c .before .before .before .before in
-    let s6 = s4 .before .before in
-    let s8 = s6 .before .before in
-    let s11 = s8 .before .before .before in
+    let s4 : _ → _ = λ _. c .before .before .before .before in
+    let s6 : _ → _ = λ _. s4 c .before .before in
+    let s8 : _ → _ = λ _. s6 c .before .before in
+    let s11 : _ → _ = λ _. s8 c .before .before .before in
     let if2 = c .if2 in
     let if1 = c .before .before .if1 in
-    let v = s4 .v in
-    let read-number = s6 .read-number in
-    let l = s8 .loop in
-    let pre = s11 .pre in
+    let v = s4 c .v in
+    let read-number = s6 c .read-number in
+    let l = s8 c .loop in
+    let pre = s11 c .pre in
     let number = rw (v .given .1) at (read-number .ensures) in
     names-end (l .inv .3) (l .inv .0) (omega (arith, l .inv .2, pre .1)) number (no-dot _ _ (furtherMost - l .k) (if1 .left) (if2 .taken))
 
@@ -93,18 +93,18 @@ loop-less c = search needs
 
 loop-again : tie.Need-loop-again Inv-loop μ-loop
 loop-again c =
-    let s4 = c .before .before .before .before in
-    let s6 = s4 .before .before in
-    let s7 = s6 .before in
-    let s8 = s7 .before in
-    let s11 = s8 .before .before .before in
+    let s4 : _ → _ = λ _. c .before .before .before .before in
+    let s6 : _ → _ = λ _. s4 c .before .before in
+    let s7 : _ → _ = λ _. s6 c .before in
+    let s8 : _ → _ = λ _. s7 c .before in
+    let s11 : _ → _ = λ _. s8 c .before .before .before in
     let if2 = c .if2 in
     let if1 = c .before .before .if1 in
-    let v = s4 .v in
-    let read-number = s6 .read-number in
-    let test = s7 .loop-test in
-    let l = s8 .loop in
-    let pre = s11 .pre in
+    let v = s4 c .v in
+    let read-number = s6 c .read-number in
+    let test = s7 c .loop-test in
+    let l = s8 c .loop in
+    let pre = s11 c .pre in
     let number = rw (v .given .1) at (read-number .ensures) in
     let turn = names-turn (l .inv .3) (test .taken) (omega (arith, l .inv .2, pre .1)) number (if1 .left) (if2 .left) in
     (omega arith, omega arith, simp length-set (l .inv .2), turn)
@@ -131,10 +131,10 @@ returns-4 c =
 
 slice-write-out-2 : tie.Need-slice-write-out-2 Inv-loop μ-loop
 slice-write-out-2 c =
-    let s5 = c .before .before .before .before .before in
-    let s8 = s5 .before .before .before in
-    let l = s5 .loop in
-    let pre = s8 .pre in
+    let s5 : _ → _ = λ _. c .before .before .before .before .before in
+    let s8 : _ → _ = λ _. s5 c .before .before .before in
+    let l = s5 c .loop in
+    let pre = s8 c .pre in
     omega (arith, l .inv .2, pre .1)
 
 same-length-5 : tie.Need-same-length-5 Inv-loop μ-loop
@@ -142,12 +142,12 @@ same-length-5 c = simp length-set (c .before .before .before .before .before .lo
 
 returns-5 : tie.Need-returns-5 Inv-loop μ-loop
 returns-5 c =
-    let s5 = c .before .before .before .before .before in
-    let s8 = s5 .before .before .before in
+    let s5 : _ → _ = λ _. c .before .before .before .before .before in
+    let s8 : _ → _ = λ _. s5 c .before .before .before in
     let last = c .before .last in
     let read-number2 = c .before .before .before .read-number2 in
-    let l = s5 .loop in
-    let pre = s8 .pre in
+    let l = s5 c .loop in
+    let pre = s8 c .pre in
     names-last (l .inv .3) (omega arith) (omega (arith, l .inv .2, pre .1)) (rw (last .given .1) at (read-number2 .ensures))
 
 pub first-names-spec : {M : Type 1} → statement M

@@ -32,7 +32,8 @@ add-n c = omega (arith, digits-bound _ (c .number-len .ensures))
 
 add-n-2 : tie.Need-add-n-2 Inv-loop μ-loop
 add-n-2 c =
-    let s = c .before .before .before .before .before in
+    let s5 : _ → _ = λ _. c .before .before .before .before .before in
+    let s = s5 c in
     let l = c .before .before .before .loop in
     omega (arith, digits-bound _ (c .number-len .ensures), l .inv .1, taken-most (s .args .names .now) (l .i) (s .pre))
 
@@ -44,9 +45,9 @@ loop-less c = search needs
 
 loop-again : tie.Need-loop-again Inv-loop μ-loop
 loop-again c =
-    let s5 = c .before .before .before .before .before in
+    let s5 : _ → _ = λ _. c .before .before .before .before .before in
     let l = c .before .before .before .loop in
-    (omega arith, rw (c .number-len .ensures, l .inv .1) (sym (dotted-turn (s5 .args .names .now) (l .i) (c .before .before .loop-test .taken))))
+    (omega arith, rw (c .number-len .ensures, l .inv .1) (sym (dotted-turn (s5 c .args .names .now) (l .i) (c .before .before .loop-test .taken))))
 
 -- all names were gone through
 counted : (c : tie.After-loop Inv-loop μ-loop) → c .before .loop .n - 1 ≡ length (joined (c .before .before .before .args .names .now))

@@ -13,30 +13,33 @@ use Rattle.request_text.proofs.writing.need.Tie as tie
 -- how long the names can be at most
 names-most : (c : tie.After-names-len2) → c .before .before .names-len .result + c .names-len2 .result < 2 * dottedMost
 names-most c =
-    let s = c .before .before .before .before .before in
+    let s5 : _ → _ = λ _. c .before .before .before .before .before in
+    let s = s5 c in
     omega (
       arith,
       names-bound _ (c .before .before .names-len .ensures) (c .before .before .before .first-names .ensures) (s .pre .first),
-      names-bound _ (c .names-len2 .ensures) (c .before .second-names .ensures) (s .pre .second),
+      names-bound
+          _ (c .names-len2 .ensures) (c .before .second-names .ensures) (s .pre .second),
     )
 
 -- how long the numbers can be at most
 first-most : (c : tie.After-number-len5) → c .before .before .before .before .before .before .before .before .number-len .result
     + c .before .before .before .before .before .before .number-len2 .result ≤ 2 * digitCount
 first-most c =
-    let s6 = c .before .before .before .before .before .before in
-    let s8 = s6 .before .before in
-    omega (arith, digits-bound _ (s8 .number-len .ensures), digits-bound _ (s6 .number-len2 .ensures))
+    let s6 : _ → _ = λ _. c .before .before .before .before .before .before in
+    let s8 : _ → _ = λ _. s6 c .before .before in
+    omega (arith, digits-bound _ (s8 c .number-len .ensures), digits-bound _ (s6 c .number-len2 .ensures))
 
 last-most : (c : tie.After-number-len5) → c .before .before .before .before .number-len3 .result
     + (c .before .before .number-len4 .result + c .number-len5 .result) ≤ 3 * digitCount
 last-most c =
-    let s4 = c .before .before .before .before in
+    let s4 : _ → _ = λ _. c .before .before .before .before in
     omega (
       arith,
-      digits-bound _ (s4 .number-len3 .ensures),
+      digits-bound _ (s4 c .number-len3 .ensures),
       digits-bound _ (c .before .before .number-len4 .ensures),
-      digits-bound _ (c .number-len5 .ensures),
+      digits-bound _
+          (c .number-len5 .ensures),
     )
 
 first-names-requires : tie.Need-first-names-requires
@@ -98,32 +101,39 @@ add-result c = omega (arith, last-most c, first-most c)
 
 add-result-2 : tie.Need-add-result-2
 add-result-2 c =
-    let s10 = c .before .before .before .before .before .before .before .before .before .before in
-    omega (arith, last-most c, first-most c, names-most s10)
+    let s10 : _ → _ = λ _. c .before .before .before .before .before .before .before .before .before .before in
+    omega (arith, last-most c, first-most c, names-most (s10 c))
 
 add-result-3 : tie.Need-add-result-3
 add-result-3 c =
-    let s10 = c .before .before .before .before .before .before .before .before .before .before in
-    omega (arith, last-most c, first-most c, names-most s10)
+    let s10 : _ → _ = λ _. c .before .before .before .before .before .before .before .before .before .before in
+    omega (arith, last-most c, first-most c, names-most (s10 c))
 
 returns : tie.Need-returns
 returns c =
-    let s4 = c .before .before .before .before in
-    let s6 = s4 .before .before in
-    let s8 = s6 .before .before in
-    let s10 = s8 .before .before in
-    let s12 = s10 .before .before in
-    let s15 = s12 .before .before .before in
+    let s4 : _ → _ = λ _. c .before .before .before .before in
+    let s5 : _ → _ = λ _. s4 c .before in
+    let s6 : _ → _ = λ _. s5 c .before in
+    let s7 : _ → _ = λ _. s6 c .before in
+    let s8 : _ → _ = λ _. s7 c .before in
+    let s9 : _ → _ = λ _. s8 c .before in
+    let s10 : _ → _ = λ _. s9 c .before in
+    let s11 : _ → _ = λ _. s10 c .before in
+    let s12 : _ → _ = λ _. s11 c .before in
+    let s13 : _ → _ = λ _. s12 c .before in
+    let s15 : _ → _ = λ _. s13 c .before .before in
     omega (
       arith,
-      rw (s12 .before .first-names .ensures) at (s12 .names-len .ensures),
-      rw (s10 .before .second-names .ensures) at (s10 .names-len2 .ensures),
-      rw (s8 .before .requester .ensures) at (s8 .number-len .ensures),
-      rw (s6 .before .operation .ensures) at (s6 .number-len2 .ensures),
-      rw (s4 .before .a .ensures) at (s4 .number-len3 .ensures),
+      rw (s13 c .first-names .ensures) at (s12 c .names-len .ensures),
+      rw (s11 c .second-names .ensures) at (s10 c .names-len2 .ensures),
+      rw (s9 c .requester .ensures) at (s8 c .number-len .ensures),
+      rw (s7 c .operation .ensures) at (s6 c .number-len2 .ensures),
+      rw (s5 c .a .ensures)
+          at (s4 c .number-len3 .ensures),
       rw (c .before .before .before .b .ensures) at (c .before .before .number-len4 .ensures),
-      rw (c .before .c .ensures) at (c .number-len5 .ensures),
-      need-values (wordingOf (requestOf (s15 .args .words .now))),
+      rw
+          (c .before .c .ensures) at (c .number-len5 .ensures),
+      need-values (wordingOf (requestOf (s15 c .args .words .now))),
     )
 
 pub need-spec : {M : Type 1} → statement M

@@ -62,7 +62,7 @@ returns-4 c =
     let s4 = c .before .before .before .before in
     let s5 = s4 .before in
     let s7 = s5 .before .before in
-    end-written _ _ (s7 .if1 .left) (texted s5) (enough s4) (c .before .before .write-text .ensures)
+    end-written _ _ (s7 .if1 .left) (texted (s5)) (enough (s4)) (c .before .before .write-text .ensures)
 
 pub write-spec : {M : Type 1} → statement M
 write-spec =

@@ -33,14 +33,16 @@ add-result c = search needs
 
 same-length : tie.Need-same-length
 same-length c =
-    let s = c .before .before .before .before .before in
+    let s5 : _ → _ = λ _. c .before .before .before .before .before in
+    let s = s5 c in
     let w = c .before .before .write-number in
     wrote-length (wrote-behind (wrote-byte dotByte (wrote-none (s .args .out .now)) (omega (arith, s .pre))) (w .ensures))
     (omega (arith, s .pre, w .ensures .many))
 
 returns : tie.Need-returns
 returns c =
-    let s = c .before .before .before .before .before in
+    let s5 : _ → _ = λ _. c .before .before .before .before .before in
+    let s = s5 c in
     wrote-behind (wrote-byte dotByte (wrote-none (s .args .out .now)) (omega (arith, s .pre))) (c .before .before .write-number .ensures)
 
 pub write-name-spec : {M : Type 1} → statement M

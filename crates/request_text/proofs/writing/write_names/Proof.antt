@@ -29,14 +29,14 @@ shared-slice-read-write-number c = search needs
 
 write-number-requires : tie.Need-write-number-requires Inv-loop μ-loop
 write-number-requires c κs =
-    let s5 = c .before .before .before .before .before in
-    omega (arith, s5 .pre, first-long (s5 .args .names .now) (omega (arith, c .before .before .if1 .left)))
+    let s5 : _ → _ = λ _. c .before .before .before .before .before in
+    omega (arith, s5 c .pre, first-long (s5 c .args .names .now) (omega (arith, c .before .before .if1 .left)))
 
 loop-holds : tie.Need-loop-holds Inv-loop μ-loop
 loop-holds c =
-    let s5 = c .before .before .before .before .before in
-    let s8 = s5 .before .before .before in
-    (refl, omega arith, λ d w. rw (joined-first (s8 .args .names .now) (omega (arith, s5 .if1 .left))) w)
+    let s5 : _ → _ = λ _. c .before .before .before .before .before in
+    let s8 : _ → _ = λ _. s5 c .before .before .before in
+    (refl, omega arith, λ d w. rw (joined-first (s8 c .args .names .now) (omega (arith, s5 c .if1 .left))) w)
 
 mul-put-name : tie.Need-mul-put-name Inv-loop μ-loop
 mul-put-name c = search needs
@@ -46,14 +46,14 @@ shared-slice-read-put-name c = search needs
 
 put-name-requires : tie.Need-put-name-requires Inv-loop μ-loop
 put-name-requires c κs =
-    let s6 = c .before .before .before .before .before .before in
-    let s12 = s6 .before .before .before .before .before .before in
-    puts-room (dotByte ∷ digits (getD (s12 .args .names .now) (c .before .before .before .loop .i) 0))
-    (c .before .before .before .loop .inv .2 (s12 .args .out .now) (s6 .write-number .ensures))
+    let s6 : _ → _ = λ _. c .before .before .before .before .before .before in
+    let s12 : _ → _ = λ _. s6 c .before .before .before .before .before .before in
+    puts-room (dotByte ∷ digits (getD (s12 c .args .names .now) (c .before .before .before .loop .i) 0))
+    (c .before .before .before .loop .inv .2 (s12 c .args .out .now) (s6 c .write-number .ensures))
     (omega (
       arith,
-      s12 .pre,
-      joined-room (s12 .args .names .now) (c .before .before .before .loop .i) (c .before .before .before .loop .inv .1)
+      s12 c .pre,
+      joined-room (s12 c .args .names .now) (c .before .before .before .loop .i) (c .before .before .before .loop .inv .1)
           (c .before .before .loop-test .taken),
     ))
 
@@ -65,14 +65,14 @@ loop-less c = search needs
 
 loop-again : tie.Need-loop-again Inv-loop μ-loop
 loop-again c =
-    let s5 = c .before .before .before .before .before in
-    let s6 = s5 .before in
-    let s15 = s6 .before .before .before .before .before .before .before .before .before in (
-      c .before .before .put-name .kept .0 ∙ s6 .loop .inv .0,
+    let s5 : _ → _ = λ _. c .before .before .before .before .before in
+    let s6 : _ → _ = λ _. s5 c .before in
+    let s15 : _ → _ = λ _. s6 c .before .before .before .before .before .before .before .before .before in (
+      c .before .before .put-name .kept .0 ∙ s6 c .loop .inv .0,
       omega arith,
       λ d w. rw
-          (joined-next (s15 .args .names .now) (s6 .loop .i) (s6 .loop .inv .1) (s5 .loop-test .taken))
-          (wrote-puts (s6 .loop .inv .2 d w) (c .before .before .put-name .ensures)),
+          (joined-next (s15 c .args .names .now) (s6 c .loop .i) (s6 c .loop .inv .1) (s5 c .loop-test .taken))
+          (wrote-puts (s6 c .loop .inv .2 d w) (c .before .before .put-name .ensures)),
     )
 
 same-length : tie.Need-same-length Inv-loop μ-loop

@@ -10,12 +10,13 @@ use Rattle.request_text.proofs.writing.write_ref.Tie as tie
 
 write-bytes-requires : tie.Need-write-bytes-requires
 write-bytes-requires c κs =
-    let s4 = c .before .before .before .before in
-    omega (arith, s4 .pre, length-line (s4 .args .key .now) (joined (s4 .args .names .now)))
+    let s4 : _ → _ = λ _. c .before .before .before .before in
+    omega (arith, s4 c .pre, length-line (s4 c .args .key .now) (joined (s4 c .args .names .now)))
 
 sub-write-names : tie.Need-sub-write-names
 sub-write-names c =
-    let s = c .before .before .before .before .before .before .before in
+    let s7 : _ → _ = λ _. c .before .before .before .before .before .before .before in
+    let s = s7 c in
     let w = c .before .before .write-bytes in
     omega (arith, s .pre, w .ensures .many, w .kept .0, length-line (s .args .key .now) (joined (s .args .names .now)))
 
@@ -27,9 +28,18 @@ part-write-names-end c = search needs
 
 write-names-requires : tie.Need-write-names-requires
 write-names-requires c κs =
-    let s = c .before .before .before .before .before .before .before .before in
+    let s8 : _ → _ = λ _. c .before .before .before .before .before .before .before .before in
+    let s = s8 c in
     let w = c .before .before .before .write-bytes in
-    omega (arith, s .pre, w .ensures .many, w .kept .0, length-line (s .args .key .now) (joined (s .args .names .now)), length-part (w .last .0) (w .result))
+    omega (
+      arith,
+      s .pre,
+      w .ensures .many,
+      w .kept .0,
+      length-line (s .args .key .now) (joined (s .args .names .now)),
+      length-part (w .last .0)
+          (w .result),
+    )
 
 -- where the names have been written: the key, and the names after it
 abbrev start : tie.After-slice-known3 → tie.Start
@@ -42,9 +52,7 @@ written : (c : tie.After-slice-known3)
     let k = c .before .before .before .before .before .before .write-bytes in
     let n = c .before .before .write-names in
     LineWrote (s .args .key .now) (joined (s .args .names .now)) (s .args .out .now) (k .last .0) (n .last .0) (k .result) (n .result)
-written c =
-    let s6 = c .before .before .before .before .before .before in
-    line-wrote (start c .pre) (s6 .write-bytes .ensures) (c .before .before .write-names .ensures)
+written c = line-wrote (start c .pre) (c .before .before .before .before .before .before .write-bytes .ensures) (c .before .before .write-names .ensures)
 
 add-end : tie.Need-add-end
 add-end c = omega (arith, written c .room)

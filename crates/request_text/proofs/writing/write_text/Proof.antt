@@ -63,8 +63,8 @@ start7 c = start6 (c .before .before .before .before .before .before)
 
 w7 : (c : tie.After-put-line4) → Wrote (textOf (said (start7 c))) (start7 c .args .out .now) (c .put-line4 .last .0) (c .put-line4 .result)
 w7 c =
-    rw (← upTo7-text (said (start7 c)))
-    (wrote-puts (w6 (c .before .before .before .before .before .before)) (rw (c .before .c .ensures) at (c .put-line4 .ensures)))
+    let s6 = c .before .before .before .before .before .before in
+    rw (← upTo7-text (said (start7 c))) (wrote-puts (w6 (s6)) (rw (c .before .c .ensures) at (c .put-line4 .ensures)))
 
 slice-aggregate-write-line : tie.Need-slice-aggregate-write-line
 slice-aggregate-write-line c = search needs
@@ -85,10 +85,9 @@ operation-requires c κs = search needs
 
 put-line-requires : tie.Need-put-line-requires
 put-line-requires c κs =
-    let s5 = c .before .before .before .before .before in
-    let s = start1 s5 in
-    rw (c .operation .ensures)
-    (puts-room (line opKey (digits (said s .operation))) (w1 s5) (omega (arith, room s, text-length (said s))))
+    let s5 : _ → _ = λ _. c .before .before .before .before .before in
+    let s = start1 (s5 c) in
+    rw (c .operation .ensures) (puts-room (line opKey (digits (said s .operation))) (w1 (s5 c)) (omega (arith, room s, text-length (said s))))
 
 slice-aggregate-put-ref : tie.Need-slice-aggregate-put-ref
 slice-aggregate-put-ref c = search needs
@@ -98,10 +97,10 @@ first-names-requires c κs = search needs
 
 put-ref-requires : tie.Need-put-ref-requires
 put-ref-requires c κs =
-    let s5 = c .before .before .before .before .before in
-    let s = start2 s5 in
-    rw (c .first-names .ensures)
-    (puts-room (line refKey (joined (said s .first))) (w2 s5) (simp length-append (omega (arith, room s, text-length (said s)))))
+    let s5 : _ → _ = λ _. c .before .before .before .before .before in
+    let s = start2 (s5 c) in
+    rw (c .first-names .ensures) (puts-room (line refKey (joined (said s .first))) (w2 (s5 c))
+    (simp length-append (omega (arith, room s, text-length (said s)))))
 
 slice-aggregate-put-ref-2 : tie.Need-slice-aggregate-put-ref-2
 slice-aggregate-put-ref-2 c = search needs
@@ -111,10 +110,10 @@ second-names-requires c κs = search needs
 
 put-ref-requires-2 : tie.Need-put-ref-requires-2
 put-ref-requires-2 c κs =
-    let s5 = c .before .before .before .before .before in
-    let s = start3 s5 in
-    rw (c .second-names .ensures)
-    (puts-room (line ref2Key (joined (said s .second))) (w3 s5) (simp length-append (omega (arith, room s, text-length (said s)))))
+    let s5 : _ → _ = λ _. c .before .before .before .before .before in
+    let s = start3 (s5 c) in
+    rw (c .second-names .ensures) (puts-room (line ref2Key (joined (said s .second))) (w3 (s5 c))
+    (simp length-append (omega (arith, room s, text-length (said s)))))
 
 slice-aggregate-put-line-2 : tie.Need-slice-aggregate-put-line-2
 slice-aggregate-put-line-2 c = search needs
@@ -124,10 +123,9 @@ a-requires c κs = start4 (c .before .before .before .before) .pre .0 .long
 
 put-line-requires-2 : tie.Need-put-line-requires-2
 put-line-requires-2 c κs =
-    let s5 = c .before .before .before .before .before in
-    let s = start4 s5 in
-    rw (c .a .ensures)
-    (puts-room (line aKey (digits (said s .a))) (w4 s5) (simp length-append (omega (arith, room s, text-length (said s)))))
+    let s5 : _ → _ = λ _. c .before .before .before .before .before in
+    let s = start4 (s5 c) in
+    rw (c .a .ensures) (puts-room (line aKey (digits (said s .a))) (w4 (s5 c)) (simp length-append (omega (arith, room s, text-length (said s)))))
 
 slice-aggregate-put-line-3 : tie.Need-slice-aggregate-put-line-3
 slice-aggregate-put-line-3 c = search needs
@@ -137,10 +135,9 @@ b-requires c κs = start5 (c .before .before .before .before) .pre .0 .long
 
 put-line-requires-3 : tie.Need-put-line-requires-3
 put-line-requires-3 c κs =
-    let s5 = c .before .before .before .before .before in
-    let s = start5 s5 in
-    rw (c .b .ensures)
-    (puts-room (line bKey (digits (said s .b))) (w5 s5) (simp length-append (omega (arith, room s, text-length (said s)))))
+    let s5 : _ → _ = λ _. c .before .before .before .before .before in
+    let s = start5 (s5 c) in
+    rw (c .b .ensures) (puts-room (line bKey (digits (said s .b))) (w5 (s5 c)) (simp length-append (omega (arith, room s, text-length (said s)))))
 
 slice-aggregate-put-line-4 : tie.Need-slice-aggregate-put-line-4
 slice-aggregate-put-line-4 c = search needs
@@ -150,10 +147,9 @@ c-requires c κs = start6 (c .before .before .before .before) .pre .0 .long
 
 put-line-requires-4 : tie.Need-put-line-requires-4
 put-line-requires-4 c κs =
-    let s5 = c .before .before .before .before .before in
-    let s = start6 s5 in
-    rw (c .c .ensures)
-    (puts-room (line cKey (digits (said s .c))) (w6 s5) (simp length-append (omega (arith, room s, text-length (said s)))))
+    let s5 : _ → _ = λ _. c .before .before .before .before .before in
+    let s = start6 (s5 c) in
+    rw (c .c .ensures) (puts-room (line cKey (digits (said s .c))) (w6 (s5 c)) (simp length-append (omega (arith, room s, text-length (said s)))))
 
 same-length : tie.Need-same-length
 same-length c = wrote-length (w7 (c .before .before)) (omega (arith, room (start7 (c .before .before)), w7 (c .before .before) .many))

@@ -18,10 +18,7 @@ write-report-requires : tie.Need-write-report-requires
 write-report-requires c κs = search needs
 
 add-result : tie.Need-add-result
-add-result c =
-    let s5 = c .before .before .before .before .before in
-    let l = report-length (fromCode (s5 .args .r)) in
-    search needs
+add-result c = let l = report-length (fromCode (c .before .before .before .before .before .args .r)) in search needs
 
 same-length : tie.Need-same-length
 same-length c = search needs

@@ -9,9 +9,7 @@ step-requires : tie.Need-step-requires
 step-requires c κs = search needs
 
 requester-requires : tie.Need-requester-requires
-requester-requires c κs =
-    let s4 = c .before .before .before .before in
-    settled-known (s4 .step .ensures) (inl (c .before .if1 .taken)) .0
+requester-requires c κs = settled-known (c .before .before .before .before .step .ensures) (inl (c .before .if1 .taken)) .0
 
 full-requires : tie.Need-full-requires
 full-requires c κs =
@@ -34,27 +32,25 @@ same-length-2 c = search needs
 
 returns-2 : tie.Need-returns-2
 returns-2 c =
-    let s5 = c .before .before .before .before .before in
-    settled-bare (s5 .step .ensures) _ (omega (arith, c .before .before .if1 .left)) (omega (arith, c .before .if2 .taken)) (c .bare .ensures)
+    let s5 : _ → _ = λ _. c .before .before .before .before .before in
+    settled-bare (s5 c .step .ensures) _ (omega (arith, c .before .before .if1 .left)) (omega (arith, c .before .if2 .taken)) (c .bare .ensures)
 
 requester-requires-2 : tie.Need-requester-requires-2
-requester-requires-2 c κs =
-    let s5 = c .before .before .before .before .before in
-    settled-known (s5 .step .ensures) (inr (omega (arith, c .before .if2 .left))) .0
+requester-requires-2 c κs = settled-known (c .before .before .before .before .before .step .ensures) (inr (omega (arith, c .before .if2 .left))) .0
 
 full-requires-2 : tie.Need-full-requires-2
 full-requires-2 c κs =
-    let s6 = c .before .before .before .before .before .before in
-    rw (c .requester2 .ensures) (settled-known (s6 .step .ensures) (inr (omega (arith, c .before .before .if2 .left))) .1)
+    let s6 : _ → _ = λ _. c .before .before .before .before .before .before in
+    rw (c .requester2 .ensures) (settled-known (s6 c .step .ensures) (inr (omega (arith, c .before .before .if2 .left))) .1)
 
 same-length-3 : tie.Need-same-length-3
 same-length-3 c = search needs
 
 returns-3 : tie.Need-returns-3
 returns-3 c =
-    let s7 = c .before .before .before .before .before .before .before in
+    let s7 : _ → _ = λ _. c .before .before .before .before .before .before .before in
     let e = rw (c .before .requester2 .ensures) at (c .full2 .ensures) in
-    settled-full (s7 .step .ensures) _ (inr (omega (arith, c .before .before .before .if2 .left))) e
+    settled-full (s7 c .step .ensures) _ (inr (omega (arith, c .before .before .before .if2 .left))) e
 
 pub settle-spec : {M : Type 1} → statement M
 settle-spec =

@@ -26,8 +26,8 @@ ends-line-requires c κs = search needs
 
 add-n : tie.Need-add-n Inv-loop μ-loop
 add-n c =
-    let s5 = c .before .before .before .before .before in
-    let l = ends-line-one (getD (s5 .args .s .now) (c .before .before .before .loop .i) 0) in
+    let s5 : _ → _ = λ _. c .before .before .before .before .before in
+    let l = ends-line-one (getD (s5 c .args .s .now) (c .before .before .before .loop .i) 0) in
     let e = c .ends-line .ensures in
     let k = c .before .before .before .loop .inv .2 in
     search needs
@@ -40,12 +40,13 @@ loop-less c = omega arith
 
 loop-again : tie.Need-loop-again Inv-loop μ-loop
 loop-again c =
-    let s5 = c .before .before .before .before .before in
+    let s5 : _ → _ = λ _. c .before .before .before .before .before in
     let l = c .before .before .before .loop in
-    let s = s5 .args .s .now in (
+    let s = s5 c .args .s .now in (
       omega arith,
       omega (arith, ends-more s (l .i) (c .before .before .loop-test .taken), c .ends-line .ensures, l .inv .1),
-      omega (arith, ends-line-one (getD s (l .i) 0), c .ends-line .ensures, l .inv .2),
+      omega
+          (arith, ends-line-one (getD s (l .i) 0), c .ends-line .ensures, l .inv .2),
     )
 
 returns : tie.Need-returns Inv-loop μ-loop

@@ -33,9 +33,9 @@ one-turn-requires c κs = c .before .before .before .loop .inv .0 .within
 
 halt-requires : tie.Need-halt-requires Inv-loop μ-loop
 halt-requires c κs =
-    let s8 = c .before .before .before .before .before .before .before .before in
-    let s10 = s8 .before .before in
-    (s10 .loop .inv .0 .within, omega (arith, going-length (s10 .loop .inv .0), s10 .loop .inv .0 .fits, s8 .if1 .left))
+    let s8 : _ → _ = λ _. c .before .before .before .before .before .before .before .before in
+    let s10 : _ → _ = λ _. s8 c .before .before in
+    (s10 c .loop .inv .0 .within, omega (arith, going-length (s10 c .loop .inv .0), s10 c .loop .inv .0 .fits, s8 c .if1 .left))
 
 same-length-3 : tie.Need-same-length-3 Inv-loop μ-loop
 same-length-3 c =
@@ -50,38 +50,39 @@ same-length-4 c =
 
 returns-2 : tie.Need-returns-2 Inv-loop μ-loop
 returns-2 c =
-    let s4 = c .before .before .before .before in
-    let s9 = s4 .before .before .before .before .before in
-    let s11 = s9 .before .before in
-    let s12 = s11 .before in
-    let s13 = s12 .before in
-    going-halt (s13 .loop .inv .0) _ _ _ _ (s12 .loop-test .taken) (omega (arith, going-length (s13 .loop .inv .0), s11 .if1 .left))
-    (s9 .one-turn .ensures) (λ e. omega (arith, s4 .if2 .taken)) (c .before .before .halt .ensures)
+    let s4 : _ → _ = λ _. c .before .before .before .before in
+    let s9 : _ → _ = λ _. s4 c .before .before .before .before .before in
+    let s11 : _ → _ = λ _. s9 c .before .before in
+    let s12 : _ → _ = λ _. s11 c .before in
+    let s13 : _ → _ = λ _. s12 c .before in
+    going-halt (s13 c .loop .inv .0) _ _ _ _ (s12 c .loop-test .taken) (omega (arith, going-length (s13 c .loop .inv .0), s11 c .if1 .left))
+    (s9 c .one-turn .ensures) (λ e. omega (arith, s4 c .if2 .taken)) (c .before .before .halt .ensures)
 
 put-report-requires : tie.Need-put-report-requires Inv-loop μ-loop
 put-report-requires c κs =
-    let s9 = c .before .before .before .before .before .before .before .before .before in
-    let s11 = s9 .before .before in
-    omega (arith, going-length (s11 .loop .inv .0), s11 .loop .inv .0 .fits, s9 .if1 .left)
+    let s9 : _ → _ = λ _. c .before .before .before .before .before .before .before .before .before in
+    let s11 : _ → _ = λ _. s9 c .before .before in
+    omega (arith, going-length (s11 c .loop .inv .0), s11 c .loop .inv .0 .fits, s9 c .if1 .left)
 
 loop-less : tie.Need-loop-less Inv-loop μ-loop
 loop-less c =
-    let s5 = c .before .before .before .before .before in
-    let s10 = s5 .before .before .before .before .before in
-    let s14 = s10 .before .before .before .before in
-    let f = turn-further (s14 .loop .inv .0) _ (s10 .one-turn .ensures .turned) (omega (arith, s5 .if2 .left)) in
+    let s5 : _ → _ = λ _. c .before .before .before .before .before in
+    let s10 : _ → _ = λ _. s5 c .before .before .before .before .before in
+    let s14 : _ → _ = λ _. s10 c .before .before .before .before in
+    let f = turn-further (s14 c .loop .inv .0) _ (s10 c .one-turn .ensures .turned) (omega (arith, s5 c .if2 .left)) in
     omega (arith, f .0, f .1)
 
 loop-again : tie.Need-loop-again Inv-loop μ-loop
 loop-again c =
-    let s5 = c .before .before .before .before .before in
-    let s10 = s5 .before .before .before .before .before in
-    let s12 = s10 .before .before in
-    let s13 = s12 .before in
-    let s14 = s13 .before in (
-      going-turn (s14 .loop .inv .0) _ _ _ _ (s13 .loop-test .taken) (omega (arith, going-length (s14 .loop .inv .0), s12 .if1 .left))
-          (s10 .one-turn .ensures) (omega (arith, s5 .if2 .left)) (c .before .before .put-report .ensures),
-      s10 .one-turn .kept .0 ∙ s14 .loop .inv .1,
+    let s5 : _ → _ = λ _. c .before .before .before .before .before in
+    let s10 : _ → _ = λ _. s5 c .before .before .before .before .before in
+    let s12 : _ → _ = λ _. s10 c .before .before in
+    let s13 : _ → _ = λ _. s12 c .before in
+    let s14 : _ → _ = λ _. s13 c .before in (
+      going-turn (s14 c .loop .inv .0) _ _ _ _ (s13 c .loop-test .taken) (omega (arith, going-length (s14 c .loop .inv .0), s12 c .if1 .left))
+          (s10 c .one-turn .ensures) (omega (arith, s5 c .if2 .left)) (c .before .before .put-report .ensures),
+      s10 c .one-turn .kept .0 ∙ s14
+          c .loop .inv .1,
     )
 
 same-length-5 : tie.Need-same-length-5 Inv-loop μ-loop

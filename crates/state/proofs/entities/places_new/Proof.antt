@@ -46,9 +46,9 @@ loop-again c = (omega arith, every-more _ _ (c .before .before .before .loop .in
 
 returns-3 : tie.Need-returns-3 Inv-loop μ-loop
 returns-3 c =
-    let s4 = c .before .before .before .before in
+    let s4 : _ → _ = λ _. c .before .before .before .before in
     every-done _ placeCount _ (c .before .loop .inv .1) (c .before .loop .inv .0) (omega arith) ∙ sym
-    (places-unlike _ (bounded _) _ _ (s4 .pre .1) (s4 .pre .2) (s4 .pre .3))
+    (places-unlike _ (bounded _) _ _ (s4 c .pre .1) (s4 c .pre .2) (s4 c .pre .3))
 
 pub places-new-spec : {M : Type 1} → statement M
 places-new-spec =

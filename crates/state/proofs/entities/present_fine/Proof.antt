@@ -180,9 +180,9 @@ returns-6 c =
 
 nobody-on-requires : tie.Need-nobody-on-requires
 nobody-on-requires c κs =
-    let s10 = c .before .before .before .before .before .before .before .before .before .before in
-    let s20 = s10 .before .before .before .before .before .before .before .before .before .before in
-    (s20 .pre .0 .0, omega arith)
+    let s10 : _ → _ = λ _. c .before .before .before .before .before .before .before .before .before .before in
+    let s20 : _ → _ = λ _. s10 c .before .before .before .before .before .before .before .before .before .before in
+    (s20 c .pre .0 .0, omega arith)
 
 returns-7 : tie.Need-returns-7
 returns-7 c =

@@ -41,9 +41,9 @@ loop-less c = omega arith
 
 loop-again : tie.Need-loop-again Inv-loop μ-loop
 loop-again c =
-    let s5 = c .before .before .before .before .before in (
+    let s5 : _ → _ = λ _. c .before .before .before .before .before in (
       omega arith,
-      each-more _ (entitySecure (tablesOf (s5 .args .t .now))) (c .before .before .before .loop .inv .1)
+      each-more _ (entitySecure (tablesOf (s5 c .args .t .now))) (c .before .before .before .loop .inv .1)
           (sym (c .before .entity-secure .ensures) ∙ not-false _ (c .if1 .left)),
     )
 

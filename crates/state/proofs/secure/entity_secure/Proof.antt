@@ -26,12 +26,12 @@ is-screen-requires c κs = search needs
 
 places-secure-requires : tie.Need-places-secure-requires
 places-secure-requires c κs =
-    let s4 = c .before .before .before .before in
-    let s6 = s4 .before .before in (
-      s6 .pre,
+    let s4 : _ → _ = λ _. c .before .before .before .before in
+    let s6 : _ → _ = λ _. s4 c .before .before in (
+      s6 c .pre,
       (c .before .before .level .ensures, c .is-screen .ensures ∙ ap (λ (k : ℕ). eqb k deviceKind) (c .before .kind .ensures)),
       omega
-          (arith, capped-low (s4 .used .result), c .before .before .before .capped .ensures),
+          (arith, capped-low (s4 c .used .result), c .before .before .before .capped .ensures),
     )
 
 returns : tie.Need-returns

@@ -69,19 +69,19 @@ capped-requires c κs = search needs
 
 places-below-requires : tie.Need-places-below-requires
 places-below-requires c κs =
-    let s14 = c .before .before .before .before .before .before .before .before .before .before .before .before .before .before in
-    ((s14 .pre .0 .0, omega arith, omega arith), omega (arith, capped-low (c .before .used .result), c .capped .ensures))
+    let s14 : _ → _ = λ _. c .before .before .before .before .before .before .before .before .before .before .before .before .before .before in
+    ((s14 c .pre .0 .0, omega arith, omega arith), omega (arith, capped-low (c .before .used .result), c .capped .ensures))
 
 returns-5 : tie.Need-returns-5
 returns-5 c =
-    let s6 = c .before .before .before .before .before .before in
-    let s9 = s6 .before .before .before in
-    let s10 = s9 .before in
-    let s11 = s10 .before in
-    let s12 = s11 .before in
-    let s13 = s12 .before in
-    user-on _ _ _ _ _ (s13 .current .ensures) (s12 .authorised .ensures) (s11 .roles-within .ensures) (not-false _ (s10 .if1 .left)) _
-    (s9 .device .ensures) (omega arith) _ _ _ _ (s6 .clearance .ensures) (c .before .before .used .ensures) (c .before .capped .ensures)
+    let s6 : _ → _ = λ _. c .before .before .before .before .before .before in
+    let s9 : _ → _ = λ _. s6 c .before .before .before in
+    let s10 : _ → _ = λ _. s9 c .before in
+    let s11 : _ → _ = λ _. s10 c .before in
+    let s12 : _ → _ = λ _. s11 c .before in
+    let s13 : _ → _ = λ _. s12 c .before in
+    user-on _ _ _ _ _ (s13 c .current .ensures) (s12 c .authorised .ensures) (s11 c .roles-within .ensures) (not-false _ (s10 c .if1 .left)) _
+    (s9 c .device .ensures) (omega arith) _ _ _ _ (s6 c .clearance .ensures) (c .before .before .used .ensures) (c .before .capped .ensures)
     (c .places-below .ensures)
 
 pub user-secure-spec : {M : Type 1} → statement M

@@ -24,10 +24,10 @@ jump-requires-2 c κs =
 
 returns-2 : tie.Need-returns-2
 returns-2 c =
-    let s6 = c .before .before .before .before .before .before in
-    let s8 = s6 .before .before in
-    let p = s8 .pre in
-    climbed-ends _ (p .0) _ _ _ _ _ (climbed-twice _ (p .0) _ _ _ _ (climbed-twice _ (p .0) _ _ _ _ (climbed-one _ (p .0)) (s6 .jump .ensures))
+    let s6 : _ → _ = λ _. c .before .before .before .before .before .before in
+    let s8 : _ → _ = λ _. s6 c .before .before in
+    let p = s8 c .pre in
+    climbed-ends _ (p .0) _ _ _ _ _ (climbed-twice _ (p .0) _ _ _ _ (climbed-twice _ (p .0) _ _ _ _ (climbed-one _ (p .0)) (s6 c .jump .ensures))
     (c .before .jump2 .ensures)) (c .before .jump2 .ensures) (omega arith) (omega arith) (c .if2 .taken)
 
 jump-requires-3 : tie.Need-jump-requires-3
@@ -42,12 +42,12 @@ jump-requires-3 c κs =
 
 returns-3 : tie.Need-returns-3
 returns-3 c =
-    let s6 = c .before .before .before .before .before .before in
-    let s11 = s6 .before .before .before .before .before in
-    let s13 = s11 .before .before in
-    let p = s13 .pre in
+    let s6 : _ → _ = λ _. c .before .before .before .before .before .before in
+    let s11 : _ → _ = λ _. s6 c .before .before .before .before .before in
+    let s13 : _ → _ = λ _. s11 c .before .before in
+    let p = s13 c .pre in
     climbed-ends _ (p .0) _ _ _ _ _ (climbed-twice _ (p .0) _ _ _ _ (climbed-twice _ (p .0) _ _ _ _
-    (climbed-twice _ (p .0) _ _ _ _ (climbed-one _ (p .0)) (s11 .jump .ensures)) (s6 .jump2 .ensures)) (c .before .jump3 .ensures))
+    (climbed-twice _ (p .0) _ _ _ _ (climbed-one _ (p .0)) (s11 c .jump .ensures)) (s6 c .jump2 .ensures)) (c .before .jump3 .ensures))
     (c .before .jump3 .ensures) (omega arith) (omega arith) (c .if3 .taken)
 
 jump-requires-4 : tie.Need-jump-requires-4
@@ -63,14 +63,14 @@ jump-requires-4 c κs =
 
 returns-4 : tie.Need-returns-4
 returns-4 c =
-    let s6 = c .before .before .before .before .before .before in
-    let s11 = s6 .before .before .before .before .before in
-    let s16 = s11 .before .before .before .before .before in
-    let s18 = s16 .before .before in
-    let p = s18 .pre in
+    let s6 : _ → _ = λ _. c .before .before .before .before .before .before in
+    let s11 : _ → _ = λ _. s6 c .before .before .before .before .before in
+    let s16 : _ → _ = λ _. s11 c .before .before .before .before .before in
+    let s18 : _ → _ = λ _. s16 c .before .before in
+    let p = s18 c .pre in
     climbed-ends _ (p .0) _ _ _ _ _ (climbed-twice _ (p .0) _ _ _ _ (climbed-twice _ (p .0) _ _ _ _
-    (climbed-twice _ (p .0) _ _ _ _ (climbed-twice _ (p .0) _ _ _ _ (climbed-one _ (p .0)) (s16 .jump .ensures)) (s11 .jump2 .ensures))
-    (s6 .jump3 .ensures)) (c .before .jump4 .ensures)) (c .before .jump4 .ensures) (omega arith) (omega arith) (c .if4 .taken)
+    (climbed-twice _ (p .0) _ _ _ _ (climbed-twice _ (p .0) _ _ _ _ (climbed-one _ (p .0)) (s16 c .jump .ensures)) (s11 c .jump2 .ensures))
+    (s6 c .jump3 .ensures)) (c .before .jump4 .ensures)) (c .before .jump4 .ensures) (omega arith) (omega arith) (c .if4 .taken)
 
 jump-requires-5 : tie.Need-jump-requires-5
 jump-requires-5 c κs =
@@ -87,15 +87,15 @@ jump-requires-5 c κs =
 
 returns-5 : tie.Need-returns-5
 returns-5 c =
-    let s6 = c .before .before .before .before .before .before in
-    let s11 = s6 .before .before .before .before .before in
-    let s16 = s11 .before .before .before .before .before in
-    let s21 = s16 .before .before .before .before .before in
-    let s23 = s21 .before .before in
-    let p = s23 .pre in
+    let s6 : _ → _ = λ _. c .before .before .before .before .before .before in
+    let s11 : _ → _ = λ _. s6 c .before .before .before .before .before in
+    let s16 : _ → _ = λ _. s11 c .before .before .before .before .before in
+    let s21 : _ → _ = λ _. s16 c .before .before .before .before .before in
+    let s23 : _ → _ = λ _. s21 c .before .before in
+    let p = s23 c .pre in
     climbed-ends _ (p .0) _ _ _ _ _ (climbed-twice _ (p .0) _ _ _ _ (climbed-twice _ (p .0) _ _ _ _
-    (climbed-twice _ (p .0) _ _ _ _ (climbed-twice _ (p .0) _ _ _ _ (climbed-twice _ (p .0) _ _ _ _ (climbed-one _ (p .0)) (s21 .jump .ensures))
-    (s16 .jump2 .ensures)) (s11 .jump3 .ensures)) (s6 .jump4 .ensures)) (c .before .jump5 .ensures)) (c .before .jump5 .ensures) (omega arith)
+    (climbed-twice _ (p .0) _ _ _ _ (climbed-twice _ (p .0) _ _ _ _ (climbed-twice _ (p .0) _ _ _ _ (climbed-one _ (p .0)) (s21 c .jump .ensures))
+    (s16 c .jump2 .ensures)) (s11 c .jump3 .ensures)) (s6 c .jump4 .ensures)) (c .before .jump5 .ensures)) (c .before .jump5 .ensures) (omega arith)
     (omega arith) (c .if5 .taken)
 
 jump-requires-6 : tie.Need-jump-requires-6
@@ -114,17 +114,17 @@ jump-requires-6 c κs =
 
 returns-6 : tie.Need-returns-6
 returns-6 c =
-    let s6 = c .before .before .before .before .before .before in
-    let s11 = s6 .before .before .before .before .before in
-    let s16 = s11 .before .before .before .before .before in
-    let s21 = s16 .before .before .before .before .before in
-    let s26 = s21 .before .before .before .before .before in
-    let s28 = s26 .before .before in
-    let p = s28 .pre in
+    let s6 : _ → _ = λ _. c .before .before .before .before .before .before in
+    let s11 : _ → _ = λ _. s6 c .before .before .before .before .before in
+    let s16 : _ → _ = λ _. s11 c .before .before .before .before .before in
+    let s21 : _ → _ = λ _. s16 c .before .before .before .before .before in
+    let s26 : _ → _ = λ _. s21 c .before .before .before .before .before in
+    let s28 : _ → _ = λ _. s26 c .before .before in
+    let p = s28 c .pre in
     climbed-ends _ (p .0) _ _ _ _ _ (climbed-twice _ (p .0) _ _ _ _ (climbed-twice _ (p .0) _ _ _ _
     (climbed-twice _ (p .0) _ _ _ _ (climbed-twice _ (p .0) _ _ _ _ (climbed-twice _ (p .0) _ _ _ _
-    (climbed-twice _ (p .0) _ _ _ _ (climbed-one _ (p .0)) (s26 .jump .ensures)) (s21 .jump2 .ensures)) (s16 .jump3 .ensures))
-    (s11 .jump4 .ensures)) (s6 .jump5 .ensures)) (c .before .jump6 .ensures)) (c .before .jump6 .ensures) (omega arith) (omega arith)
+    (climbed-twice _ (p .0) _ _ _ _ (climbed-one _ (p .0)) (s26 c .jump .ensures)) (s21 c .jump2 .ensures)) (s16 c .jump3 .ensures))
+    (s11 c .jump4 .ensures)) (s6 c .jump5 .ensures)) (c .before .jump6 .ensures)) (c .before .jump6 .ensures) (omega arith) (omega arith)
     (c .if6 .taken)
 
 jump-requires-7 : tie.Need-jump-requires-7

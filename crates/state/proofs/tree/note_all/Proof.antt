@@ -22,8 +22,8 @@ add-t6 c = omega arith
 
 note-row-requires : tie.Need-note-row-requires Inv-loop μ-loop
 note-row-requires c κs =
-    let s4 = c .before .before .before .before in
-    ((s4 .pre .0, omega arith, omega arith), s4 .pre .1, filled-next _ _ _ (c .before .before .loop .inv .1))
+    let s4 : _ → _ = λ _. c .before .before .before .before in
+    ((s4 c .pre .0, omega arith, omega arith), s4 c .pre .1, filled-next _ _ _ (c .before .before .loop .inv .1))
 
 returns : tie.Need-returns Inv-loop μ-loop
 returns c = stopped-in (tablesOf _) _ _ _ _ _ (c .before .note-row .ensures) (not-true _ (c .if1 .taken))

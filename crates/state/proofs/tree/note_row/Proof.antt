@@ -28,8 +28,8 @@ used-requires c κs = search needs
 
 loop-holds : tie.Need-loop-holds Inv-loop μ-loop
 loop-holds c =
-    let s4 = c .before .before .before .before in
-    (omega arith, used-low (tablesOf _) (bounded _) (s4 .pre .1) _ _ (c .used .ensures), filled-start _ _ _ (s4 .pre .2))
+    let s4 : _ → _ = λ _. c .before .before .before .before in
+    (omega arith, used-low (tablesOf _) (bounded _) (s4 c .pre .1) _ _ (c .used .ensures), filled-start _ _ _ (s4 c .pre .2))
 
 place-requires : tie.Need-place-requires Inv-loop μ-loop
 place-requires c κs = search needs
@@ -42,13 +42,13 @@ mul-if2 c = search needs
 
 element-copy-out-if2 : tie.Need-element-copy-out-if2 Inv-loop μ-loop
 element-copy-out-if2 c =
-    let s4 = c .before .before .before .before in
-    let s5 = s4 .before in
-    let s7 = s5 .before .before in
+    let s4 : _ → _ = λ _. c .before .before .before .before in
+    let s5 : _ → _ = λ _. s4 c .before in
+    let s7 : _ → _ = λ _. s5 c .before .before in
     omega (
       arith,
-      slot-entity (tablesOf _) (bounded _) (s7 .pre .1) _ _ _ (slot-at (tablesOf _) (bounded _) (s7 .pre .1) _ _ _ _ _
-          (s7 .pre .0 .1) (s5 .kind .ensures) (s4 .if1 .left) (c .before .before .before .used .ensures) (c .before .loop-test .taken)
+      slot-entity (tablesOf _) (bounded _) (s7 c .pre .1) _ _ _ (slot-at (tablesOf _) (bounded _) (s7 c .pre .1) _ _ _ _ _
+          (s7 c .pre .0 .1) (s5 c .kind .ensures) (s4 c .if1 .left) (c .before .before .before .used .ensures) (c .before .loop-test .taken)
           (c .place .ensures)),
     )
 
@@ -71,14 +71,14 @@ mul-h c = search needs
 
 element-write-h : tie.Need-element-write-h Inv-loop μ-loop
 element-write-h c =
-    let s5 = c .before .before .before .before .before in
-    let s6 = s5 .before in
-    let s7 = s6 .before in
-    let s9 = s7 .before .before in
+    let s5 : _ → _ = λ _. c .before .before .before .before .before in
+    let s6 : _ → _ = λ _. s5 c .before in
+    let s7 : _ → _ = λ _. s6 c .before in
+    let s9 : _ → _ = λ _. s7 c .before .before in
     omega (
       arith,
-      slot-entity (tablesOf _) (bounded _) (s9 .pre .1) _ _ _ (slot-at (tablesOf _) (bounded _) (s9 .pre .1) _ _ _ _ _
-          (s9 .pre .0 .1) (s7 .kind .ensures) (s6 .if1 .left) (s5 .used .ensures) (c .before .before .before .loop-test .taken)
+      slot-entity (tablesOf _) (bounded _) (s9 c .pre .1) _ _ _ (slot-at (tablesOf _) (bounded _) (s9 c .pre .1) _ _ _ _ _
+          (s9 c .pre .0 .1) (s7 c .kind .ensures) (s6 c .if1 .left) (s5 c .used .ensures) (c .before .before .before .loop-test .taken)
           (c .before .before .place .ensures)),
     )
 
@@ -90,22 +90,22 @@ loop-less c = search needs
 
 loop-again : tie.Need-loop-again Inv-loop μ-loop
 loop-again c =
-    let s4 = c .before .before .before .before in
-    let s5 = s4 .before in
-    let s6 = s5 .before in
-    let s7 = s6 .before in
-    let s9 = s7 .before .before in (
+    let s4 : _ → _ = λ _. c .before .before .before .before in
+    let s5 : _ → _ = λ _. s4 c .before in
+    let s6 : _ → _ = λ _. s5 c .before in
+    let s7 : _ → _ = λ _. s6 c .before in
+    let s9 : _ → _ = λ _. s7 c .before .before in (
       omega arith,
-      s4 .loop .inv .1,
-      filled-put (tablesOf _) (bounded _) (s9 .pre .1) _ _ _ _
-          (slot-at (tablesOf _) (bounded _) (s9 .pre .1) _ _ _ _ _ (s9 .pre .0 .1) (s7 .kind .ensures) (s6 .if1 .left) (s5 .used .ensures)
-          (c .before .before .before .loop-test .taken) (c .before .before .place .ensures)) (c .if2 .left) (s4 .loop .inv .2),
+      s4 c .loop .inv .1,
+      filled-put (tablesOf _) (bounded _) (s9 c .pre .1) _ _ _ _
+          (slot-at (tablesOf _) (bounded _) (s9 c .pre .1) _ _ _ _ _ (s9 c .pre .0 .1) (s7 c .kind .ensures) (s6 c .if1 .left) (s5 c .used .ensures)
+          (c .before .before .before .loop-test .taken) (c .before .before .place .ensures)) (c .if2 .left) (s4 c .loop .inv .2),
     )
 
 returns-3 : tie.Need-returns-3 Inv-loop μ-loop
 returns-3 c =
-    let s6 = c .before .before .before .before .before .before in
-    went-on _ _ _ (filled-rest (tablesOf _) (bounded _) (s6 .pre .1) _ _ _ _ (s6 .pre .0 .1) (c .before .before .used .ensures)
+    let s6 : _ → _ = λ _. c .before .before .before .before .before .before in
+    went-on _ _ _ (filled-rest (tablesOf _) (bounded _) (s6 c .pre .1) _ _ _ _ (s6 c .pre .0 .1) (c .before .before .used .ensures)
     (c .before .loop .inv .0) (omega arith) (c .before .loop .inv .2))
 
 pub note-row-spec : {M : Type 1} → statement M

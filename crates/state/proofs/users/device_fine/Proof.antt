@@ -31,10 +31,10 @@ nobody-on-requires c κs = search needs
 
 returns-3 : tie.Need-returns-3
 returns-3 c =
-    let s4 = c .before .before .before .before in
-    let s5 = s4 .before in
-    let s6 = s5 .before in
-    on-alone _ _ _ (s6 .device .ensures) (s5 .if1 .left) _ (s4 .kind-or-zero .ensures) _ (c .before .before .before .is-terminal .ensures)
+    let s4 : _ → _ = λ _. c .before .before .before .before in
+    let s5 : _ → _ = λ _. s4 c .before in
+    let s6 : _ → _ = λ _. s5 c .before in
+    on-alone _ _ _ (s6 c .device .ensures) (s5 c .if1 .left) _ (s4 c .kind-or-zero .ensures) _ (c .before .before .before .is-terminal .ensures)
     (not-false _ (c .before .before .if2 .left)) _ (omega arith) _ (c .nobody-on .ensures)
 
 pub device-fine-spec : {M : Type 1} → statement M

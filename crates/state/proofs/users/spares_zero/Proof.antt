@@ -34,9 +34,9 @@ loop-less c = omega arith
 
 loop-again : tie.Need-loop-again Inv-loop μ-loop
 loop-again c =
-    let s4 = c .before .before .before .before in (
+    let s4 : _ → _ = λ _. c .before .before .before .before in (
       omega arith,
-      every-gather _ _ _ _ (c .word-zero .ensures ∙ spare-zero (tablesOf (s4 .args .t .now)) (s4 .args .u .0)
+      every-gather _ _ _ _ (c .word-zero .ensures ∙ spare-zero (tablesOf (s4 c .args .t .now)) (s4 c .args .u .0)
           (c .before .before .loop .f)) (c .before .before .loop .inv .1),
     )
 

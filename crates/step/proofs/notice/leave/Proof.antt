@@ -35,7 +35,12 @@ same-length c = search needs
 
 -- src/notice.rt:30:9
 returns : tie.Need-returns
-returns c = c .before .before .before .set-missed .ensures ∙ notice-kept _ _ _ _ _ (c .before .before .before .before .before .one-more .ensures ∙ rw (c .before .before .before .before .before .before .missed .ensures)) (λ z. omega (arith, c .if1 .taken, c .before .before .before .before .before .before .before .before .held .ensures ∙ z))
+returns c =
+    let s5 : _ → _ = λ _. c .before .before .before .before .before in
+    let s6 : _ → _ = λ _. s5 c .before in
+    let s8 : _ → _ = λ _. s6 c .before .before in
+    c .before .before .before .set-missed .ensures ∙ notice-kept _ _ _ _ _ (s5 c .one-more .ensures ∙ rw (s6 c .missed .ensures))
+    (λ z. omega (arith, c .if1 .taken, s8 c .held .ensures ∙ z))
 
 -- src/notice.rt:32:5
 set-held-op-requires : tie.Need-set-held-op-requires
@@ -51,7 +56,15 @@ same-length-2 c = search needs
 
 -- src/notice.rt:22:1
 returns-2 : tie.Need-returns-2
-returns-2 c = c .before .before .set-held .ensures ∙ rw (c .before .before .before .before .before .before .set-held-op .ensures, c .before .before .before .before .before .before .before .before .before .before .before .set-missed .ensures) (notice-new _ _ _ _ _ (c .before .before .before .before .before .before .before .before .before .before .before .before .before .one-more .ensures ∙ rw (c .before .before .before .before .before .before .before .before .before .before .before .before .before .before .missed .ensures)) (omega (arith, c .before .before .before .before .before .before .before .before .before .before .before .before .before .before .before .before .held .ensures, c .before .before .before .before .before .before .before .before .if1 .left)))
+returns-2 c =
+    let s6 : _ → _ = λ _. c .before .before .before .before .before .before in
+    let s8 : _ → _ = λ _. s6 c .before .before in
+    let s11 : _ → _ = λ _. s8 c .before .before .before in
+    let s13 : _ → _ = λ _. s11 c .before .before in
+    let s14 : _ → _ = λ _. s13 c .before in
+    let s16 : _ → _ = λ _. s14 c .before .before in
+    c .before .before .set-held .ensures ∙ rw (s6 c .set-held-op .ensures, s11 c .set-missed .ensures)
+    (notice-new _ _ _ _ _ (s13 c .one-more .ensures ∙ rw (s14 c .missed .ensures)) (omega (arith, s16 c .held .ensures, s8 c .if1 .left)))
 
 pub leave-spec : {M : Type 1} → statement M
 leave-spec =

@@ -32,7 +32,10 @@ not-on-requires : tie.Need-not-on-requires Inv-loop μ-loop
 not-on-requires c κs = search needs
 
 returns : tie.Need-returns Inv-loop μ-loop
-returns c = each-fails _ (λ v. not (eqb (devices (tablesOf (c .before .before .before .before .before .args .t .now)) v) (c .before .before .before .before .before .args .e .0))) _ (c .before .before .loop-test .taken) (sym (c .before .not-on .ensures) ∙ not-true _ (c .if1 .taken))
+returns c =
+    let s5 = c .before .before .before .before .before in
+    each-fails _ (λ v. not (eqb (devices (tablesOf (s5 .args .t .now)) v) (s5 .args .e .0))) _ (c .before .before .loop-test .taken)
+    (sym (c .before .not-on .ensures) ∙ not-true _ (c .if1 .taken))
 
 add-i : tie.Need-add-i Inv-loop μ-loop
 add-i c = omega arith
@@ -41,7 +44,12 @@ loop-less : tie.Need-loop-less Inv-loop μ-loop
 loop-less c = omega arith
 
 loop-again : tie.Need-loop-again Inv-loop μ-loop
-loop-again c = (omega arith, each-more _ (λ v. not (eqb (devices (tablesOf (c .before .before .before .before .before .args .t .now)) v) (c .before .before .before .before .before .args .e .0))) (c .before .before .before .loop .inv .1) (sym (c .before .not-on .ensures) ∙ not-false _ (c .if1 .left)))
+loop-again c =
+    let s5 : _ → _ = λ _. c .before .before .before .before .before in (
+      omega arith,
+      each-more _ (λ v. not (eqb (devices (tablesOf (s5 c .args .t .now)) v) (s5 c .args .e .0)))
+          (c .before .before .before .loop .inv .1) (sym (c .before .not-on .ensures) ∙ not-false _ (c .if1 .left)),
+    )
 
 returns-2 : tie.Need-returns-2 Inv-loop μ-loop
 returns-2 c = every-done _ _ _ (c .before .loop .inv .1) (c .before .loop .inv .0) (omega arith)
