@@ -4,6 +4,7 @@ use names::text;
 ghost use mathlib.Core.Path.{_≡_};
 ghost use Rattle.mms.specs.Contract.{Exports, Listing, Reading, Stepping, Writing, checking, exported};
 
+// A call's answer: document 01's number, and what goes with it.
 pub struct Answer {
     pub no: u32,
     pub number: u32,

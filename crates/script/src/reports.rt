@@ -11,6 +11,7 @@ ghost use Rattle.model.specs.Script.Windows.{reportBytes};
 ghost use Rattle.script.specs.Reported.{Settled, fromCode, holding};
 ghost use Rattle.tables.specs.Singles.{UserIn};
 
+// What is told of a request: its answer, the refusal that its requester holds, and how many were missed.
 pub struct Report {
     pub answer: u32,
     pub held: u32,

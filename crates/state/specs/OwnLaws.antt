@@ -13,15 +13,15 @@ use Rattle.model.specs.Basics.Choice.{Below, below, over, under}
 use Rattle.model.specs.Basics.TestLaws.{equal-bools, is-true}
 use Rattle.model.specs.Basics.Tests.{every, imp}
 use Rattle.model.specs.State.AgreeRecords.{Eight, access-agrees, good-agrees}
-use Rattle.model.specs.State.Tests.{accessTest, entityTest, filledTest, shapeTest}
+use Rattle.model.specs.State.Tests.{accessTest, entityTest, filledTest}
 use Rattle.model.specs.State.WellFormed.{Access, GoodTriple}
 use Rattle.model.specs.Tables.Layout.{Bounded}
 use Rattle.model.specs.Tables.RowLaws.{before, sought}
 use Rattle.model.specs.Tables.Rows.{Sought, seek}
-use Rattle.model.specs.Tables.Words.{Tables, usedPlaces, deviceKind, devices, kinds, level, mark, maximum, placeCount, places, releaser, sums}
-use Rattle.model.specs.Tables.Words.{triples, type, userCount, value}
+use Rattle.model.specs.Tables.Words.{Tables, usedPlaces, deviceKind, devices, kinds, placeCount, places, sums}
+use Rattle.model.specs.Tables.Words.{triples, userCount}
 use Rattle.state.specs.EntityLaws.{apart, used-agrees, filled-passes, unlike-agrees}
-use Rattle.state.specs.Passes.{contentsAt, usedTest, idleAt, lastTriple, ownTest, placeTest, tripleNew, unlike}
+use Rattle.state.specs.Passes.{contentsAt, usedTest, idleAt, lastTriple, ownTest, placeTest, shapeAt, tripleNew, unlike}
 
 -- ---- triples
 
@@ -106,28 +106,23 @@ one-by-one true false p u x = refl
 one-by-one false n p u x = refl
 
 module _ (d : Tables) (o : Bounded d) (e : ℕ) (present : 1 ≤ kinds d e) where
-  -- the single words but for the last are in order
-  abbrev shape : Bool
-  shape = shapeTest (kinds d e) (d .entity e type) (d .entity e level) (d .entity e mark) (d .entity e value) (d .entity e releaser) (d .entity e maximum)
-
   -- all that is asked of an entity that is there, in the order of the code
-  pub own-present : (shape && (usedTest (kinds d e) (usedPlaces d e) && (every placeCount (placeTest d e)
+  pub own-present : (shapeAt d e && (usedTest (kinds d e) (usedPlaces d e) && (every placeCount (placeTest d e)
       && (every (usedPlaces d e) (unlike (places d e)) && (every placeCount (tripleNew (triples d e)) && idleAt d e))))) ≡ ownTest d e
   unfolding ownTest entityTest imp
   own-present = rw (ne-eqb (kinds d e) 0 (λ q. omega arith), triples-pass (triples d e) (o .triplesOut e))
-      (sym (one-by-one shape (usedTest (kinds d e) (usedPlaces d e)) (every placeCount (placeTest d e)) (every (usedPlaces d e) (unlike (places d e)))
+      (sym (one-by-one (shapeAt d e) (usedTest (kinds d e) (usedPlaces d e)) (every placeCount (placeTest d e)) (every (usedPlaces d e) (unlike (places d e)))
       (accessTest (triples d e) && idleAt d e))
-      ∙ ap (λ (b : Bool). shape && (b && (accessTest (triples d e) && idleAt d e))) (sym (filled-passes d o e))
-      ∙ sym (contents-first shape (filledTest (kinds d e) (usedPlaces d e) (places d e) (sums d e)) (accessTest (triples d e)) (contentsAt d e) (idleAt d e)))
+      ∙ ap (λ (b : Bool). shapeAt d e && (b && (accessTest (triples d e) && idleAt d e))) (sym (filled-passes d o e))
+      ∙ sym (contents-first (shapeAt d e) (filledTest (kinds d e) (usedPlaces d e) (places d e) (sums d e)) (accessTest (triples d e))
+      (contentsAt d e) (idleAt d e)))
 
 -- what the pass over entity e, which is there, has read and found
-module _ (d : Tables) (o : Bounded d) (e k y l m v b x : ℕ) (ke : k ≡ kinds d e) (present : 1 ≤ k) (ye : y ≡ d .entity e type) (le : l ≡ d .entity e level)
-    (me : m ≡ d .entity e mark) (ve : v ≡ d .entity e value) (be : b ≡ d .entity e releaser) (xe : x ≡ d .entity e maximum)
-    (s : Bool) (se : s ≡ shapeTest k y l m v b x) where
+module _ (d : Tables) (o : Bounded d) (e k : ℕ) (ke : k ≡ kinds d e) (present : 1 ≤ k) (s : Bool) (se : s ≡ shapeAt d e) where
   -- all is asked from the shape on
   from-shape : (s && (usedTest k (usedPlaces d e) && (every placeCount (placeTest d e) && (every (usedPlaces d e) (unlike (places d e))
       && (every placeCount (tripleNew (triples d e)) && idleAt d e))))) ≡ ownTest d e
-  from-shape = rw (se, ke, ye, le, me, ve, be, xe) (own-present d o e (omega arith))
+  from-shape = rw (se, ke) (own-present d o e (omega arith))
 
   -- the single words but for the last are not in order
   pub own-shape : s ≡ false → false ≡ ownTest d e

@@ -9,11 +9,11 @@ use Rattle.model.specs.Basics.Tests.{every, imp}
 use Rattle.model.specs.Level.{atMost, levelCount, roleSets}
 use Rattle.model.specs.State.Check.{ceilingTest, containedTest, labelledTest, loopTest, oneTest, rolesTest, seenTest}
 use Rattle.model.specs.State.Secure.{labelled}
-use Rattle.model.specs.State.Tests.{entityTest, tripleTest}
+use Rattle.model.specs.State.Tests.{entityTest, shapeTest, tripleTest}
 use Rattle.model.specs.Tables.Layout.{entityWidth, userWidth}
 use Rattle.model.specs.Tables.WordAt.{entityWordAt, userWordAt}
 use Rattle.model.specs.Tables.Words.{Tables, containerKind, usedPlaces, deviceKind, devices, entityCount, kinds, level, objectKind, placeCount, places}
-use Rattle.model.specs.Tables.Words.{sumMost, sums, userCount}
+use Rattle.model.specs.Tables.Words.{mark, maximum, releaser, sumMost, sums, type, userCount, value}
 
 -- ---- users
 
@@ -35,6 +35,10 @@ onDevice d u = imp (not (eqb (devices d u) 0))
 -- every word of entity e is zero
 unfoldable pub entityBlank : Tables → ℕ → Bool
 entityBlank d e = every entityWidth (λ f. eqb (d .entity e (entityWordAt f)) 0)
+
+-- the single words of entity e but for the last are in order
+abbrev pub shapeAt : Tables → ℕ → Bool
+shapeAt d e = shapeTest (kinds d e) (d .entity e type) (d .entity e level) (d .entity e mark) (d .entity e value) (d .entity e releaser) (d .entity e maximum)
 
 -- how many places an entity of kind k may use
 unfoldable pub usedTest : ℕ → ℕ → Bool

@@ -16,7 +16,7 @@ ghost use Rattle.model.specs.State.Tests.{shapeTest, tripleTest};
 ghost use Rattle.model.specs.Tables.Layout.{entityWidth, tablesOf, wordCount};
 ghost use Rattle.model.specs.Tables.WordAt.{entityWordAt};
 ghost use Rattle.model.specs.Tables.Words.{entityCount, kinds, placeCount, places, triples, usedPlaces};
-ghost use Rattle.state.specs.Passes.{Counted, usedTest, entityBlank, newAt, ownTest, placeTest, tripleNew, unlike};
+ghost use Rattle.state.specs.Passes.{Counted, usedTest, entityBlank, newAt, ownTest, placeTest, shapeAt, tripleNew, unlike};
 ghost use Rattle.tables.specs.Singles.{EntityIn};
 
 // The place of the last triple.
@@ -62,6 +62,22 @@ fn shape_fine(k: u32, y: u32, l: u32, m: u32, v: u32, b: u32, x: u32) -> bool
                                 & ((!released | ((1 <= b) & (b <= size::USERS)))
                                     & ((released | (b == 0))
                                         & ((shows | (x == 0)) & (!shows | (v == 0)))))))))))
+}
+
+// Whether the single words of entity e, which is of kind k, but for the last are in order.
+fn words_fine(t: &[u32], e: Entity, k: u32) -> bool
+    requires { ⌜ EntityIn (now t) (e .0) × (k ≡ kinds (tablesOf (now t)) (e .0)) ⌝ }
+    ensures { λ r. ⌜ r ≡ shapeAt (tablesOf (now (t .entry))) (e .0) ⌝ }
+{
+    shape_fine(
+        k,
+        tables::type_of(t, e),
+        tables::level(t, e).0,
+        tables::mark(t, e),
+        tables::value(t, e),
+        tables::releaser(t, e).0,
+        tables::maximum(t, e).0,
+    )
 }
 
 // Whether an entity of kind k may use n places.
@@ -223,15 +239,7 @@ fn present_fine(t: &[u32], e: Entity, k: u32) -> bool
     requires { ⌜ EntityIn (now t) (e .0) × (k ≡ kinds (tablesOf (now t)) (e .0)) × (1 ≤ k) ⌝ }
     ensures { λ r. ⌜ r ≡ ownTest (tablesOf (now (t .entry))) (e .0) ⌝ }
 {
-    if !shape_fine(
-        k,
-        tables::type_of(t, e),
-        tables::level(t, e).0,
-        tables::mark(t, e),
-        tables::value(t, e),
-        tables::releaser(t, e).0,
-        tables::maximum(t, e).0,
-    ) {
+    if !words_fine(t, e, k) {
         return false;
     }
     let n = tables::used(t, e);

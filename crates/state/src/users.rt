@@ -4,15 +4,14 @@ use names::size;
 use names::word;
 use tables::User;
 ghost use mathlib.Core.Path.{_≡_};
-ghost use mathlib.Core.Bool.{not};
-ghost use Prim.Native.Nat.{_+_, _<_, _≤_, suc};
+ghost use Prim.Native.Nat.{_+_, _<_, suc};
 ghost use lib.Dec.{eqb};
 ghost use lib.ListN.{length};
 ghost use Rattle.model.specs.Basics.Tests.{every};
 ghost use Rattle.model.specs.State.Tests.{noticeTest, userTest};
 ghost use Rattle.model.specs.Tables.Layout.{tablesOf, userWidth, wordCount};
 ghost use Rattle.model.specs.Tables.WordAt.{userWordAt};
-ghost use Rattle.model.specs.Tables.Words.{devices, spare, spareCount, userCount};
+ghost use Rattle.model.specs.Tables.Words.{spare, spareCount, userCount};
 ghost use Rattle.state.specs.Passes.{onDevice, userBlank, userHead};
 ghost use Rattle.tables.specs.Singles.{UserIn};
 
