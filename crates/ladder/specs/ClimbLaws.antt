@@ -13,6 +13,7 @@ use Rattle.model.specs.Basics.Fails.{fails-no}
 use Rattle.model.specs.Request.Ladder.{Rung, answer, applies, ladder, never, notSecure, notWellFormed, rungAt}
 use Rattle.model.specs.Request.LadderLaws.{answer-is, answer-unique}
 use Rattle.model.specs.Request.RungLaws.{notSecure-fails, notWellFormed-fails}
+use Rattle.model.specs.Request.Refusals as refusal
 use Rattle.model.specs.Request.Words.{Request}
 use Rattle.model.specs.State.Agree.{wellFormed-bounded}
 use Rattle.model.specs.State.Secure.{Good}
@@ -40,7 +41,7 @@ module _ (d : Tables) (q : Request) where
   beyond (suc k) (r ∷ rs) h = beyond k rs (omega arith)
 
   -- all rungs are passed: the request is accepted
-  pub passed-all : Passed 16 d q → 0 ≡ answer d q
+  pub passed-all : Passed refusal.notAcknowledged d q → refusal.accepted ≡ answer d q
   unfolding applies ladder
   passed-all p = answer-unique d q 0 (answer d q) (record {
     below = λ k h. absurd (omega arith);
@@ -50,9 +51,9 @@ module _ (d : Tables) (q : Request) where
   }) (answer-is d q)
     where
       all : (n : ℕ) → applies n d q ≡ false
-      all n = go (ltb n 17) (below n 17)
+      all n = go (ltb n (suc refusal.notAcknowledged)) (below n (suc refusal.notAcknowledged))
         where
-          go : (b : Bool) → Below n 17 b → applies n d q ≡ false
+          go : (b : Bool) → Below n (suc refusal.notAcknowledged) b → applies n d q ≡ false
           go true (under h) = p n (omega arith)
           go false (over h) = beyond n (never ∷ never ∷ ladder) h
 
@@ -61,7 +62,7 @@ module _ (d : Tables) (q : Request) where
   passed-lower m n h p k l = p k (omega arith)
 
   -- Rules 7.2 and 7.3: good tables pass the first rungs.
-  pub good-passed : Good d → Passed 3 d q
+  pub good-passed : Good d → Passed refusal.notSecure d q
   unfolding applies rungAt never ladder
   good-passed g zero h = refl
   good-passed g (suc zero) h = refl

@@ -11,7 +11,7 @@ use lib.ListN.{length}
 use borrow.Author.Tests.{eq-eqb, ne-eqb}
 use Rattle.laws.specs.Bools.{either, joined}
 use Rattle.ladder.specs.Path.{arityOf, operandOf, pairOf, pathAnswer}
-use Rattle.ladder.specs.PathLaws.{path-0, path-7, path-8, path-9}
+use Rattle.ladder.specs.PathLaws.{path-barred, path-nowhere, path-open, path-shut}
 use Rattle.ladder.specs.declared.operands.Operand.the-variants.{Fine, No}
 use Rattle.ladder.specs.declared.operands.Pair.the-variants.{Both, Neither}
 use Rattle.tables.specs.declared.Entity.{Entity}
@@ -24,6 +24,7 @@ use Rattle.model.specs.Request.OperationLaws.{opOf-number}
 use Rattle.model.specs.Request.Operations.{Op, numberOf, opOf, rowOf}
 use Rattle.model.specs.Request.Reference.{basis, resolve}
 use Rattle.model.specs.Request.ReferenceLaws.{leads-present, resolve-leads}
+use Rattle.model.specs.Request.Refusals as refusal
 use Rattle.model.specs.Request.Words.{Reference, Request, names}
 use Rattle.model.specs.State.WellFormed.{WellFormed}
 use Rattle.model.specs.Tables.Words.{Tables, clearance, entityCount}
@@ -126,8 +127,8 @@ module _ (d : Tables) (q : Request) (u op l : ℕ) (hu : q .user ≡ u) (ho : q 
 
     module _ (ns : List ℕ) (hn : ns ≡ names (q .first)) (f : Found) (hf : f ≡ leading (resolve d ns) (not (bars d l (basis d ns)))) where
       -- the reference leads nowhere
-      pub one-nowhere : f ≡ Nowhere → No 7 ≡ operandOf (pathAnswer d q) (asked d q .first)
-      one-nowhere h = rw (path-7 d q (one-7 ∙ nowhere d l (q .first) ns hn f hf h))
+      pub one-nowhere : f ≡ Nowhere → No refusal.noSuchName ≡ operandOf (pathAnswer d q) (asked d q .first)
+      one-nowhere h = rw (path-nowhere d q (one-7 ∙ nowhere d l (q .first) ns hn f hf h))
 
       module _ (e : Entity) (o : Bool) (h : f ≡ At e o) (p : Bool) (hp : p ≡ permits d u op 1 (e .0)) where
         leads : leadsNowhere d q ≡ false
@@ -140,17 +141,17 @@ module _ (d : Tables) (q : Request) (u op l : ℕ) (hu : q .user ≡ u) (ho : q 
         way = one-9 ∙ way-is d l (q .first) ns hn f hf e o h
 
         -- its triples do not permit the request
-        pub one-shut : p ≡ false → No 8 ≡ operandOf (pathAnswer d q) (asked d q .first)
-        one-shut x = rw (path-8 d q leads (access ∙ ap not x))
+        pub one-shut : p ≡ false → No refusal.noAccess ≡ operandOf (pathAnswer d q) (asked d q .first)
+        one-shut x = rw (path-shut d q leads (access ∙ ap not x))
 
         -- something on the way is marked, and the requester is not cleared for it
-        pub one-barred : p ≡ true → o ≡ false → No 9 ≡ operandOf (pathAnswer d q) (asked d q .first)
-        one-barred x y = rw (path-9 d q leads (access ∙ ap not x) (way ∙ ap not y))
+        pub one-barred : p ≡ true → o ≡ false → No refusal.marked ≡ operandOf (pathAnswer d q) (asked d q .first)
+        one-barred x y = rw (path-barred d q leads (access ∙ ap not x) (way ∙ ap not y))
 
         -- it may be had
         pub one-fine : p ≡ true → o ≡ true → Fine e ≡ operandOf (pathAnswer d q) (asked d q .first)
         unfolding asked
-        one-fine x y = rw (path-0 d q leads (access ∙ ap not x) (way ∙ ap not y))
+        one-fine x y = rw (path-open d q leads (access ∙ ap not x) (way ∙ ap not y))
             (ap (λ (n : ℕ). Fine (record { 0 = n })) (sym (found-is d l (q .first) ns hn f hf e o h)))
 
   -- ---- two operands: each rung is asked of both before the next
@@ -175,14 +176,14 @@ module _ (d : Tables) (q : Request) (u op l : ℕ) (hu : q .user ≡ u) (ho : q 
 
     module _ (ns : List ℕ) (hn : ns ≡ names (q .first)) (f : Found) (hf : f ≡ leading (resolve d ns) (not (bars d l (basis d ns)))) where
       -- the first reference leads nowhere
-      pub two-nowhere : f ≡ Nowhere → Neither 7 ≡ pairOf (pathAnswer d q) (asked d q .first) (asked d q .second)
-      two-nowhere h = rw (path-7 d q (two-7 ∙ rw (nowhere d l (q .first) ns hn f hf h)))
+      pub two-nowhere : f ≡ Nowhere → Neither refusal.noSuchName ≡ pairOf (pathAnswer d q) (asked d q .first) (asked d q .second)
+      two-nowhere h = rw (path-nowhere d q (two-7 ∙ rw (nowhere d l (q .first) ns hn f hf h)))
 
       module _ (e : Entity) (o : Bool) (h : f ≡ At e o)
           (ms : List ℕ) (hm : ms ≡ names (q .second)) (g : Found) (hg : g ≡ leading (resolve d ms) (not (bars d l (basis d ms)))) where
         -- the second one does
-        pub two-nowhere₂ : g ≡ Nowhere → Neither 7 ≡ pairOf (pathAnswer d q) (asked d q .first) (asked d q .second)
-        two-nowhere₂ k = rw (path-7 d q (two-7 ∙ rw (nowhere d l (q .second) ms hm g hg k, somewhere d l (q .first) ns hn f hf e o h)))
+        pub two-nowhere₂ : g ≡ Nowhere → Neither refusal.noSuchName ≡ pairOf (pathAnswer d q) (asked d q .first) (asked d q .second)
+        two-nowhere₂ k = rw (path-nowhere d q (two-7 ∙ rw (nowhere d l (q .second) ms hm g hg k, somewhere d l (q .first) ns hn f hf e o h)))
 
         module _ (c : Entity) (w : Bool) (k : g ≡ At c w) (p : Bool) (hp : p ≡ permits d u op 1 (e .0)) where
           both-lead : leadsNowhere d q ≡ false
@@ -192,23 +193,23 @@ module _ (d : Tables) (q : Request) (u op l : ℕ) (hu : q .user ≡ u) (ho : q 
           access-both r hr = two-8 ∙ rw (found-is d l (q .first) ns hn f hf e o h, found-is d l (q .second) ms hm g hg c w k, hp, hr)
 
           -- the first operand's triples do not permit the request
-          pub two-shut : p ≡ false → Neither 8 ≡ pairOf (pathAnswer d q) (asked d q .first) (asked d q .second)
-          two-shut x = rw (path-8 d q both-lead (access-both (permits d u op 2 (c .0)) refl ∙ rw x))
+          pub two-shut : p ≡ false → Neither refusal.noAccess ≡ pairOf (pathAnswer d q) (asked d q .first) (asked d q .second)
+          two-shut x = rw (path-shut d q both-lead (access-both (permits d u op 2 (c .0)) refl ∙ rw x))
 
           module _ (x : p ≡ true) (r : Bool) (hr : r ≡ permits d u op 2 (c .0)) where
             -- the second one's do not
-            pub two-shut₂ : r ≡ false → Neither 8 ≡ pairOf (pathAnswer d q) (asked d q .first) (asked d q .second)
-            two-shut₂ y = rw (path-8 d q both-lead (access-both r hr ∙ rw (x, y)))
+            pub two-shut₂ : r ≡ false → Neither refusal.noAccess ≡ pairOf (pathAnswer d q) (asked d q .first) (asked d q .second)
+            two-shut₂ y = rw (path-shut d q both-lead (access-both r hr ∙ rw (x, y)))
 
             way-both : notCleared d q ≡ not (o && w)
             way-both = two-9 ∙ rw (way-is d l (q .first) ns hn f hf e o h, way-is d l (q .second) ms hm g hg c w k) (joined o w)
 
             -- one of the ways is not open
-            pub two-barred : r ≡ true → (o && w) ≡ false → Neither 9 ≡ pairOf (pathAnswer d q) (asked d q .first) (asked d q .second)
-            two-barred y z = rw (path-9 d q both-lead (access-both r hr ∙ rw (x, y)) (way-both ∙ ap not z))
+            pub two-barred : r ≡ true → (o && w) ≡ false → Neither refusal.marked ≡ pairOf (pathAnswer d q) (asked d q .first) (asked d q .second)
+            two-barred y z = rw (path-barred d q both-lead (access-both r hr ∙ rw (x, y)) (way-both ∙ ap not z))
 
             -- both may be had
             pub two-fine : r ≡ true → (o && w) ≡ true → Both e c ≡ pairOf (pathAnswer d q) (asked d q .first) (asked d q .second)
             unfolding asked
-            two-fine y z = rw (path-0 d q both-lead (access-both r hr ∙ rw (x, y)) (way-both ∙ ap not z))
+            two-fine y z = rw (path-open d q both-lead (access-both r hr ∙ rw (x, y)) (way-both ∙ ap not z))
                 (rw (found-is d l (q .first) ns hn f hf e o h, found-is d l (q .second) ms hm g hg c w k))

@@ -10,6 +10,7 @@ use Rattle.model.specs.Request.Allowed.{arity}
 use Rattle.model.specs.Request.Asked.{asked}
 use Rattle.model.specs.Request.Ladder.{leadsNowhere, lowest, noAccess, notCleared}
 use Rattle.model.specs.Request.Operations.{opOf}
+use Rattle.model.specs.Request.Refusals as refusal
 use Rattle.model.specs.Request.Words.{Request}
 use Rattle.model.specs.Tables.Words.{Tables}
 
@@ -19,7 +20,7 @@ arityOf q = elim (opOf (q .operation)) [ none ↦ 0 | some o ↦ arity o ]
 
 -- the lowest of rungs 7, 8 and 9 that applies, or 0
 unfoldable pub pathAnswer : Tables → Request → ℕ
-pathAnswer d q = lowest 7 (leadsNowhere ∷ noAccess ∷ notCleared ∷ []) d q
+pathAnswer d q = lowest refusal.noSuchName (leadsNowhere ∷ noAccess ∷ notCleared ∷ []) d q
 
 -- Rules 7.7 to 7.9: an operand that is refused carries document 01's number, and one that is not its entity.
 abbrev pub operandOf : ℕ → ℕ → Operand

@@ -8,6 +8,7 @@ use Rattle.ladder.specs.ClimbLaws.{passed-hit, passed-more}
 use Rattle.ladder.specs.Contract.{Passed}
 use Rattle.ladder.specs.Path.{pathAnswer}
 use Rattle.model.specs.Request.Ladder.{Rung, answer, applies, ladder, leadsNowhere, lowest, never, noAccess, notCleared, rungAt}
+use Rattle.model.specs.Request.Refusals as refusal
 use Rattle.model.specs.Request.Words.{Request}
 use Rattle.model.specs.Tables.Words.{Tables, firstNoticed}
 
@@ -21,51 +22,51 @@ unfolding lowest
 lowest-no n r rs d q e = subst (λ (b : Bool). elim b [ true ↦ n | false ↦ lowest (suc n) rs d q ] ≡ lowest (suc n) rs d q) (sym e) refl
 
 module _ (d : Tables) (q : Request) where
-  pub path-7 : leadsNowhere d q ≡ true → pathAnswer d q ≡ 7
+  pub path-nowhere : leadsNowhere d q ≡ true → pathAnswer d q ≡ refusal.noSuchName
   unfolding pathAnswer
-  path-7 a = lowest-yes 7 leadsNowhere (noAccess ∷ notCleared ∷ []) d q a
+  path-nowhere a = lowest-yes refusal.noSuchName leadsNowhere (noAccess ∷ notCleared ∷ []) d q a
 
   module _ (a : leadsNowhere d q ≡ false) where
-    pub path-8 : noAccess d q ≡ true → pathAnswer d q ≡ 8
+    pub path-shut : noAccess d q ≡ true → pathAnswer d q ≡ refusal.noAccess
     unfolding pathAnswer
-    path-8 b = lowest-no 7 leadsNowhere (noAccess ∷ notCleared ∷ []) d q a ∙ lowest-yes 8 noAccess (notCleared ∷ []) d q b
+    path-shut b = lowest-no refusal.noSuchName leadsNowhere (noAccess ∷ notCleared ∷ []) d q a ∙ lowest-yes refusal.noAccess noAccess (notCleared ∷ []) d q b
 
     module _ (b : noAccess d q ≡ false) where
-      pub path-9 : notCleared d q ≡ true → pathAnswer d q ≡ 9
+      pub path-barred : notCleared d q ≡ true → pathAnswer d q ≡ refusal.marked
       unfolding pathAnswer
-      path-9 c = lowest-no 7 leadsNowhere (noAccess ∷ notCleared ∷ []) d q a ∙ lowest-no 8 noAccess (notCleared ∷ []) d q b
-          ∙ lowest-yes 9 notCleared [] d q c
+      path-barred c = lowest-no refusal.noSuchName leadsNowhere (noAccess ∷ notCleared ∷ []) d q a ∙ lowest-no refusal.noAccess noAccess (notCleared ∷ []) d q b
+          ∙ lowest-yes refusal.marked notCleared [] d q c
 
-      pub path-0 : notCleared d q ≡ false → pathAnswer d q ≡ 0
+      pub path-open : notCleared d q ≡ false → pathAnswer d q ≡ 0
       unfolding pathAnswer lowest
-      path-0 c = lowest-no 7 leadsNowhere (noAccess ∷ notCleared ∷ []) d q a ∙ lowest-no 8 noAccess (notCleared ∷ []) d q b
-          ∙ lowest-no 9 notCleared [] d q c
+      path-open c = lowest-no refusal.noSuchName leadsNowhere (noAccess ∷ notCleared ∷ []) d q a ∙ lowest-no refusal.noAccess noAccess (notCleared ∷ []) d q b
+          ∙ lowest-no refusal.marked notCleared [] d q c
 
   -- what the answer of the three says of the whole ladder
   record Told (p : ℕ) : Type 0 where
     hit : 1 ≤ p → (p ≡ answer d q) × (firstNoticed ≤ p)
-    pass : p ≡ 0 → Passed 9 d q
+    pass : p ≡ 0 → Passed refusal.marked d q
 
-  told : Passed 6 d q → Told (pathAnswer d q)
+  told : Passed refusal.notLoggedOn d q → Told (pathAnswer d q)
   unfolding applies rungAt never ladder
   told p = go (leadsNowhere d q) (noAccess d q) (notCleared d q) refl refl refl
     where
       go : (a b c : Bool) → leadsNowhere d q ≡ a → noAccess d q ≡ b → notCleared d q ≡ c → Told (pathAnswer d q)
-      go true b c x y z = rw (path-7 x) record { hit = λ h. (passed-hit d q 6 p x, omega arith); pass = λ h. absurd (omega arith) }
-      go false true c x y z = rw (path-8 x y) record { hit = λ h. (passed-hit d q 7 (passed-more d q 6 p x) y, omega arith); pass = λ h. absurd (omega arith) }
-      go false false true x y z = rw (path-9 x y z) record {
-        hit = λ h. (passed-hit d q 8 (passed-more d q 7 (passed-more d q 6 p x) y) z, omega arith);
+      go true b c x y z = rw (path-nowhere x) record { hit = λ h. (passed-hit d q refusal.notLoggedOn p x, omega arith); pass = λ h. absurd (omega arith) }
+      go false true c x y z = rw (path-shut x y) record { hit = λ h. (passed-hit d q refusal.noSuchName (passed-more d q refusal.notLoggedOn p x) y, omega arith); pass = λ h. absurd (omega arith) }
+      go false false true x y z = rw (path-barred x y z) record {
+        hit = λ h. (passed-hit d q refusal.noAccess (passed-more d q refusal.noSuchName (passed-more d q refusal.notLoggedOn p x) y) z, omega arith);
         pass = λ h. absurd (omega arith);
       }
       go false false false x y z = record {
-        hit = λ h. absurd (omega (arith, path-0 x y z));
-        pass = λ h. passed-more d q 8 (passed-more d q 7 (passed-more d q 6 p x) y) z;
+        hit = λ h. absurd (omega (arith, path-open x y z));
+        pass = λ h. passed-more d q refusal.noAccess (passed-more d q refusal.noSuchName (passed-more d q refusal.notLoggedOn p x) y) z;
       }
 
   -- a refusal by the three is the answer
-  pub path-hit : Passed 6 d q → 1 ≤ pathAnswer d q → (pathAnswer d q ≡ answer d q) × (firstNoticed ≤ pathAnswer d q)
+  pub path-hit : Passed refusal.notLoggedOn d q → 1 ≤ pathAnswer d q → (pathAnswer d q ≡ answer d q) × (firstNoticed ≤ pathAnswer d q)
   path-hit p h = told p .hit h
 
   -- where none of the three applies the ladder is passed up to rung 9
-  pub path-pass : Passed 6 d q → pathAnswer d q ≡ 0 → Passed 9 d q
+  pub path-pass : Passed refusal.notLoggedOn d q → pathAnswer d q ≡ 0 → Passed refusal.marked d q
   path-pass p h = told p .pass h

@@ -5,7 +5,7 @@ use reference::Found;
 use tables::Entity;
 use tables::User;
 ghost use mathlib.Core.Path.{_≡_};
-ghost use Rattle.ladder.specs.Contract.{Climbed};
+ghost use Rattle.ladder.specs.Contract.{PastLogon};
 ghost use Rattle.ladder.specs.Path.{arityOf, oneRead, twoRead};
 ghost use Rattle.model.specs.Request.Words.{requestOf};
 ghost use Rattle.model.specs.Tables.Layout.{tablesOf};
@@ -24,7 +24,7 @@ pub enum Pair {
 
 // The operand that a request of one operand names, or the refusal 7, 8 or 9: the reference is read once.
 pub fn one_operand(t: &[u32], q: &[u32], u: User, o: u32) -> Operand
-    requires { ⌜ Climbed 6 (now t) (now q) (u .0) × (requestOf (now q) .operation ≡ o) × (arityOf (requestOf (now q)) ≡ 1) ⌝ }
+    requires { ⌜ PastLogon (now t) (now q) (u .0) × (requestOf (now q) .operation ≡ o) × (arityOf (requestOf (now q)) ≡ 1) ⌝ }
     ensures { λ r. ⌜ r ≡ oneRead (tablesOf (now (t .entry))) (requestOf (now (q .entry))) ⌝ }
 {
     let l = tables::clearance(t, u);
@@ -42,7 +42,7 @@ pub fn one_operand(t: &[u32], q: &[u32], u: User, o: u32) -> Operand
 
 // The operands that a request of two operands names, or the refusal 7, 8 or 9: each reference is read once.
 pub fn two_operands(t: &[u32], q: &[u32], u: User, o: u32) -> Pair
-    requires { ⌜ Climbed 6 (now t) (now q) (u .0) × (requestOf (now q) .operation ≡ o) × (arityOf (requestOf (now q)) ≡ 2) ⌝ }
+    requires { ⌜ PastLogon (now t) (now q) (u .0) × (requestOf (now q) .operation ≡ o) × (arityOf (requestOf (now q)) ≡ 2) ⌝ }
     ensures { λ r. ⌜ r ≡ twoRead (tablesOf (now (t .entry))) (requestOf (now (q .entry))) ⌝ }
 {
     let l = tables::clearance(t, u);

@@ -1,7 +1,6 @@
 // What the three operations store: places that are left or filled, and records that appear or go.
 use levels::Level;
 use names::kind;
-use names::refusal;
 use names::size;
 use names::sort;
 use names::types;
@@ -67,10 +66,10 @@ fn sort_kind(s: u32) -> u32
 fn sort_type(s: u32) -> u32
     ensures { λ r. ⌜ r ≡ sortType s ⌝ }
 {
-    if s == 3 {
-        return 1;
+    if s == sort::DRAFT {
+        return types::DRAFT;
     }
-    refusal::ACCEPTED
+    types::PLAIN
 }
 
 // Entity e is there now, of sort s and level l, with the triples of c.

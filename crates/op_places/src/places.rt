@@ -10,20 +10,31 @@ ghost use Rattle.model.specs.Request.Conditions.{onScreen};
 ghost use Rattle.model.specs.State.Climb.{climb};
 ghost use Rattle.model.specs.State.WellFormed.{WellFormed};
 ghost use Rattle.model.specs.Tables.Layout.{tablesOf, wordCount};
-ghost use Rattle.model.specs.Tables.Words.{entityCount};
+ghost use Rattle.model.specs.Tables.Words.{containerKind, deviceKind, entityCount};
 ghost use Rattle.op_places.specs.Standing.{parentIn, standing};
 ghost use Rattle.tables.specs.Singles.{EntityIn};
 
-// Whether entity v is of kind k and e stands in one of its places. The kind is asked last, of the few that e stands in: kinds come in
-// no order, and a branch on each would be guessed wrong too often.
-fn stands_in(t: &[u32], k: u32, v: Entity, e: Entity) -> bool
+// Whether v is a container that e stands in. The kind is asked last, of the few that hold e: kinds come in no order, and a branch on each
+// would be guessed wrong too often.
+fn contains(t: &[u32], v: Entity, e: Entity) -> bool
     requires { ⌜ EntityIn (now t) (v .0) × WellFormed (tablesOf (now t)) × (1 ≤ e .0) ⌝ }
-    ensures { λ r. ⌜ r ≡ standing (tablesOf (now (t .entry))) k (e .0) (v .0) ⌝ }
+    ensures { λ r. ⌜ r ≡ standing (tablesOf (now (t .entry))) containerKind (e .0) (v .0) ⌝ }
 {
     if !rows::holds(t, v, e) {
         return false;
     }
-    tables::kind(t, v) == k
+    tables::kind(t, v) == kind::CONTAINER
+}
+
+// Whether v is a screen that shows e.
+fn shows(t: &[u32], v: Entity, e: Entity) -> bool
+    requires { ⌜ EntityIn (now t) (v .0) × WellFormed (tablesOf (now t)) × (1 ≤ e .0) ⌝ }
+    ensures { λ r. ⌜ r ≡ standing (tablesOf (now (t .entry))) deviceKind (e .0) (v .0) ⌝ }
+{
+    if !rows::holds(t, v, e) {
+        return false;
+    }
+    tables::is_screen(tables::kind(t, v))
 }
 
 // The lowest container that entity e stands in, or entity 0.
@@ -33,7 +44,7 @@ pub fn holder(t: &[u32], e: Entity) -> Entity
 {
     let mut i: u32 = 0;
     while i < size::ENTITIES {
-        if stands_in(t, kind::CONTAINER, Entity(i + 1), e) {
+        if contains(t, Entity(i + 1), e) {
             return Entity(i + 1);
         }
         i += 1;
@@ -41,14 +52,14 @@ pub fn holder(t: &[u32], e: Entity) -> Entity
     Entity(0)
 }
 
-// Whether some device shows entity e.
+// Whether some screen shows entity e.
 pub fn on_screen(t: &[u32], e: Entity) -> bool
     requires { ⌜ (length (now t) ≡ wordCount) × WellFormed (tablesOf (now t)) × (1 ≤ e .0) ⌝ }
     ensures { λ r. ⌜ r ≡ onScreen (tablesOf (now (t .entry))) (e .0) ⌝ }
 {
     let mut i: u32 = 0;
     while i < size::ENTITIES {
-        if stands_in(t, kind::DEVICE, Entity(i + 1), e) {
+        if shows(t, Entity(i + 1), e) {
             return true;
         }
         i += 1;

@@ -6,6 +6,19 @@ ghost use lib.ListN.{length};
 ghost use Rattle.model.specs.Request.Ladder.{namesFit};
 ghost use Rattle.model.specs.Request.Words.{nameCount, names, referenceAt, requestOf, requestWords};
 
+// The name words of a reference, counted from the word of its length, and lengths short of the four that there may be.
+const FIRST: usize = 1;
+
+const SECOND: usize = 2;
+
+const THIRD: usize = 3;
+
+const FOURTH: usize = 4;
+
+const TWO: u32 = 2;
+
+const THREE: u32 = 3;
+
 // Who asks.
 pub fn requester(q: &[u32]) -> u32
     requires { ⌜ length (now q) ≡ requestWords ⌝ }
@@ -95,26 +108,26 @@ pub fn names_fit(q: &[u32], k: usize) -> bool
     ensures { λ r. ⌜ r ≡ namesFit (referenceAt (now (q .entry)) k) ⌝ }
 {
     let n = q[k];
-    if 3 < n {
+    if THREE < n {
         return true;
     }
-    if q[k + 4] != 0 {
+    if q[k + FOURTH] != 0 {
         return false;
     }
-    if 2 < n {
+    if TWO < n {
         return true;
     }
-    if q[k + 3] != 0 {
+    if q[k + THIRD] != 0 {
         return false;
     }
     if 1 < n {
         return true;
     }
-    if q[k + 2] != 0 {
+    if q[k + SECOND] != 0 {
         return false;
     }
     if 0 < n {
         return true;
     }
-    q[k + 1] == 0
+    q[k + FIRST] == 0
 }

@@ -7,12 +7,12 @@ use names::size;
 use names::word;
 ghost use mathlib.Core.Path.{_≡_};
 ghost use Prim.Native.Nat.{_<_};
-ghost use lib.Dec.{eqb};
 ghost use lib.ListN.{length};
 ghost use Rattle.model.specs.Tables.Edits.{onEntity, word};
+ghost use Rattle.model.specs.Tables.Kinds.{screen, terminal};
 ghost use Rattle.model.specs.Tables.Layout.{entityWidth, tablesOf, wordCount};
 ghost use Rattle.model.specs.Tables.WordAt.{entityWordAt};
-ghost use Rattle.model.specs.Tables.Words.{deviceKind, kind, level, mark, maximum, place, placeCount, releaser, shown, triple, type, used, value};
+ghost use Rattle.model.specs.Tables.Words.{kind, level, mark, maximum, place, placeCount, releaser, shown, triple, type, used, value};
 ghost use Rattle.tables.specs.Singles.{EntityIn, entitySingle, rowCount, rowWord, singleCount};
 
 // Word f of entity e, counted from 0: any of the thirty-two.
@@ -245,14 +245,14 @@ pub fn set_triple(t: &mut [u32], e: Entity, i: u32, v: u32)
 
 // Whether what is of kind k shows things.
 pub fn is_screen(k: u32) -> bool
-    ensures { λ r. ⌜ r ≡ eqb k deviceKind ⌝ }
+    ensures { λ r. ⌜ r ≡ screen k ⌝ }
 {
     k == names::kind::DEVICE
 }
 
 // Whether one can be logged on to what is of kind k.
 pub fn is_terminal(k: u32) -> bool
-    ensures { λ r. ⌜ r ≡ eqb k deviceKind ⌝ }
+    ensures { λ r. ⌜ r ≡ terminal k ⌝ }
 {
     k == names::kind::DEVICE
 }

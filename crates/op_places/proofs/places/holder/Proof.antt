@@ -9,7 +9,7 @@ use Rattle.op_places.proofs.places.holder.Statement.{statement}
 use Rattle.op_places.proofs.places.holder.Tie as tie
 use Rattle.op_places.proofs.places.holder.Reads as reads
 use Rattle.op_places.proofs.places.holder.Lts as lts
-use Rattle.op_places.proofs.places.stands_in.Reads as stands-in-reads
+use Rattle.op_places.proofs.places.contains.Reads as contains-reads
 
 abbrev Inv-loop : tie.InvT-loop
 Inv-loop t e i₀ i = (i ≤ 64) × Unheld (tablesOf t) (e .0) i
@@ -23,8 +23,8 @@ loop-holds c = (omega arith, λ j h. absurd (omega arith))
 add-t6 : tie.Need-add-t6 Inv-loop μ-loop
 add-t6 c = omega arith
 
-stands-in-requires : tie.Need-stands-in-requires Inv-loop μ-loop
-stands-in-requires c κs = search needs
+contains-requires : tie.Need-contains-requires Inv-loop μ-loop
+contains-requires c κs = search needs
 
 add-t8 : tie.Need-add-t8 Inv-loop μ-loop
 add-t8 c = omega arith
@@ -33,7 +33,7 @@ returns : tie.Need-returns Inv-loop μ-loop
 returns c =
     let s5 = c .before .before .before .before .before in
     parent-here (tablesOf (s5 .args .t .now)) _ _ (c .before .before .loop-test .taken) (c .before .before .before .loop .inv .1)
-    (sym (c .before .stands-in .ensures) ∙ c .if1 .taken)
+    (sym (c .before .contains .ensures) ∙ c .if1 .taken)
 
 add-i : tie.Need-add-i Inv-loop μ-loop
 add-i c = omega arith
@@ -46,7 +46,7 @@ loop-again c =
     let s5 : _ → _ = λ _. c .before .before .before .before .before in (
       omega arith,
       unheld-more (tablesOf (s5 c .args .t .now)) _ _ (c .before .before .before .loop .inv .1)
-          (sym (c .before .stands-in .ensures) ∙ c .if1 .left),
+          (sym (c .before .contains .ensures) ∙ c .if1 .left),
     )
 
 returns-2 : tie.Need-returns-2 Inv-loop μ-loop
@@ -60,7 +60,7 @@ holder-spec =
     μ-loop
     loop-holds
     add-t6
-    stands-in-requires
+    contains-requires
     add-t8
     returns
     add-i

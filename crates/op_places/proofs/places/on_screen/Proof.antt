@@ -12,7 +12,7 @@ use Rattle.op_places.proofs.places.on_screen.Statement.{statement}
 use Rattle.op_places.proofs.places.on_screen.Tie as tie
 use Rattle.op_places.proofs.places.on_screen.Reads as reads
 use Rattle.op_places.proofs.places.on_screen.Lts as lts
-use Rattle.op_places.proofs.places.stands_in.Reads as stands-in-reads
+use Rattle.op_places.proofs.places.shows.Reads as shows-reads
 
 abbrev Inv-loop : tie.InvT-loop
 Inv-loop t e i₀ i = (i ≤ 64) × (every i (λ v. hides (tablesOf t) (e .0) (suc v)) ≡ true)
@@ -26,13 +26,13 @@ loop-holds c = (omega arith, every-none _)
 add-t6 : tie.Need-add-t6 Inv-loop μ-loop
 add-t6 c = omega arith
 
-stands-in-requires : tie.Need-stands-in-requires Inv-loop μ-loop
-stands-in-requires c κs = search needs
+shows-requires : tie.Need-shows-requires Inv-loop μ-loop
+shows-requires c κs = search needs
 
 returns : tie.Need-returns Inv-loop μ-loop
 returns c =
     let s5 = c .before .before .before .before .before in
-    shown-here (tablesOf (s5 .args .t .now)) _ _ (c .before .before .loop-test .taken) (sym (c .before .stands-in .ensures) ∙ c .if1 .taken)
+    shown-here (tablesOf (s5 .args .t .now)) _ _ (c .before .before .loop-test .taken) (sym (c .before .shows .ensures) ∙ c .if1 .taken)
 
 add-i : tie.Need-add-i Inv-loop μ-loop
 add-i c = omega arith
@@ -45,7 +45,7 @@ loop-again c =
     let s5 : _ → _ = λ _. c .before .before .before .before .before in (
       omega arith,
       hidden-more (tablesOf (s5 c .args .t .now)) _ _ (c .before .before .before .loop .inv .1)
-          (sym (c .before .stands-in .ensures) ∙ c .if1 .left),
+          (sym (c .before .shows .ensures) ∙ c .if1 .left),
     )
 
 returns-2 : tie.Need-returns-2 Inv-loop μ-loop
@@ -59,7 +59,7 @@ on-screen-spec =
     μ-loop
     loop-holds
     add-t6
-    stands-in-requires
+    shows-requires
     returns
     add-i
     loop-less

@@ -1,9 +1,9 @@
 use Rattle.op_places.specs.LookLaws.{stands-nowhere, stands-there}
 use borrow.Author.Needs.{needs}
-use Rattle.op_places.proofs.places.stands_in.Statement.{statement}
-use Rattle.op_places.proofs.places.stands_in.Tie as tie
-use Rattle.op_places.proofs.places.stands_in.Reads as reads
-use Rattle.op_places.proofs.places.stands_in.Lts as lts
+use Rattle.op_places.proofs.places.contains.Statement.{statement}
+use Rattle.op_places.proofs.places.contains.Tie as tie
+use Rattle.op_places.proofs.places.contains.Reads as reads
+use Rattle.op_places.proofs.places.contains.Lts as lts
 use Rattle.rows.proofs.holds.Reads as holds-reads
 use Rattle.tables.proofs.kind.Reads as kind-reads
 
@@ -21,5 +21,5 @@ returns-2 c =
     let s4 = c .before .before .before .before in
     stands-there _ (s4 .pre .1) _ _ _ (s4 .pre .2) _ (c .before .before .holds .ensures) (c .before .if1 .left) _ (c .kind .ensures)
 
-pub stands-in-spec : {M : Type 1} → statement M
-stands-in-spec = tie.close (tie.spec holds-requires returns kind-requires returns-2)
+pub contains-spec : {M : Type 1} → statement M
+contains-spec = tie.close (tie.spec holds-requires returns kind-requires returns-2)
