@@ -12,7 +12,7 @@ ghost use Rattle.model.specs.Tables.Layout.{tablesOf};
 ghost use Rattle.model.specs.Tables.Words.{usedPlaces, placeCount};
 ghost use Rattle.tables.specs.Singles.{EntityIn};
 
-// Device v, which uses n places, shows e with the sum a: in its place k, or last where it has none.
+// Shows entity e with the sum a on device v, which uses n places: in its place k, or last where k is n.
 fn put_on(t: &mut [u32], v: Entity, e: Entity, a: u32, k: u32, n: u32)
     requires { ⌜ EntityIn (now t) (v .0) × (n ≡ usedPlaces (tablesOf (now t)) (v .0)) × (k ≡ spot (v .0) (e .0) (tablesOf (now t))) × (k < placeCount) ⌝ }
     ensures { λ _. ⌜ tablesOf (now (t .exit)) ≡ show (v .0) (e .0) a (tablesOf (now (t .entry))) ⌝ }
@@ -25,7 +25,7 @@ fn put_on(t: &mut [u32], v: Entity, e: Entity, a: u32, k: u32, n: u32)
     tables::set_used(t, v, n + 1);
 }
 
-// Device v shows nothing.
+// Empties the screen of device v.
 fn empty(t: &mut [u32], v: Entity)
     requires { ⌜ EntityIn (now t) (v .0) ⌝ }
     ensures { λ _. ⌜ tablesOf (now (t .exit)) ≡ clear (v .0) (tablesOf (now (t .entry))) ⌝ }
@@ -39,7 +39,7 @@ fn empty(t: &mut [u32], v: Entity)
     tables::set_used(t, v, 0);
 }
 
-// Operation 10, from rung 10 on: the requester's device shows entity e with the sum that the request asks.
+// Operation 10 shows entity e on the requester's device, with the sum that the request asks.
 pub fn show(t: &mut [u32], q: &[u32], u: User, e: Entity) -> u32
     requires { ⌜ Taking toShow (now t) (now q) (u .0) × First (now t) (now q) (e .0) ⌝ }
     ensures { λ r. ⌜ Judged (now (t .entry)) (now (q .entry)) r (now (t .exit)) ⌝ }
@@ -65,7 +65,7 @@ pub fn show(t: &mut [u32], q: &[u32], u: User, e: Entity) -> u32
     refusal::ACCEPTED
 }
 
-// Operation 11: the requester's device shows nothing.
+// Operation 11 empties the screen of the requester's device.
 pub fn clear(t: &mut [u32], q: &[u32], u: User) -> u32
     requires { ⌜ Taking toClear (now t) (now q) (u .0) ⌝ }
     ensures { λ r. ⌜ Judged (now (t .entry)) (now (q .entry)) r (now (t .exit)) ⌝ }
@@ -74,7 +74,7 @@ pub fn clear(t: &mut [u32], q: &[u32], u: User) -> u32
     refusal::ACCEPTED
 }
 
-// Operation 12, from rung 10 on: the requester is on device e.
+// Operation 12 logs the requester on to device e.
 pub fn login(t: &mut [u32], q: &[u32], u: User, e: Entity) -> u32
     requires { ⌜ Taking toLogin (now t) (now q) (u .0) × First (now t) (now q) (e .0) ⌝ }
     ensures { λ r. ⌜ Judged (now (t .entry)) (now (q .entry)) r (now (t .exit)) ⌝ }
@@ -89,7 +89,7 @@ pub fn login(t: &mut [u32], q: &[u32], u: User, e: Entity) -> u32
     refusal::ACCEPTED
 }
 
-// Operation 13: the requester's device shows nothing, and the requester is on none and has no current roles.
+// Operation 13 empties the screen of the requester's device, logs the requester off, and takes the current roles away.
 pub fn logout(t: &mut [u32], q: &[u32], u: User) -> u32
     requires { ⌜ Taking toLogout (now t) (now q) (u .0) ⌝ }
     ensures { λ r. ⌜ Judged (now (t .entry)) (now (q .entry)) r (now (t .exit)) ⌝ }

@@ -7,7 +7,7 @@ use tables::User;
 ghost use Rattle.ladder.specs.Contract.{First, Judged, Taking};
 ghost use Rattle.model.specs.Request.Operations.{toDeviceLevel, toMaximum};
 
-// Operation 17: the maximum of device e is argument a, if its level is at most that; only an officer sets it.
+// Operation 17 sets the maximum of device e to argument a, if its level is at most that. Only an officer sets it.
 pub fn maximum(t: &mut [u32], q: &[u32], u: User, e: Entity) -> u32
     requires { ⌜ Taking toMaximum (now t) (now q) (u .0) × First (now t) (now q) (e .0) ⌝ }
     ensures { λ r. ⌜ Judged (now (t .entry)) (now (q .entry)) r (now (t .exit)) ⌝ }
@@ -26,8 +26,8 @@ pub fn maximum(t: &mut [u32], q: &[u32], u: User, e: Entity) -> u32
     refusal::ACCEPTED
 }
 
-// Operation 18: the level of device e is argument a, if the tables stay secure; a strictly lower one is set by whoever is on it, or by
-// a downgrader.
+// Operation 18 sets the level of device e to argument a, if the tables stay secure. Whoever is on it, or a downgrader, sets a strictly lower
+// one.
 pub fn device_level(t: &mut [u32], q: &[u32], u: User, e: Entity) -> u32
     requires { ⌜ Taking toDeviceLevel (now t) (now q) (u .0) × First (now t) (now q) (e .0) ⌝ }
     ensures { λ r. ⌜ Judged (now (t .entry)) (now (q .entry)) r (now (t .exit)) ⌝ }

@@ -9,8 +9,8 @@ ghost use Rattle.model.specs.Tables.Kinds.{Screen};
 ghost use Rattle.model.specs.Tables.Words.{kinds};
 ghost use Rattle.tables.specs.Singles.{EntityIn};
 
-// Whether the tables with level a at device e are secure; if so that level is set, else nothing has changed. The tables were good, and a
-// device stands in nothing, so what it shows and its maximum decide.
+// Sets the level of device e to a, if the tables are secure then. Returns whether they are; if not, nothing has changed. The tables were good,
+// and a device stands in nothing, so what it shows and its maximum decide.
 pub fn try_device_level(t: &mut [u32], e: Entity, a: Level) -> bool
     requires { ⌜ EntityIn (now t) (e .0) × Good (tablesOf (now t)) × Screen (kinds (tablesOf (now t)) (e .0)) ⌝ }
     ensures { λ r. ⌜ Tried (setLevel (e .0) (a .0) (tablesOf (now (t .entry)))) (now (t .entry)) r (now (t .exit)) ⌝ }

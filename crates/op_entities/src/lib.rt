@@ -12,7 +12,7 @@ mod trial;
 ghost use Rattle.ladder.specs.Contract.{First, Judged, Second, Taking};
 ghost use Rattle.model.specs.Request.Operations.{toCopy, toEdit, toLevel, toMark, toRelease};
 
-// Operation 4: the value of entity e is argument a.
+// Operation 4 sets the value of entity e to argument a.
 pub fn edit(t: &mut [u32], q: &[u32], u: User, e: Entity) -> u32
     requires { ⌜ Taking toEdit (now t) (now q) (u .0) × First (now t) (now q) (e .0) ⌝ }
     ensures { λ r. ⌜ Judged (now (t .entry)) (now (q .entry)) r (now (t .exit)) ⌝ }
@@ -24,7 +24,7 @@ pub fn edit(t: &mut [u32], q: &[u32], u: User, e: Entity) -> u32
     refusal::ACCEPTED
 }
 
-// Operation 5: the value of entity e is that of entity c too, if c's level is at least e's.
+// Operation 5 copies the value of entity e to entity c, if the level of c is at least that of e.
 pub fn copy(t: &mut [u32], q: &[u32], u: User, e: Entity, c: Entity) -> u32
     requires { ⌜ Taking toCopy (now t) (now q) (u .0) × First (now t) (now q) (e .0) × Second (now t) (now q) (c .0) ⌝ }
     ensures { λ r. ⌜ Judged (now (t .entry)) (now (q .entry)) r (now (t .exit)) ⌝ }
@@ -40,7 +40,7 @@ pub fn copy(t: &mut [u32], q: &[u32], u: User, e: Entity, c: Entity) -> u32
     refusal::ACCEPTED
 }
 
-// Operation 6: the level of entity e is argument a, if the tables stay secure; only a downgrader sets a strictly lower one.
+// Operation 6 sets the level of entity e to argument a, if the tables stay secure. Only a downgrader sets a strictly lower one.
 pub fn level(t: &mut [u32], q: &[u32], u: User, e: Entity) -> u32
     requires { ⌜ Taking toLevel (now t) (now q) (u .0) × First (now t) (now q) (e .0) ⌝ }
     ensures { λ r. ⌜ Judged (now (t .entry)) (now (q .entry)) r (now (t .exit)) ⌝ }
@@ -58,7 +58,7 @@ pub fn level(t: &mut [u32], q: &[u32], u: User, e: Entity) -> u32
     refusal::ACCEPTED
 }
 
-// Operation 7: the mark of container e is argument a.
+// Operation 7 sets the mark of container e to argument a.
 pub fn mark(t: &mut [u32], q: &[u32], u: User, e: Entity) -> u32
     requires { ⌜ Taking toMark (now t) (now q) (u .0) × First (now t) (now q) (e .0) ⌝ }
     ensures { λ r. ⌜ Judged (now (t .entry)) (now (q .entry)) r (now (t .exit)) ⌝ }
@@ -70,7 +70,7 @@ pub fn mark(t: &mut [u32], q: &[u32], u: User, e: Entity) -> u32
     refusal::ACCEPTED
 }
 
-// Operation 19: the draft e is released, and the requester, who must act as a releaser, is its releaser.
+// Operation 19 releases the draft e. The requester must act as a releaser, and is recorded as the releaser of e.
 pub fn release(t: &mut [u32], q: &[u32], u: User, e: Entity) -> u32
     requires { ⌜ Taking toRelease (now t) (now q) (u .0) × First (now t) (now q) (e .0) ⌝ }
     ensures { λ r. ⌜ Judged (now (t .entry)) (now (q .entry)) r (now (t .exit)) ⌝ }

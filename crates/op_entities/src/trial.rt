@@ -7,7 +7,7 @@ ghost use Rattle.model.specs.Effect.Words.{setLevel};
 ghost use Rattle.model.specs.Tables.Layout.{tablesOf};
 ghost use Rattle.tables.specs.Singles.{EntityIn};
 
-// Whether the tables with level a at entity e are secure; if so that level is set, else nothing has changed.
+// Sets the level of entity e to a, if the tables are secure then. Returns whether they are; if not, nothing has changed.
 pub fn try_level(t: &mut [u32], e: Entity, a: Level) -> bool
     requires { ⌜ EntityIn (now t) (e .0) ⌝ }
     ensures { λ r. ⌜ Tried (setLevel (e .0) (a .0) (tablesOf (now (t .entry)))) (now (t .entry)) r (now (t .exit)) ⌝ }

@@ -16,7 +16,7 @@ ghost use Rattle.model.specs.Tables.Words.{usedPlaces, placeCount, sums, triple
 ghost use Rattle.op_places.specs.Standing.{parentIn};
 ghost use Rattle.tables.specs.Singles.{EntityIn};
 
-// Entity e leaves h, the container that it is in; where h is entity 0 it is in none.
+// Takes entity e out of h, the container that it is in. Where h is entity 0 it is in none.
 pub fn leave(t: &mut [u32], h: Entity, e: Entity)
     requires { ⌜ (length (now t) ≡ wordCount) × WellFormed (tablesOf (now t)) × (h .0 ≡ parentIn (tablesOf (now t)) (e .0)) ⌝ }
     ensures { λ _. ⌜ tablesOf (now (t .exit)) ≡ leave (e .0) (tablesOf (now (t .entry))) ⌝ }
@@ -29,7 +29,7 @@ pub fn leave(t: &mut [u32], h: Entity, e: Entity)
     tables::set_used(t, h, n - 1);
 }
 
-// Entity e stands last in c, of which nothing is shown.
+// Puts entity e last in c. Nothing is shown of what c holds.
 pub fn put_last(t: &mut [u32], c: Entity, e: Entity)
     requires { ⌜ EntityIn (now t) (c .0) × (usedPlaces (tablesOf (now t)) (c .0) < placeCount) × ((i : ℕ) → sums (tablesOf (now t)) (c .0) i ≡ 0) ⌝ }
     ensures { λ _. ⌜ tablesOf (now (t .exit)) ≡ put (c .0) (e .0) 0 (tablesOf (now (t .entry))) ⌝ }
@@ -39,7 +39,7 @@ pub fn put_last(t: &mut [u32], c: Entity, e: Entity)
     tables::set_used(t, c, n + 1);
 }
 
-// The triples of entity c are those of entity e too.
+// Gives entity e the triples of entity c.
 fn copy_triples(t: &mut [u32], e: Entity, c: Entity)
     requires { ⌜ EntityIn (now t) (e .0) × EntityIn (now t) (c .0) ⌝ }
     ensures { λ _. ⌜ tablesOf (now (t .exit)) ≡ onEntity (e .0) (row triple (triples (tablesOf (now (t .entry))) (c .0))) (tablesOf (now (t .entry))) ⌝ }
@@ -72,7 +72,7 @@ fn sort_type(s: u32) -> u32
     types::PLAIN
 }
 
-// Entity e is there now, of sort s and level l, with the triples of c.
+// Makes entity e: of sort s and level l, with the triples of c.
 pub fn bear(t: &mut [u32], e: Entity, c: Entity, s: u32, l: Level)
     requires { ⌜ EntityIn (now t) (e .0) × EntityIn (now t) (c .0) ⌝ }
     ensures { λ _. ⌜ tablesOf (now (t .exit)) ≡ fresh (e .0) (c .0) (sortKind s) (sortType s) (l .0) (tablesOf (now (t .entry))) ⌝ }
@@ -83,7 +83,7 @@ pub fn bear(t: &mut [u32], e: Entity, c: Entity, s: u32, l: Level)
     copy_triples(t, e, c);
 }
 
-// Every word of entity e is zero.
+// Sets every word of entity e to zero.
 pub fn erase(t: &mut [u32], e: Entity)
     requires { ⌜ EntityIn (now t) (e .0) ⌝ }
     ensures { λ _. ⌜ tablesOf (now (t .exit)) ≡ erase (e .0) (tablesOf (now (t .entry))) ⌝ }

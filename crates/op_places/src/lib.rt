@@ -12,7 +12,7 @@ mod places;
 ghost use Rattle.ladder.specs.Contract.{First, Judged, Second, Taking};
 ghost use Rattle.model.specs.Request.Operations.{toCreate, toDelete, toMove};
 
-// Operation 1: a new entity of sort a and level b, last in c, with c's triples.
+// Operation 1 makes a new entity of sort a and level b, last in c, with the triples of c.
 pub fn create(t: &mut [u32], q: &[u32], u: User, c: Entity) -> u32
     requires { ⌜ Taking toCreate (now t) (now q) (u .0) × First (now t) (now q) (c .0) ⌝ }
     ensures { λ r. ⌜ Judged (now (t .entry)) (now (q .entry)) r (now (t .exit)) ⌝ }
@@ -33,7 +33,7 @@ pub fn create(t: &mut [u32], q: &[u32], u: User, c: Entity) -> u32
     refusal::ACCEPTED
 }
 
-// Operation 2: entity e leaves the container that it is in, and is gone.
+// Operation 2 takes entity e out of its container, and removes it.
 pub fn delete(t: &mut [u32], q: &[u32], u: User, e: Entity) -> u32
     requires { ⌜ Taking toDelete (now t) (now q) (u .0) × First (now t) (now q) (e .0) ⌝ }
     ensures { λ r. ⌜ Judged (now (t .entry)) (now (q .entry)) r (now (t .exit)) ⌝ }
@@ -51,7 +51,7 @@ pub fn delete(t: &mut [u32], q: &[u32], u: User, e: Entity) -> u32
     refusal::ACCEPTED
 }
 
-// Operation 3: entity e leaves the container that it is in, and stands last in c.
+// Operation 3 takes entity e out of its container, and puts it last in c.
 pub fn relocate(t: &mut [u32], q: &[u32], u: User, e: Entity, c: Entity) -> u32
     requires { ⌜ Taking toMove (now t) (now q) (u .0) × First (now t) (now q) (e .0) × Second (now t) (now q) (c .0) ⌝ }
     ensures { λ r. ⌜ Judged (now (t .entry)) (now (q .entry)) r (now (t .exit)) ⌝ }

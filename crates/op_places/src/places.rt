@@ -67,7 +67,7 @@ pub fn on_screen(t: &[u32], e: Entity) -> bool
     false
 }
 
-// The lowest number of an absent entity, or 65.
+// The lowest number of an absent entity, or the first that is no entity's.
 pub fn vacant(t: &[u32]) -> u32
     requires { ⌜ length (now t) ≡ wordCount ⌝ }
     ensures { λ r. ⌜ r ≡ vacant (tablesOf (now (t .entry))) ⌝ }

@@ -16,7 +16,7 @@ fn named_triple(q: &[u32]) -> u32
     tables::triples::triple_of(request::a(q), request::b(q), request::c(q))
 }
 
-// Operation 8, from rung 10 on: entity e has the triple that the request names, last if it is new.
+// Operation 8 gives entity e the triple that the request names, as its last. A triple that is there already stays.
 pub fn grant(t: &mut [u32], q: &[u32], u: User, e: Entity) -> u32
     requires { ⌜ Taking toGrant (now t) (now q) (u .0) × First (now t) (now q) (e .0) ⌝ }
     ensures { λ r. ⌜ Judged (now (t .entry)) (now (q .entry)) r (now (t .exit)) ⌝ }
@@ -36,7 +36,7 @@ pub fn grant(t: &mut [u32], q: &[u32], u: User, e: Entity) -> u32
     refusal::ACCEPTED
 }
 
-// Operation 9, from rung 10 on: entity e has the triple that the request names no more, and later ones close up.
+// Operation 9 takes from entity e the triple that the request names, and closes up those after it.
 pub fn revoke(t: &mut [u32], q: &[u32], u: User, e: Entity) -> u32
     requires { ⌜ Taking toRevoke (now t) (now q) (u .0) × First (now t) (now q) (e .0) ⌝ }
     ensures { λ r. ⌜ Judged (now (t .entry)) (now (q .entry)) r (now (t .exit)) ⌝ }

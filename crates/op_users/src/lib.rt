@@ -10,8 +10,8 @@ mod trial;
 ghost use Rattle.ladder.specs.Contract.{Judged, Taking};
 ghost use Rattle.model.specs.Request.Operations.{toAcknowledge, toAuthorised, toClearance, toCurrent};
 
-// Operation 14: the current roles of user a are argument b, if they are authorised; another's are set by an officer only, and who is
-// off has none.
+// Operation 14 sets the current roles of user a to argument b, if they are authorised. Only an officer sets those of another, and who is off
+// has none.
 pub fn current_roles(t: &mut [u32], q: &[u32], u: User) -> u32
     requires { ⌜ Taking toCurrent (now t) (now q) (u .0) ⌝ }
     ensures { λ r. ⌜ Judged (now (t .entry)) (now (q .entry)) r (now (t .exit)) ⌝ }
@@ -31,7 +31,7 @@ pub fn current_roles(t: &mut [u32], q: &[u32], u: User) -> u32
     refusal::ACCEPTED
 }
 
-// Operation 15: the clearance of user a is argument b, if the tables stay secure; only an officer sets it.
+// Operation 15 sets the clearance of user a to argument b, if the tables stay secure. Only an officer sets it.
 pub fn clearance(t: &mut [u32], q: &[u32], u: User) -> u32
     requires { ⌜ Taking toClearance (now t) (now q) (u .0) ⌝ }
     ensures { λ r. ⌜ Judged (now (t .entry)) (now (q .entry)) r (now (t .exit)) ⌝ }
@@ -49,7 +49,7 @@ pub fn clearance(t: &mut [u32], q: &[u32], u: User) -> u32
     refusal::ACCEPTED
 }
 
-// Operation 16: the authorised roles of user a are argument b, if the current ones are among them; only an officer sets them.
+// Operation 16 sets the authorised roles of user a to argument b, if the current ones are among them. Only an officer sets them.
 pub fn authorised_roles(t: &mut [u32], q: &[u32], u: User) -> u32
     requires { ⌜ Taking toAuthorised (now t) (now q) (u .0) ⌝ }
     ensures { λ r. ⌜ Judged (now (t .entry)) (now (q .entry)) r (now (t .exit)) ⌝ }
@@ -69,7 +69,7 @@ pub fn authorised_roles(t: &mut [u32], q: &[u32], u: User) -> u32
     refusal::ACCEPTED
 }
 
-// Operation 20: the notice is emptied, if a is the refusal held and b the count.
+// Operation 20 empties the notice of the requester, if a is the refusal held and b the number missed.
 pub fn acknowledge(t: &mut [u32], q: &[u32], u: User) -> u32
     requires { ⌜ Taking toAcknowledge (now t) (now q) (u .0) ⌝ }
     ensures { λ r. ⌜ Judged (now (t .entry)) (now (q .entry)) r (now (t .exit)) ⌝ }

@@ -7,8 +7,8 @@ ghost use Rattle.model.specs.State.Secure.{Good};
 ghost use Rattle.model.specs.Tables.Layout.{tablesOf};
 ghost use Rattle.tables.specs.Singles.{UserIn};
 
-// Whether the tables with clearance a of user u are secure; if so that clearance is set, else nothing has changed. The tables were good,
-// so only what u is shown can be above it.
+// Sets the clearance of user u to a, if the tables are secure then. Returns whether they are; if not, nothing has changed. The tables were
+// good, so only what u is shown can be above it.
 pub fn try_clearance(t: &mut [u32], u: User, a: Level) -> bool
     requires { ⌜ UserIn (now t) (u .0) × Good (tablesOf (now t)) ⌝ }
     ensures { λ r. ⌜ Tried (setClearance (u .0) (a .0) (tablesOf (now (t .entry)))) (now (t .entry)) r (now (t .exit)) ⌝ }

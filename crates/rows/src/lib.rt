@@ -62,7 +62,7 @@ pub fn triple_place(t: &[u32], e: Entity, x: u32) -> u32
     size::TRIPLES
 }
 
-// Word k of row r of entity e is taken out, and the later ones close up.
+// Takes word k out of row r of entity e, and closes up those after it.
 fn close_row(t: &mut [u32], e: Entity, r: usize, k: u32)
     requires { ⌜ EntityIn (now t) (e .0) × (r < rowCount) × (k < placeCount) ⌝ }
     ensures { λ _. ⌜ tablesOf (now (t .exit))
@@ -77,7 +77,7 @@ fn close_row(t: &mut [u32], e: Entity, r: usize, k: u32)
     tables::set_row_word(t, e, r, LAST, 0);
 }
 
-// Place k of entity h is taken out, and the later ones close up.
+// Takes place k out of entity h, and closes up those after it.
 pub fn close_places(t: &mut [u32], h: Entity, k: u32)
     requires { ⌜ EntityIn (now t) (h .0) × (k < placeCount) ⌝ }
     ensures { λ _. ⌜ tablesOf (now (t .exit))
@@ -86,7 +86,7 @@ pub fn close_places(t: &mut [u32], h: Entity, k: u32)
     close_row(t, h, row::PLACES, k);
 }
 
-// Triple k of entity e is taken out, and the later ones close up.
+// Takes triple k out of entity e, and closes up those after it.
 pub fn close_triples(t: &mut [u32], e: Entity, k: u32)
     requires { ⌜ EntityIn (now t) (e .0) × (k < placeCount) ⌝ }
     ensures { λ _. ⌜ tablesOf (now (t .exit))

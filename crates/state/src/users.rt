@@ -51,7 +51,7 @@ fn spares_zero(t: &[u32], u: User) -> bool
     blank
 }
 
-// Whether a refusal h of an operation o, counted n times, is a notice as it should be.
+// Whether a refusal h of an operation o, with n missed, is a notice as it should be.
 fn notice_fine(h: u32, o: u32, n: u32) -> bool
     ensures { λ r. ⌜ r ≡ noticeTest h o n ⌝ }
 {

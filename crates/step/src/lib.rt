@@ -1,5 +1,5 @@
-// The step: rung 1 by lengths, the state check (2 and 3), then the ladder from rung 4 on and the effects, which stand apart so that a
-// run of many requests need check its tables once only.
+// The step: rung 1 by lengths, the state check (2 and 3), then the ladder from rung 4 on, the effect and the notice. These stand apart, so that
+// a run of many requests need check its tables once only.
 use ladder::operands::Operand;
 use ladder::operands::Pair;
 use names::op;
@@ -19,7 +19,7 @@ ghost use Rattle.model.specs.Request.After.{noticedOp};
 ghost use Rattle.model.specs.Request.Words.{requestOf, requestWords};
 ghost use Rattle.step.specs.Contract.{Settled};
 
-// Rungs 10 to 16 and the effect of a request with one operand: the number of its operation chooses them.
+// Judges rungs 10 to 16 of a request with one operand, and does it. The number of its operation chooses who does so.
 fn act_one(t: &mut [u32], q: &[u32], u: User, o: u32, e: Entity) -> u32
     requires { ⌜ PastMarks (now t) (now q) (u .0) × (requestOf (now q) .operation ≡ o) × (arityOf (requestOf (now q)) ≡ 1) × First (now t) (now q) (e .0) ⌝ }
     ensures { λ r. ⌜ Judged (now (t .entry)) (now (q .entry)) r (now (t .exit)) ⌝ }
@@ -37,12 +37,12 @@ fn act_one(t: &mut [u32], q: &[u32], u: User, o: u32, e: Entity) -> u32
         op::MAXIMUM => op_devices::maximum(t, q, u, e),
         op::DEVICE_LEVEL => op_devices::device_level(t, q, u, e),
         op::RELEASE => op_entities::release(t, q, u, e),
-        // the arms have every such operation: nothing is left, and what were left would be refused
+        // no operation is left for this arm; a 0 would read as accepted, so it refuses
         _ => refusal::BAD_REQUEST,
     }
 }
 
-// Rungs 10 to 16 and the effect of a request with two operands.
+// Judges rungs 10 to 16 of a request with two operands, and does it.
 fn act_two(t: &mut [u32], q: &[u32], u: User, o: u32, e: Entity, c: Entity) -> u32
     requires { ⌜ PastMarks (now t) (now q) (u .0) × (requestOf (now q) .operation ≡ o) × (arityOf (requestOf (now q)) ≡ 2)
         × First (now t) (now q) (e .0) × Second (now t) (now q) (c .0) ⌝ }
@@ -51,12 +51,12 @@ fn act_two(t: &mut [u32], q: &[u32], u: User, o: u32, e: Entity, c: Entity) -> u
     match o {
         op::MOVE => op_places::relocate(t, q, u, e, c),
         op::COPY => op_entities::copy(t, q, u, e, c),
-        // the arms have every such operation: nothing is left, and what were left would be refused
+        // no operation is left for this arm; a 0 would read as accepted, so it refuses
         _ => refusal::BAD_REQUEST,
     }
 }
 
-// Rungs 7 to 16 and the effect of a request with one operand.
+// Judges rungs 7 to 16 of a request with one operand, and does it.
 fn serve_one(t: &mut [u32], q: &[u32], u: User, o: u32) -> u32
     requires { ⌜ PastLogon (now t) (now q) (u .0) × (requestOf (now q) .operation ≡ o) × (arityOf (requestOf (now q)) ≡ 1) ⌝ }
     ensures { λ r. ⌜ Judged (now (t .entry)) (now (q .entry)) r (now (t .exit)) ⌝ }
@@ -68,7 +68,7 @@ fn serve_one(t: &mut [u32], q: &[u32], u: User, o: u32) -> u32
     }
 }
 
-// Rungs 7 to 16 and the effect of a request with two operands.
+// Judges rungs 7 to 16 of a request with two operands, and does it.
 fn serve_two(t: &mut [u32], q: &[u32], u: User, o: u32) -> u32
     requires { ⌜ PastLogon (now t) (now q) (u .0) × (requestOf (now q) .operation ≡ o) × (arityOf (requestOf (now q)) ≡ 2) ⌝ }
     ensures { λ r. ⌜ Judged (now (t .entry)) (now (q .entry)) r (now (t .exit)) ⌝ }
@@ -80,7 +80,7 @@ fn serve_two(t: &mut [u32], q: &[u32], u: User, o: u32) -> u32
     }
 }
 
-// Rungs 7 to 16 and the effect: the number of the operation chooses how many operands there are to read.
+// Judges rungs 7 to 16, and does what is asked. The number of the operation chooses how many operands there are to read.
 fn serve(t: &mut [u32], q: &[u32], u: User, o: u32) -> u32
     requires { ⌜ PastLogon (now t) (now q) (u .0) × (requestOf (now q) .operation ≡ o) ⌝ }
     ensures { λ r. ⌜ Judged (now (t .entry)) (now (q .entry)) r (now (t .exit)) ⌝ }
@@ -110,7 +110,7 @@ fn noticed(q: &[u32]) -> u32
     o
 }
 
-// Rungs 5 to 16 and the effect.
+// Judges rungs 5 to 16, and does what is asked.
 fn attend(t: &mut [u32], q: &[u32], u: User) -> u32
     requires { ⌜ PastRequester (now t) (now q) (u .0) ⌝ }
     ensures { λ r. ⌜ Judged (now (t .entry)) (now (q .entry)) r (now (t .exit)) ⌝ }
@@ -125,7 +125,7 @@ fn attend(t: &mut [u32], q: &[u32], u: User) -> u32
     serve(t, q, u, o)
 }
 
-// Rungs 4 to 16, the effect, and the notice of a refusal, of tables that are well-formed and secure.
+// Judges rungs 4 to 16 on tables that are well-formed and secure, does what is asked, and leaves the notice of a refusal. Nothing else does.
 pub fn advance(t: &mut [u32], q: &[u32]) -> u32
     requires { ⌜ Ready (now t) (now q) ⌝ }
     ensures { λ r. ⌜ Stepped (now (t .entry)) (now (q .entry)) r (now (t .exit)) ⌝ }

@@ -8,7 +8,7 @@ ghost use Rattle.model.specs.Tables.Layout.{tablesOf};
 ghost use Rattle.model.specs.Tables.Words.{missedMost};
 ghost use Rattle.tables.specs.Singles.{UserIn};
 
-// One refusal more is missed; the number stops at its most.
+// The number of missed refusals, one more; it stops at its most.
 fn one_more(m: u32) -> u32
     ensures { λ r. ⌜ r ≡ missedMore (ltb m missedMost) m ⌝ }
 {
@@ -18,7 +18,7 @@ fn one_more(m: u32) -> u32
     range::MISSED_MOST
 }
 
-// User u has a notice of refusal n of operation o: the first one unread is kept, and one more is missed.
+// Leaves user u a notice of refusal n of operation o. The first one unread is kept, and one more is missed.
 pub fn leave(t: &mut [u32], u: User, n: u32, o: u32)
     requires { ⌜ UserIn (now t) (u .0) ⌝ }
     ensures { λ _. ⌜ tablesOf (now (t .exit)) ≡ notice (u .0) n o (tablesOf (now (t .entry))) ⌝ }

@@ -113,7 +113,7 @@ pub fn place(t: &[u32], e: Entity, i: u32) -> Entity
     Entity(row_word(t, e, row::PLACES, i))
 }
 
-// What a device e shows of place i.
+// What screen e shows of place i.
 pub fn shown(t: &[u32], e: Entity, i: u32) -> u32
     requires { ⌜ EntityIn (now t) (e .0) × (i < placeCount) ⌝ }
     ensures { λ r. ⌜ r ≡ tablesOf (now (t .entry)) .entity (e .0) (shown i) ⌝ }
@@ -129,7 +129,7 @@ pub fn triple(t: &[u32], e: Entity, i: u32) -> u32
     row_word(t, e, row::TRIPLES, i)
 }
 
-// Word f of entity e, counted from 0, is v now, and no other word has changed.
+// Sets word f of entity e, counted from 0, to v, and no other word.
 pub fn set_entity_at(t: &mut [u32], e: Entity, f: usize, v: u32)
     requires { ⌜ EntityIn (now t) (e .0) × (f < entityWidth) ⌝ }
     ensures { λ _. ⌜ tablesOf (now (t .exit)) ≡ onEntity (e .0) (word (entityWordAt f) v) (tablesOf (now (t .entry))) ⌝ }
@@ -138,7 +138,7 @@ pub fn set_entity_at(t: &mut [u32], e: Entity, f: usize, v: u32)
     t[size::ALL_USER_WORDS + (n - 1) * size::ENTITY_WORDS + f] = v;
 }
 
-// Single word f of entity e is v now, and no other word has changed.
+// Sets single word f of entity e to v, and no other word.
 fn set_entity_word(t: &mut [u32], e: Entity, f: usize, v: u32)
     requires { ⌜ EntityIn (now t) (e .0) × (f < singleCount) ⌝ }
     ensures { λ _. ⌜ tablesOf (now (t .exit)) ≡ onEntity (e .0) (word (entitySingle f) v) (tablesOf (now (t .entry))) ⌝ }
@@ -147,7 +147,7 @@ fn set_entity_word(t: &mut [u32], e: Entity, f: usize, v: u32)
     t[size::ALL_USER_WORDS + (n - 1) * size::ENTITY_WORDS + f] = v;
 }
 
-// The kind of entity e is v now, and no other word has changed.
+// Sets the kind of entity e to v, and no other word.
 pub fn set_kind(t: &mut [u32], e: Entity, v: u32)
     requires { ⌜ EntityIn (now t) (e .0) ⌝ }
     ensures { λ _. ⌜ tablesOf (now (t .exit)) ≡ onEntity (e .0) (word kind v) (tablesOf (now (t .entry))) ⌝ }
@@ -155,7 +155,7 @@ pub fn set_kind(t: &mut [u32], e: Entity, v: u32)
     set_entity_word(t, e, word::KIND, v);
 }
 
-// The type of entity e is v now, and no other word has changed.
+// Sets the type of entity e to v, and no other word.
 pub fn set_type(t: &mut [u32], e: Entity, v: u32)
     requires { ⌜ EntityIn (now t) (e .0) ⌝ }
     ensures { λ _. ⌜ tablesOf (now (t .exit)) ≡ onEntity (e .0) (word type v) (tablesOf (now (t .entry))) ⌝ }
@@ -163,7 +163,7 @@ pub fn set_type(t: &mut [u32], e: Entity, v: u32)
     set_entity_word(t, e, word::TYPE, v);
 }
 
-// The level of entity e is v now, and no other word has changed.
+// Sets the level of entity e to v, and no other word.
 pub fn set_level(t: &mut [u32], e: Entity, v: Level)
     requires { ⌜ EntityIn (now t) (e .0) ⌝ }
     ensures { λ _. ⌜ tablesOf (now (t .exit)) ≡ onEntity (e .0) (word level (v .0)) (tablesOf (now (t .entry))) ⌝ }
@@ -171,7 +171,7 @@ pub fn set_level(t: &mut [u32], e: Entity, v: Level)
     set_entity_word(t, e, word::LEVEL, v.0);
 }
 
-// The mark of entity e is v now, and no other word has changed.
+// Sets the mark of entity e to v, and no other word.
 pub fn set_mark(t: &mut [u32], e: Entity, v: u32)
     requires { ⌜ EntityIn (now t) (e .0) ⌝ }
     ensures { λ _. ⌜ tablesOf (now (t .exit)) ≡ onEntity (e .0) (word mark v) (tablesOf (now (t .entry))) ⌝ }
@@ -179,7 +179,7 @@ pub fn set_mark(t: &mut [u32], e: Entity, v: u32)
     set_entity_word(t, e, word::MARK, v);
 }
 
-// The value of entity e is v now, and no other word has changed.
+// Sets the value of entity e to v, and no other word.
 pub fn set_value(t: &mut [u32], e: Entity, v: u32)
     requires { ⌜ EntityIn (now t) (e .0) ⌝ }
     ensures { λ _. ⌜ tablesOf (now (t .exit)) ≡ onEntity (e .0) (word value v) (tablesOf (now (t .entry))) ⌝ }
@@ -187,7 +187,7 @@ pub fn set_value(t: &mut [u32], e: Entity, v: u32)
     set_entity_word(t, e, word::VALUE, v);
 }
 
-// The releaser of entity e is v now, and no other word has changed.
+// Sets the releaser of entity e to v, and no other word.
 pub fn set_releaser(t: &mut [u32], e: Entity, v: User)
     requires { ⌜ EntityIn (now t) (e .0) ⌝ }
     ensures { λ _. ⌜ tablesOf (now (t .exit)) ≡ onEntity (e .0) (word releaser (v .0)) (tablesOf (now (t .entry))) ⌝ }
@@ -195,7 +195,7 @@ pub fn set_releaser(t: &mut [u32], e: Entity, v: User)
     set_entity_word(t, e, word::RELEASER, v.0);
 }
 
-// The maximum of entity e is v now, and no other word has changed.
+// Sets the maximum of entity e to v, and no other word.
 pub fn set_maximum(t: &mut [u32], e: Entity, v: Level)
     requires { ⌜ EntityIn (now t) (e .0) ⌝ }
     ensures { λ _. ⌜ tablesOf (now (t .exit)) ≡ onEntity (e .0) (word maximum (v .0)) (tablesOf (now (t .entry))) ⌝ }
@@ -203,7 +203,7 @@ pub fn set_maximum(t: &mut [u32], e: Entity, v: Level)
     set_entity_word(t, e, word::MAXIMUM, v.0);
 }
 
-// Entity e uses v places now, and no other word has changed.
+// Sets how many places entity e uses to v, and no other word.
 pub fn set_used(t: &mut [u32], e: Entity, v: u32)
     requires { ⌜ EntityIn (now t) (e .0) ⌝ }
     ensures { λ _. ⌜ tablesOf (now (t .exit)) ≡ onEntity (e .0) (word used v) (tablesOf (now (t .entry))) ⌝ }
@@ -211,7 +211,7 @@ pub fn set_used(t: &mut [u32], e: Entity, v: u32)
     set_entity_word(t, e, word::USED, v);
 }
 
-// Word i of row r of entity e is v now, and no other word has changed.
+// Sets word i of row r of entity e to v, and no other word.
 pub fn set_row_word(t: &mut [u32], e: Entity, r: usize, i: u32, v: u32)
     requires { ⌜ EntityIn (now t) (e .0) × (r < rowCount) × (i < placeCount) ⌝ }
     ensures { λ _. ⌜ tablesOf (now (t .exit)) ≡ onEntity (e .0) (word (rowWord r i) v) (tablesOf (now (t .entry))) ⌝ }
@@ -219,7 +219,7 @@ pub fn set_row_word(t: &mut [u32], e: Entity, r: usize, i: u32, v: u32)
     set_entity_at(t, e, size::SINGLES + r * size::ROW_WORDS + i as usize, v);
 }
 
-// Place i of entity e holds v now, and no other word has changed.
+// Puts v in place i of entity e, and changes no other word.
 pub fn set_place(t: &mut [u32], e: Entity, i: u32, v: Entity)
     requires { ⌜ EntityIn (now t) (e .0) × (i < placeCount) ⌝ }
     ensures { λ _. ⌜ tablesOf (now (t .exit)) ≡ onEntity (e .0) (word (place i) (v .0)) (tablesOf (now (t .entry))) ⌝ }
@@ -227,7 +227,7 @@ pub fn set_place(t: &mut [u32], e: Entity, i: u32, v: Entity)
     set_row_word(t, e, row::PLACES, i, v.0);
 }
 
-// What device e shows of place i is v now, and no other word has changed.
+// Sets what screen e shows of place i to v, and no other word.
 pub fn set_shown(t: &mut [u32], e: Entity, i: u32, v: u32)
     requires { ⌜ EntityIn (now t) (e .0) × (i < placeCount) ⌝ }
     ensures { λ _. ⌜ tablesOf (now (t .exit)) ≡ onEntity (e .0) (word (shown i) v) (tablesOf (now (t .entry))) ⌝ }
@@ -235,7 +235,7 @@ pub fn set_shown(t: &mut [u32], e: Entity, i: u32, v: u32)
     set_row_word(t, e, row::SUMS, i, v);
 }
 
-// Access triple i of entity e is v now, and no other word has changed.
+// Sets access triple i of entity e to v, and no other word.
 pub fn set_triple(t: &mut [u32], e: Entity, i: u32, v: u32)
     requires { ⌜ EntityIn (now t) (e .0) × (i < placeCount) ⌝ }
     ensures { λ _. ⌜ tablesOf (now (t .exit)) ≡ onEntity (e .0) (word (triple i) v) (tablesOf (now (t .entry))) ⌝ }

@@ -92,7 +92,7 @@ pub fn held_op(t: &[u32], u: User) -> u32
     user_word(t, u, word::HELD_OPERATION)
 }
 
-// How many refusals user u has had since the last acknowledgement.
+// How many refusals user u has missed since the last acknowledgement.
 pub fn missed(t: &[u32], u: User) -> u32
     requires { ⌜ UserIn (now t) (u .0) ⌝ }
     ensures { λ r. ⌜ r ≡ tablesOf (now (t .entry)) .user (u .0) missed ⌝ }
@@ -100,7 +100,7 @@ pub fn missed(t: &[u32], u: User) -> u32
     user_word(t, u, word::MISSED)
 }
 
-// Single word f of user u is v now, and no other word has changed.
+// Sets single word f of user u to v, and no other word.
 fn set_user_word(t: &mut [u32], u: User, f: usize, v: u32)
     requires { ⌜ UserIn (now t) (u .0) × (f < singleCount) ⌝ }
     ensures { λ _. ⌜ tablesOf (now (t .exit)) ≡ onUser (u .0) (userWord (userSingle f) v) (tablesOf (now (t .entry))) ⌝ }
@@ -109,7 +109,7 @@ fn set_user_word(t: &mut [u32], u: User, f: usize, v: u32)
     t[(n - 1) * size::USER_WORDS + f] = v;
 }
 
-// The clearance of user u is v now, and no other word has changed.
+// Sets the clearance of user u to v, and no other word.
 pub fn set_clearance(t: &mut [u32], u: User, v: Level)
     requires { ⌜ UserIn (now t) (u .0) ⌝ }
     ensures { λ _. ⌜ tablesOf (now (t .exit)) ≡ onUser (u .0) (userWord clearance (v .0)) (tablesOf (now (t .entry))) ⌝ }
@@ -117,7 +117,7 @@ pub fn set_clearance(t: &mut [u32], u: User, v: Level)
     set_user_word(t, u, word::CLEARANCE, v.0);
 }
 
-// The roles that user u may take are v now, and no other word has changed.
+// Sets the roles that user u may take to v, and no other word.
 pub fn set_authorised(t: &mut [u32], u: User, v: u32)
     requires { ⌜ UserIn (now t) (u .0) ⌝ }
     ensures { λ _. ⌜ tablesOf (now (t .exit)) ≡ onUser (u .0) (userWord authorised v) (tablesOf (now (t .entry))) ⌝ }
@@ -125,7 +125,7 @@ pub fn set_authorised(t: &mut [u32], u: User, v: u32)
     set_user_word(t, u, word::AUTHORISED, v);
 }
 
-// The roles that user u acts with are v now, and no other word has changed.
+// Sets the roles that user u acts with to v, and no other word.
 pub fn set_current(t: &mut [u32], u: User, v: u32)
     requires { ⌜ UserIn (now t) (u .0) ⌝ }
     ensures { λ _. ⌜ tablesOf (now (t .exit)) ≡ onUser (u .0) (userWord current v) (tablesOf (now (t .entry))) ⌝ }
@@ -133,7 +133,7 @@ pub fn set_current(t: &mut [u32], u: User, v: u32)
     set_user_word(t, u, word::CURRENT, v);
 }
 
-// User u is on device v now, on none where it is entity 0, and no other word has changed.
+// Puts user u on device v, on none where v is entity 0, and changes no other word.
 pub fn set_device(t: &mut [u32], u: User, v: Entity)
     requires { ⌜ UserIn (now t) (u .0) ⌝ }
     ensures { λ _. ⌜ tablesOf (now (t .exit)) ≡ onUser (u .0) (userWord device (v .0)) (tablesOf (now (t .entry))) ⌝ }
@@ -141,7 +141,7 @@ pub fn set_device(t: &mut [u32], u: User, v: Entity)
     set_user_word(t, u, word::DEVICE, v.0);
 }
 
-// The refusal that user u has not read is v now, and no other word has changed.
+// Sets the refusal that user u has not read to v, and no other word.
 pub fn set_held(t: &mut [u32], u: User, v: u32)
     requires { ⌜ UserIn (now t) (u .0) ⌝ }
     ensures { λ _. ⌜ tablesOf (now (t .exit)) ≡ onUser (u .0) (userWord held v) (tablesOf (now (t .entry))) ⌝ }
@@ -149,7 +149,7 @@ pub fn set_held(t: &mut [u32], u: User, v: u32)
     set_user_word(t, u, word::HELD, v);
 }
 
-// The operation of the refusal held is v now, and no other word has changed.
+// Sets the operation of the refusal held to v, and no other word.
 pub fn set_held_op(t: &mut [u32], u: User, v: u32)
     requires { ⌜ UserIn (now t) (u .0) ⌝ }
     ensures { λ _. ⌜ tablesOf (now (t .exit)) ≡ onUser (u .0) (userWord heldOp v) (tablesOf (now (t .entry))) ⌝ }
@@ -157,7 +157,7 @@ pub fn set_held_op(t: &mut [u32], u: User, v: u32)
     set_user_word(t, u, word::HELD_OPERATION, v);
 }
 
-// The count of refusals of user u is v now, and no other word has changed.
+// Sets the count of refusals of user u to v, and no other word.
 pub fn set_missed(t: &mut [u32], u: User, v: u32)
     requires { ⌜ UserIn (now t) (u .0) ⌝ }
     ensures { λ _. ⌜ tablesOf (now (t .exit)) ≡ onUser (u .0) (userWord missed v) (tablesOf (now (t .entry))) ⌝ }
