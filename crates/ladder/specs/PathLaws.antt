@@ -53,7 +53,10 @@ module _ (d : Tables) (q : Request) where
     where
       go : (a b c : Bool) → leadsNowhere d q ≡ a → noAccess d q ≡ b → notCleared d q ≡ c → Told (pathAnswer d q)
       go true b c x y z = rw (path-nowhere x) record { hit = λ h. (passed-hit d q refusal.notLoggedOn p x, omega arith); pass = λ h. absurd (omega arith) }
-      go false true c x y z = rw (path-shut x y) record { hit = λ h. (passed-hit d q refusal.noSuchName (passed-more d q refusal.notLoggedOn p x) y, omega arith); pass = λ h. absurd (omega arith) }
+      go false true c x y z = rw (path-shut x y) record {
+        hit = λ h. (passed-hit d q refusal.noSuchName (passed-more d q refusal.notLoggedOn p x) y, omega arith);
+        pass = λ h. absurd (omega arith);
+      }
       go false false true x y z = rw (path-barred x y z) record {
         hit = λ h. (passed-hit d q refusal.noAccess (passed-more d q refusal.noSuchName (passed-more d q refusal.notLoggedOn p x) y) z, omega arith);
         pass = λ h. absurd (omega arith);
