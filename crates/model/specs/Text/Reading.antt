@@ -9,10 +9,6 @@ use Rattle.model.specs.Request.Words.{requestWords}
 use Rattle.model.specs.Text.Wording.{Lines, badLine, lines, readText, sixteen}
 use Rattle.model.specs.Request.Refusals as refusal
 
--- Rule 7.18: the reader's own refusal under the name by which other crates cite it.
-abbrev pub notRead : ℕ
-notRead = refusal.notARequest
-
 -- What reading a whole text gives, as an answer, as a number and as words in the room w.
 abbrev pub answerIn : Lines → ℕ
 answerIn (lines m x) = refusal.accepted

@@ -11,13 +11,6 @@ use Rattle.model.specs.Request.Words.{Request, nameCount, requestOf, req
 use Rattle.model.specs.Text.Wording.{textOf, wordingOf}
 use Rattle.model.specs.Request.Refusals as refusal
 
--- Rule 11.3: two refusals of the writer under the names by which other crates cite them.
-abbrev pub wrongSize : ℕ
-wrongSize = refusal.badLength
-
-abbrev pub withoutText : ℕ
-withoutText = refusal.badRequest
-
 -- Rule 11.3: a request that a text has: no reference longer than four names, the words after its names zero, and word 15 zero.
 unfoldable pub hasText : Request → Bool
 hasText q =
