@@ -1,10 +1,21 @@
 -- What is well-made is not answered 5, and what is malformed is: each table by one computation.
 use mathlib.Core.Bool.{true}
+use mathlib.Core.List.{map}
 use mathlib.Core.Path.{_≡_, refl}
+use Prim.Native.Nat.{ℕ}
 use lib.ListN.{drop, take}
-use Rattle.cases.specs.Case.Forms.{all5, forms, malformed, none5, wellMade}
+use Rattle.cases.specs.Case.Forms.{Form, all5, form, forms, malformed, none5, wellMade}
 use Rattle.cases.specs.Case.Opened.{openedForms}
 use Rattle.cases.specs.Case.S1.{s1, s1Sheet}
+use Rattle.model.specs.Request.Operations.{numberOf, operations}
+
+-- every operation has its form, in the order of the model's list
+abbrev numberIn : Form → ℕ
+numberIn (form n r s a b c) = n
+
+pub forms-complete : map numberIn forms ≡ map numberOf operations
+unfolding forms operations
+forms-complete = refl
 
 pub wellMade-passes : none5 s1 (wellMade forms) ≡ true
 unfolding openedForms s1 s1Sheet

@@ -11,7 +11,7 @@ use crate::Dice;
 use operands::Aim;
 
 /// Numbers that are no operation's.
-const NO_OPERATIONS: [u32; 6] = [0, 21, 22, 256, 65_536, u32::MAX];
+const NO_OPERATIONS: [u32; 6] = [0, OPERATION_MOST + 1, OPERATION_MOST + 2, 256, 65_536, u32::MAX];
 
 /// How often a request is drawn again that had no chance from the start.
 const MORE_TRIES: u32 = 5;
