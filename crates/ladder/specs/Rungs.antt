@@ -22,4 +22,4 @@ pub record OfOfficers (o : Op) : Type 0 where
 -- Rules 6.6, 6.15 and 6.18: 13, the last condition, says that the tables with the effect are not secure
 pub record OnTrial (o : Op) : Type 0 where
   pub thirteen : (d : Tables) (s : Asked) → refused refusal.levelOrRoles (rowOf o .conditions) d s ≡ insecure (rowOf o .effect) d s
-  pub last : T (every 3 (λ j. free (suc (13 + j)) (rowOf o .conditions)))
+  pub last : T (every 3 (λ j. free (suc (refusal.levelOrRoles + j)) (rowOf o .conditions)))
