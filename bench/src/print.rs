@@ -20,7 +20,7 @@ pub fn heading(seed: u64, repetitions: u32) {
         "Seed {seed}. Nanoseconds for a call: medians of {repetitions} repetitions of each side, in turn, each of {} ms or more.",
         LEAST.as_millis()
     );
-    println!("The ratio is the median of the ratios of repetitions next to each other. Behind it are the quartiles of all three.");
+    println!("The ratio is the median of the ratios of repetitions next to each other. After it are the quartiles of all three.");
     println!();
     println!("| call | load | proved, ns | ordinary, ns | ratio | proved, quartiles | ordinary, quartiles | ratio, quartiles | a pass |");
     println!("|-|-|-|-|-|-|-|-|-|");
