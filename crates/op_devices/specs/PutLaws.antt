@@ -8,12 +8,12 @@ use native.Mathlib.Omega.{arith}
 use lib.Dec.{ltb}
 use borrow.Author.Tests.{le-ltb, lt-ltb}
 use Rattle.model.specs.Basics.Choice.{pick}
-use Rattle.model.specs.Effect.Screens.{show, showing, spot}
+use Rattle.model.specs.Effect.Screens.{show, placing, spot}
 use Rattle.model.specs.Tables.Edits.{onEntity, row, word}
 use Rattle.model.specs.Tables.RowLaws.{replace-same, sought}
 use Rattle.model.specs.Tables.Rows.{Sought, replace}
 use Rattle.model.specs.Tables.Words.{Tables, used, usedPlaces, place, places, shown, sums}
-use Rattle.rows.specs.EditLaws.{row-idle, row-one, thrice, word-idle}
+use Rattle.rows.specs.EditLaws.{row-unedited, row-one, thrice, word-unedited}
 use Rattle.rows.specs.NameLaws.{place-row, shown-row}
 
 module _ (d : Tables) (v e a k n : ℕ) (hn : n ≡ usedPlaces d v) (hk : k ≡ spot v e d) where
@@ -35,11 +35,11 @@ module _ (d : Tables) (v e a k n : ℕ) (hn : n ≡ usedPlaces d v) (hk : k ≡ 
 
     pub put-again : onEntity v (word (shown k) a) d ≡ show v e a d
     put-again = row-one shown shown-row v d k a
-        ∙ sym (row-idle place place-row v summed (replace k e (places d v)) (replace-same (places d v) k e stands))
-        ∙ sym (word-idle v (onEntity v (row place (replace k e (places d v))) summed) used n hn)
+        ∙ sym (row-unedited place place-row v summed (replace k e (places d v)) (replace-same (places d v) k e stands))
+        ∙ sym (word-unedited v (onEntity v (row place (replace k e (places d v))) summed) used n hn)
         ∙ thrice v (word used n) (row place (replace k e (places d v))) (row shown (replace k a (sums d v))) d
-        ∙ ap (λ (m : ℕ). onEntity v (showing v e a d k m) d) used-kept
-        ∙ ap (λ (j : ℕ). onEntity v (showing v e a d j (pick (ltb j (usedPlaces d v)) (usedPlaces d v) (suc (usedPlaces d v)))) d) hk
+        ∙ ap (λ (m : ℕ). onEntity v (placing v e a d k m) d) used-kept
+        ∙ ap (λ (j : ℕ). onEntity v (placing v e a d j (pick (ltb j (usedPlaces d v)) (usedPlaces d v) (suc (usedPlaces d v)))) d) hk
 
   -- it is new: it is stored with its sum, and counted
   module _ (h : n ≤ k) where
@@ -50,5 +50,5 @@ module _ (d : Tables) (v e a k n : ℕ) (hn : n ≡ usedPlaces d v) (hk : k ≡ 
     put-new = ap (λ (s : Tables). onEntity v (word used (n + 1)) (onEntity v (word (place k) e) s)) (row-one shown shown-row v d k a)
         ∙ ap (onEntity v (word used (n + 1))) (row-one place place-row v summed k e)
         ∙ thrice v (word used (n + 1)) (row place (replace k e (places d v))) (row shown (replace k a (sums d v))) d
-        ∙ ap (λ (m : ℕ). onEntity v (showing v e a d k m) d) used-grown
-        ∙ ap (λ (j : ℕ). onEntity v (showing v e a d j (pick (ltb j (usedPlaces d v)) (usedPlaces d v) (suc (usedPlaces d v)))) d) hk
+        ∙ ap (λ (m : ℕ). onEntity v (placing v e a d k m) d) used-grown
+        ∙ ap (λ (j : ℕ). onEntity v (placing v e a d j (pick (ltb j (usedPlaces d v)) (usedPlaces d v) (suc (usedPlaces d v)))) d) hk

@@ -15,12 +15,12 @@ use Rattle.model.specs.Tables.WordAtLaws.{entity-word-back, entity-word-same, o
 use Rattle.model.specs.Tables.Words.{EntityWord, Tables, used, index, kind, level, mark, maximum, place, placeCount, releaser, shown}
 use Rattle.model.specs.Tables.Words.{tag, triple, type, value}
 use Rattle.op_places.specs.Stored.{blankTo}
-use Rattle.rows.specs.EditLaws.{idle}
+use Rattle.rows.specs.EditLaws.{unedited}
 
 module _ (e : ℕ) (d : Tables) where
   -- nothing is stored yet
   pub blank-none : d ≡ onEntity e (blankTo 0) d
-  blank-none = sym (idle e (blankTo 0) d (λ f. go f (ltb (offset f) 0) (below (offset f) 0)))
+  blank-none = sym (unedited e (blankTo 0) d (λ f. go f (ltb (offset f) 0) (below (offset f) 0)))
     where
       go : (f : EntityWord) (b : Bool) → Below (offset f) 0 b → pick b 0 (d .entity e f) ≡ d .entity e f
       go f true (under l) = absurd (omega arith)

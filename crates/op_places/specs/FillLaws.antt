@@ -9,7 +9,7 @@ use Rattle.model.specs.Tables.Rows.{replace}
 use Rattle.model.specs.Tables.StoreLaws.{alike, twice}
 use Rattle.model.specs.Tables.Words.{EntityWord, Tables, used, usedPlaces, kind, level, mark, maximum, place, places, releaser, shown, sums}
 use Rattle.model.specs.Tables.Words.{triple, triples, type, value}
-use Rattle.rows.specs.EditLaws.{row-idle, row-one, thrice}
+use Rattle.rows.specs.EditLaws.{row-unedited, row-one, thrice}
 use Rattle.rows.specs.NameLaws.{place-row, shown-row}
 
 -- e is put last in c, which shows nothing
@@ -17,7 +17,7 @@ pub put-stores : (d : Tables) (c e n : ℕ) → n ≡ usedPlaces d c → ((i : �
     → y ≡ onEntity c (word used (n + 1)) s → y ≡ put c e 0 d
 put-stores d c e n q none s y a b = b
     ∙ ap (onEntity c (word used (n + 1))) (a
-    ∙ ap (onEntity c (word (place n) e)) (sym (row-idle shown shown-row c d (replace n 0 (sums d c)) (replace-same (sums d c) n 0 (none n))))
+    ∙ ap (onEntity c (word (place n) e)) (sym (row-unedited shown shown-row c d (replace n 0 (sums d c)) (replace-same (sums d c) n 0 (none n))))
     ∙ row-one place place-row c (onEntity c (row shown (replace n 0 (sums d c))) d) n e)
     ∙ thrice c (word used (n + 1)) (row place (replace n e (places d c))) (row shown (replace n 0 (sums d c))) d
     ∙ rw (add-one n, q)

@@ -21,13 +21,13 @@ use Rattle.model.specs.Tables.Layout.{tablesOf}
 use Rattle.model.specs.Tables.Rows.{replace, seek}
 use Rattle.model.specs.Tables.Words.{Tables, placeCount, triple, triples}
 use Rattle.op_triples.specs.Named.{tripleIn}
-use Rattle.rows.specs.EditLaws.{row-idle, row-one}
+use Rattle.rows.specs.EditLaws.{row-unedited, row-one}
 use Rattle.rows.specs.NameLaws.{triple-row}
 use Rattle.model.specs.Request.Refusals as refusal
 
 -- the effect on a row that has the triple, and on one that has not
 there-same : (d : Tables) (e x : ℕ) → seek x (triples d e) placeCount < placeCount → d ≡ grant e x d
-there-same d e x h = sym (row-idle triple triple-row e d (granted x (triples d e))
+there-same d e x h = sym (row-unedited triple triple-row e d (granted x (triples d e))
     (ap (λ (b : Bool). pick b (triples d e) (replace (seek 0 (triples d e) placeCount) x (triples d e))) (lt-ltb _ _ h)))
 
 new-last : (d : Tables) (e x : ℕ) → placeCount ≤ seek x (triples d e) placeCount

@@ -15,11 +15,11 @@ use Rattle.model.specs.Request.Words.{requestOf}
 use Rattle.model.specs.State.WellFormed.{WellFormed}
 use Rattle.model.specs.Tables.Edits.{onEntity, row}
 use Rattle.model.specs.Tables.Layout.{tablesOf}
-use Rattle.model.specs.Tables.RowLaws.{close-idle}
+use Rattle.model.specs.Tables.RowLaws.{close-beyond}
 use Rattle.model.specs.Tables.Rows.{close, seek, without}
 use Rattle.model.specs.Tables.Words.{Tables, placeCount, triple, triples}
 use Rattle.op_triples.specs.Named.{tripleIn}
-use Rattle.rows.specs.EditLaws.{row-idle}
+use Rattle.rows.specs.EditLaws.{row-unedited}
 use Rattle.rows.specs.NameLaws.{triple-row}
 use Rattle.model.specs.Request.Refusals as refusal
 
@@ -27,8 +27,8 @@ use Rattle.model.specs.Request.Refusals as refusal
 none-same : (d : Tables) (e x : ℕ) → WellFormed d → placeCount ≤ seek x (triples d e) placeCount → d ≡ revoke e x d
 none-same d e x w h =
     let a = w .entities e .access in
-    sym (row-idle triple triple-row e d (without x (triples d e) placeCount)
-    (close-idle (triples d e) (a .0) (seek x (triples d e) placeCount) (a .1 .packed) (omega (arith, a .1 .packed .room))))
+    sym (row-unedited triple triple-row e d (without x (triples d e) placeCount)
+    (close-beyond (triples d e) (a .0) (seek x (triples d e) placeCount) (a .1 .packed) (omega (arith, a .1 .packed .room))))
 
 module _ (t q : List ℕ) (u e : ℕ) (k : Taking toRevoke t q u × First t q e) (b : Bool) (hb : b ≡ isAny (tablesOf t) e) where
   pub revoke-wrong : b ≡ false → Judged t q refusal.wrongKind t

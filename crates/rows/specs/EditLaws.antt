@@ -14,12 +14,12 @@ use Rattle.rows.specs.NameLaws.{row-word}
 use Rattle.rows.specs.Rows.{RowName, rowIn}
 
 -- an edit that leaves every word of the record as it is
-pub idle : (e : ℕ) (A : Edit EntityWord) (d : Tables) → ((f : EntityWord) → written A (d .entity e) f ≡ d .entity e f) → onEntity e A d ≡ d
-idle e A d h = alike e A (record { touched = λ f. false; value = λ f. 0 }) d h
+pub unedited : (e : ℕ) (A : Edit EntityWord) (d : Tables) → ((f : EntityWord) → written A (d .entity e) f ≡ d .entity e f) → onEntity e A d ≡ d
+unedited e A d h = alike e A (record { touched = λ f. false; value = λ f. 0 }) d h
 
 -- a word stored as it is
-pub word-idle : (e : ℕ) (d : Tables) (g : EntityWord) (v : ℕ) → v ≡ d .entity e g → onEntity e (word g v) d ≡ d
-word-idle e d g v q = idle e (word g v) d (λ x. go x (eqb (tag x) (tag g)) (eqb (index x) (index g)) (same (tag x) (tag g)) (same (index x) (index g)))
+pub word-unedited : (e : ℕ) (d : Tables) (g : EntityWord) (v : ℕ) → v ≡ d .entity e g → onEntity e (word g v) d ≡ d
+word-unedited e d g v q = unedited e (word g v) d (λ x. go x (eqb (tag x) (tag g)) (eqb (index x) (index g)) (same (tag x) (tag g)) (same (index x) (index g)))
   where
     go : (x : EntityWord) (a b : Bool) → Same (tag x) (tag g) a → Same (index x) (index g) b → pick (a && b) v (d .entity e x) ≡ d .entity e x
     go x true true (it p) (it r) = q ∙ ap (d .entity e) (sym (entity-word-same x g p r))
@@ -32,8 +32,8 @@ thrice e A B C d = ap (onEntity e A) (twice e B C d) ∙ twice e A (B and C) d
 
 module _ (f : ℕ → EntityWord) (n : RowName f) (e : ℕ) (d : Tables) where
   -- a row as it is: the tables as they are
-  pub row-idle : (r : ℕ → ℕ) → r ≡ rowIn f d e → onEntity e (row f r) d ≡ d
-  row-idle r q = idle e (row f r) d (λ g. go g (eqb (tag g) (tag (f 0))) (same (tag g) (tag (f 0))))
+  pub row-unedited : (r : ℕ → ℕ) → r ≡ rowIn f d e → onEntity e (row f r) d ≡ d
+  row-unedited r q = unedited e (row f r) d (λ g. go g (eqb (tag g) (tag (f 0))) (same (tag g) (tag (f 0))))
     where
       go : (g : EntityWord) (b : Bool) → Same (tag g) (tag (f 0)) b → pick b (r (index g)) (d .entity e g) ≡ d .entity e g
       go g true (it s) = ap (λ (x : ℕ → ℕ). x (index g)) q ∙ ap (d .entity e) (row-word f n g s)
@@ -51,7 +51,7 @@ module _ (f : ℕ → EntityWord) (n : RowName f) (e : ℕ) (d : Tables) where
 
   -- and into the row as it is
   pub row-one : (k v : ℕ) → onEntity e (word (f k) v) d ≡ onEntity e (row f (replace k v (rowIn f d e))) d
-  row-one k v = ap (onEntity e (word (f k) v)) (sym (row-idle (rowIn f d e) refl)) ∙ row-store (rowIn f d e) k v
+  row-one k v = ap (onEntity e (word (f k) v)) (sym (row-unedited (rowIn f d e) refl)) ∙ row-store (rowIn f d e) k v
 
   -- a word of the row read in any entity c, which may be the one that was edited
   pub row-read : (r : ℕ → ℕ) (c i y : ℕ) → (c ≡ e → r i ≡ y) → (c ≢ e → d .entity c (f i) ≡ y) → onEntity e (row f r) d .entity c (f i) ≡ y

@@ -8,7 +8,7 @@ use Rattle.model.specs.Basics.Choice.{Below, Same, below, it, other, over, pick
 use Rattle.model.specs.Tables.Edits.{onEntity, row, word}
 use Rattle.model.specs.Tables.Rows.{replace}
 use Rattle.model.specs.Tables.Words.{EntityWord, Tables}
-use Rattle.rows.specs.EditLaws.{row-idle, row-read, row-store}
+use Rattle.rows.specs.EditLaws.{row-unedited, row-read, row-store}
 use Rattle.rows.specs.Rows.{RowName, rowIn, storedTo, upTo}
 
 -- ---- rows that are new up to a place
@@ -54,7 +54,7 @@ up-after new old i j l = go (ltb j i) (below j i)
 module _ (f : ℕ → EntityWord) (n : RowName f) (e : ℕ) (new : ℕ → ℕ) (d : Tables) where
   -- no word that differs is stored yet
   pub stored-none : (i : ℕ) → ((j : ℕ) → j < i → new j ≡ rowIn f d e j) → d ≡ storedTo f e new d i
-  stored-none i h = sym (row-idle f n e d (upTo i new (rowIn f d e)) (up-none new (rowIn f d e) i h))
+  stored-none i h = sym (row-unedited f n e d (upTo i new (rowIn f d e)) (up-none new (rowIn f d e) i h))
 
   -- one more
   pub stored-more : (i x : ℕ) → x ≡ new i → onEntity e (word (f i) x) (storedTo f e new d i) ≡ storedTo f e new d (i + 1)

@@ -15,14 +15,14 @@ use Rattle.model.specs.Script.ReportLaws.{report-length}
 use Rattle.model.specs.Script.Reports as model
 use Rattle.model.specs.Script.Reports.{output, report, reportText, unread}
 use Rattle.model.specs.Script.Windows as windows
-use Rattle.model.specs.Script.Windows.{broken, idle, preceded, ran, reportBytes, stopped}
+use Rattle.model.specs.Script.Windows.{broken, waiting, preceded, ran, reportBytes, stopped}
 use Rattle.model.specs.Text.NearLaws.{read-bad}
 use Rattle.model.specs.Text.Unfinished.{unfinished}
 use Rattle.model.specs.Text.Wording.{Lines, Wording, badLine, lines, readSeven, sixteen}
 use Rattle.request_text.specs.SevenLaws.{seven-further, seven-rest}
 use Rattle.script.specs.Going.{Going, after}
 use Rattle.script.specs.Reported.{fromCode}
-use Rattle.script.specs.RunLaws.{idle-end, idle-full, idle-go, output-more, ran-bad, ran-idle, ran-turn}
+use Rattle.script.specs.RunLaws.{waiting-end, waiting-full, waiting-go, output-more, ran-bad, ran-waiting, ran-turn}
 use Rattle.script.specs.Running.{Halts, RunsOn}
 use Rattle.script.specs.Turn.{Turns, leftBy, turnedBy, turnedOf}
 use Rattle.script.specs.declared.runs.Ran.{Ran}
@@ -83,7 +83,7 @@ module _ {t₀ s : List ℕ} {last : Bool} {room t : List ℕ} {at : ℕ} {out :
       let d : drop (x .place .at) s ≡ y = rw a (rest .0) in
       let many : n′ ≡ n + length (reportText w) = p′ .many in
       let len = report-length w in
-      let busy : idle (length room - n) (drop at s) ≡ false = idle-go (length room - n) (drop at s) enough (rw (length-drop at s) (omega arith)) in
+      let busy : waiting (length room - n) (drop at s) ≡ false = waiting-go (length room - n) (drop at s) enough (rw (length-drop at s) (omega arith)) in
       let left : length room - n - length (reportText w) ≡ length room - n′ = omega arith in
       record {
         within = omega arith;
@@ -122,17 +122,17 @@ module _ {t₀ s : List ℕ} {last : Bool} {room t : List ℕ} {at : ℕ} {out :
       }
 
   pub going-full : length room - n < reportBytes → RunsOn t₀ s last room (record { place = here at; bytes = n }) t out
-  going-full h = stop-here (ran-idle t (drop at s) last (length room - n) (idle-full (length room - n) (drop at s) h))
+  going-full h = stop-here (ran-waiting t (drop at s) last (length room - n) (waiting-full (length room - n) (drop at s) h))
 
   pub going-end : length s ≤ at → RunsOn t₀ s last room (record { place = here at; bytes = n }) t out
-  going-end h = stop-here (ran-idle t (drop at s) last (length room - n) (idle-end (length room - n) (drop at s) (omega (arith, length-drop at s))))
+  going-end h = stop-here (ran-waiting t (drop at s) last (length room - n) (waiting-end (length room - n) (drop at s) (omega (arith, length-drop at s))))
 
   halted : (x : Turned) (u out′ : List ℕ) (r : Ran) (k : ℕ) → readSeven (drop at s) ≡ badLine k → at < length s → reportBytes ≤ length room - n
       → x ≡ turnedBy t (length s) (here at) (badLine k) → u ≡ t → Halts s last out n at x r out′ → RunsOn t₀ s last room r u out′
   halted x u out′ r k q h enough e f halts = cases (true-or-false (not last && unfinished (drop at s))) waits stops
     where
-      busy : idle (length room - n) (drop at s) ≡ false
-      busy = idle-go (length room - n) (drop at s) enough (rw (length-drop at s) (omega arith))
+      busy : waiting (length room - n) (drop at s) ≡ false
+      busy = waiting-go (length room - n) (drop at s) enough (rw (length-drop at s) (omega arith))
 
       is-bad : ran t (drop at s) last (length room - n) ≡ pick (not last && unfinished (drop at s)) (stopped t (drop at s)) (broken t (drop at s) k)
       is-bad = ran-bad t (drop at s) last (length room - n) k busy q

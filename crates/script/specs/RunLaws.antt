@@ -11,7 +11,7 @@ use Rattle.model.specs.Basics.Choice.{pick}
 use Rattle.model.specs.Request.Step.{afterOf}
 use Rattle.model.specs.Script.Reports.{Report, output, report, reportText}
 use Rattle.model.specs.Script.WindowLaws.{ran-fits, ran-fuel}
-use Rattle.model.specs.Script.Windows.{broken, idle, onward, preceded, ran, reportBytes, run, stopped}
+use Rattle.model.specs.Script.Windows.{broken, waiting, onward, preceded, ran, reportBytes, run, stopped}
 use Rattle.model.specs.Text.NearLaws.{read-shorter}
 use Rattle.model.specs.Text.Unfinished.{unfinished}
 use Rattle.model.specs.Text.Wording.{Lines, Wording, badLine, lines, readSeven, sixteen}
@@ -27,35 +27,35 @@ module _ (t s : List ℕ) (last : Bool) (n : ℕ) where
   onward-ran (badLine k) e = refl
 
   -- a run is its first turn, and the run of what is left
-  pub ran-once : ran t s last n ≡ pick (idle n s) (stopped t s) (onward (λ u x i. ran u x last i) t s last n (readSeven s))
+  pub ran-once : ran t s last n ≡ pick (waiting n s) (stopped t s) (onward (λ u x i. ran u x last i) t s last n (readSeven s))
   unfolding run
-  ran-once = sym (ran-fuel (suc (length s)) last t s n (omega arith)) ∙ ap (pick (idle n s) (stopped t s)) (onward-ran (readSeven s) refl)
+  ran-once = sym (ran-fuel (suc (length s)) last t s n (omega arith)) ∙ ap (pick (waiting n s) (stopped t s)) (onward-ran (readSeven s) refl)
 
   -- nothing more is begun,
-  pub ran-idle : idle n s ≡ true → ran t s last n ≡ stopped t s
-  ran-idle e = ran-once ∙ rw e refl
+  pub ran-waiting : waiting n s ≡ true → ran t s last n ≡ stopped t s
+  ran-waiting e = ran-once ∙ rw e refl
 
   -- or a request is settled, and the others after it,
-  pub ran-turn : (m : Wording) (x : List ℕ) → idle n s ≡ false → readSeven s ≡ lines m x
+  pub ran-turn : (m : Wording) (x : List ℕ) → waiting n s ≡ false → readSeven s ≡ lines m x
       → ran t s last n ≡ preceded (report t (sixteen m)) (ran (afterOf t (sixteen m)) x last (n - length (reportText (report t (sixteen m)))))
   ran-turn m x e r = ran-once ∙ rw (e, r) refl
 
   -- or the request cannot be read.
-  pub ran-bad : (k : ℕ) → idle n s ≡ false → readSeven s ≡ badLine k → ran t s last n ≡ pick (not last && unfinished s) (stopped t s) (broken t s k)
+  pub ran-bad : (k : ℕ) → waiting n s ≡ false → readSeven s ≡ badLine k → ran t s last n ≡ pick (not last && unfinished s) (stopped t s) (broken t s k)
   ran-bad k e r = ran-once ∙ rw (e, r) refl
 
 -- when something is begun, and when not
-pub idle-go : (n : ℕ) (s : List ℕ) → reportBytes ≤ n → 0 < length s → idle n s ≡ false
-unfolding idle
-idle-go n s h l = let z : length s ≡ 0 → ⊥ = λ e. omega arith in rw (le-ltb n reportBytes h, ne-eqb (length s) 0 z) refl
+pub waiting-go : (n : ℕ) (s : List ℕ) → reportBytes ≤ n → 0 < length s → waiting n s ≡ false
+unfolding waiting
+waiting-go n s h l = let z : length s ≡ 0 → ⊥ = λ e. omega arith in rw (le-ltb n reportBytes h, ne-eqb (length s) 0 z) refl
 
-pub idle-full : (n : ℕ) (s : List ℕ) → n < reportBytes → idle n s ≡ true
-unfolding idle
-idle-full n s h = rw (lt-ltb n reportBytes h) refl
+pub waiting-full : (n : ℕ) (s : List ℕ) → n < reportBytes → waiting n s ≡ true
+unfolding waiting
+waiting-full n s h = rw (lt-ltb n reportBytes h) refl
 
-pub idle-end : (n : ℕ) (s : List ℕ) → length s ≡ 0 → idle n s ≡ true
-unfolding idle
-idle-end n s h = rw h (go (ltb n reportBytes))
+pub waiting-end : (n : ℕ) (s : List ℕ) → length s ≡ 0 → waiting n s ≡ true
+unfolding waiting
+waiting-end n s h = rw h (go (ltb n reportBytes))
   where
     go : (b : Bool) → (b || true) ≡ true
     go true = refl

@@ -61,14 +61,14 @@ s1Output =
     ∷ []
 
 -- what the two requests say
-abbrev showing : List ℕ → Wording
-showing r = record { user = 2; operation = 10; first = r; second = []; a = 3; b = 0; c = 0 }
+abbrev asksToShow : List ℕ → Wording
+asksToShow r = record { user = 2; operation = 10; first = r; second = []; a = 3; b = 0; c = 0 }
 
 abbrev first : Wording
-first = showing (4 ∷ 1 ∷ [])
+first = asksToShow (4 ∷ 1 ∷ [])
 
 abbrev second : Wording
-second = showing (5 ∷ [])
+second = asksToShow (5 ∷ [])
 
 first-read : readSeven s1Script ≡ lines first s1Second
 unfolding readSeven readLine

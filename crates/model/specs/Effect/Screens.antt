@@ -11,12 +11,12 @@ use Rattle.model.specs.Tables.Words.{usedPlaces}
 abbrev pub spot : ℕ → ℕ → Tables → ℕ
 spot v e d = seek e (places d v) (usedPlaces d v)
 
-abbrev pub showing : ℕ → ℕ → ℕ → Tables → ℕ → ℕ → Edit EntityWord
-showing v e s d k n = word used n and row place (replace k e (places d v)) and row shown (replace k s (sums d v))
+abbrev pub placing : ℕ → ℕ → ℕ → Tables → ℕ → ℕ → Edit EntityWord
+placing v e s d k n = word used n and row place (replace k e (places d v)) and row shown (replace k s (sums d v))
 
 -- Rule 6.10: the device v shows e with the sum s: last, or in its place, where it has one.
 abbrev pub show : ℕ → ℕ → ℕ → Tables → Tables
-show v e s d = onEntity v (showing v e s d (spot v e d) (pick (ltb (spot v e d) (usedPlaces d v)) (usedPlaces d v) (suc (usedPlaces d v)))) d
+show v e s d = onEntity v (placing v e s d (spot v e d) (pick (ltb (spot v e d) (usedPlaces d v)) (usedPlaces d v) (suc (usedPlaces d v)))) d
 
 -- Rule 6.11: the device v shows nothing.
 abbrev pub clearing : Edit EntityWord

@@ -7,7 +7,7 @@ use native.Mathlib.Omega.{arith}
 use lib.Dec.{T, ltb}
 use Rattle.model.specs.Basics.Choice.{Below, below, over, pick, under}
 use Rattle.model.specs.Effect.PutLaws.{Takes, put-secure, put-wellFormed}
-use Rattle.model.specs.Effect.Screens.{show, showing, spot}
+use Rattle.model.specs.Effect.Screens.{show, placing, spot}
 use Rattle.model.specs.Level.{AtMost}
 use Rattle.model.specs.State.LinksLaws.{device-apart, shrink}
 use Rattle.model.specs.State.Secure.{Good, Secure, labelled}
@@ -36,9 +36,9 @@ module _ (d : Tables) (w : WellFormed d) (s : Secure d) (u v e a : ℕ) (on : de
   -- already there, at k
   module _ (k : ℕ) (l : k < usedPlaces d v) (at-k : places d v k ≡ e) where
     abbrev again : Tables
-    again = onEntity v (showing v e a d k (usedPlaces d v)) d
+    again = onEntity v (placing v e a d k (usedPlaces d v)) d
 
-    again-ok : EntityOk (d .entity v) → EntityOk (written (showing v e a d k (usedPlaces d v)) (d .entity v))
+    again-ok : EntityOk (d .entity v) → EntityOk (written (placing v e a d k (usedPlaces d v)) (d .entity v))
     again-ok o =
         let f : Filled (kinds d v) (usedPlaces d v) (replace k e (places d v)) (replace k a (sums d v))
         = rw (replace-same (places d v) k e at-k) (again-filled (usedPlaces d v) k a (places d v) (sums d v) (kinds d v) screen l sum (o .filled)) in
@@ -57,7 +57,7 @@ module _ (d : Tables) (w : WellFormed d) (s : Secure d) (u v e a : ℕ) (on : de
 
     again-wellFormed : WellFormed again
     again-wellFormed =
-        let n = each EntityOk (showing v e a d k (usedPlaces d v)) v (d .entity) (w .entities) (again-ok (w .entities v)) in
+        let n = each EntityOk (placing v e a d k (usedPlaces d v)) v (d .entity) (w .entities) (again-ok (w .entities v)) in
         let j = shrink (kinds d) (usedPlaces d) (places d) (devices d) (w .links) (usedPlaces again) (places again) no-more same-number in
         search
 
@@ -96,11 +96,11 @@ module _ (d : Tables) (w : WellFormed d) (s : Secure d) (u v e a : ℕ) (on : de
   show-good room = go (ltb (spot v e d) (usedPlaces d v)) (below (spot v e d) (usedPlaces d v)) (sought e (places d v) (usedPlaces d v))
     where
       go : (b : Bool) → Below (spot v e d) (usedPlaces d v) b → Sought e (places d v) (usedPlaces d v) (spot v e d)
-          → Good (onEntity v (showing v e a d (spot v e d) (pick b (usedPlaces d v) (suc (usedPlaces d v)))) d)
+          → Good (onEntity v (placing v e a d (spot v e d) (pick b (usedPlaces d v) (suc (usedPlaces d v)))) d)
       go true (under h) (inl z) = (again-wellFormed (spot v e d) (z .0) (z .1), again-secure (spot v e d) (z .0) (z .1))
       go true (under h) (inr z) = absurd (omega (arith, z .0))
       go false (over h) (inl z) = absurd (omega (arith, z .0))
       go false (over h) (inr z) =
           let t = takes-shown (room h) (z .1) in
-          subst (λ (k : ℕ). Good (onEntity v (showing v e a d k (suc (usedPlaces d v))) d)) (sym (z .0))
+          subst (λ (k : ℕ). Good (onEntity v (placing v e a d k (suc (usedPlaces d v))) d)) (sym (z .0))
           (put-wellFormed d w v e a t, put-secure d w v e a t s low cleared-for (λ q. label))

@@ -11,7 +11,7 @@ use Rattle.model.specs.State.Secure.{Secure}
 use Rattle.model.specs.State.WellFormed.{Access, EntityOk, GoodTriple, WellFormed}
 use Rattle.model.specs.Tables.EditLaws.{case, each}
 use Rattle.model.specs.Tables.Edits.{row, written}
-use Rattle.model.specs.Tables.RowLaws.{append-packed, close-each, close-idle, close-packed, first-zero, sought}
+use Rattle.model.specs.Tables.RowLaws.{append-packed, close-each, close-beyond, close-packed, first-zero, sought}
 use Rattle.model.specs.Tables.Rows.{close, replace, seek, without}
 use Rattle.model.specs.Tables.Words.{Tables, kind, placeCount, triple, triples}
 
@@ -44,7 +44,7 @@ closed-access k n r a = go (ltb k n) (below k n)
   where
     go : (b : Bool) → Below k n b → (m : ℕ) × Access m (close k r)
     go true (under h) = (pred n, record { packed = close-packed r n k (a .packed) h; good = close-each GoodTriple r n k (a .good) })
-    go false (over h) = (n, rw (close-idle r n k (a .packed) h) a)
+    go false (over h) = (n, rw (close-beyond r n k (a .packed) h) a)
 
 module _ (d : Tables) (w : WellFormed d) (s : Secure d) (e t : ℕ) (here : 1 ≤ d .entity e kind) (g : GoodTriple t) where
   grant-ok : (seek t (triples d e) placeCount ≡ placeCount → seek 0 (triples d e) placeCount < placeCount) → EntityOk (d .entity e)

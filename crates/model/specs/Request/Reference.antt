@@ -39,9 +39,9 @@ basis d [] = []
 basis d (e ∷ ps) = passed d e ps
 
 -- Rule 5.3 as a relation: from e, the names ps pass by the entities w and end at x.
-pub data Reads (d : Tables) : ℕ → List ℕ → List ℕ → ℕ → Type 0 where
-  here : {e : ℕ} → Reads d e [] [] e
-  further : {e p : ℕ} {ps w : List ℕ} {x : ℕ} → 1 ≤ p → p ≤ usedPlaces d e → Reads d (standing d e p) ps w x → Reads d e (p ∷ ps) (e ∷ w) x
+pub data Follows (d : Tables) : ℕ → List ℕ → List ℕ → ℕ → Type 0 where
+  here : {e : ℕ} → Follows d e [] [] e
+  further : {e p : ℕ} {ps w : List ℕ} {x : ℕ} → 1 ≤ p → p ≤ usedPlaces d e → Follows d (standing d e p) ps w x → Follows d e (p ∷ ps) (e ∷ w) x
 
 pub record Present (d : Tables) (e : ℕ) : Type 0 where
   pub low : 1 ≤ e
@@ -50,4 +50,4 @@ pub record Present (d : Tables) (e : ℕ) : Type 0 where
 
 -- The names ns lead by the entities w to x.
 pub data Leads (d : Tables) : List ℕ → List ℕ → ℕ → Type 0 where
-  begins : {e : ℕ} {ps w : List ℕ} {x : ℕ} → Present d e → Reads d e ps w x → Leads d (e ∷ ps) w x
+  begins : {e : ℕ} {ps w : List ℕ} {x : ℕ} → Present d e → Follows d e ps w x → Leads d (e ∷ ps) w x

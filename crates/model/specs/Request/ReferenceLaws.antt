@@ -7,7 +7,7 @@ use Prim.Native.Nat.{_≤_, pred, ℕ}
 use native.Mathlib.Omega.{arith}
 use lib.Dec.{T}
 use Rattle.model.specs.Basics.Agree.{Agrees, agrees-and, agrees-as, agrees-eq, agrees-le, agrees-not}
-use Rattle.model.specs.Request.Reference.{Leads, Present, Reads, basis, begins, follow, further, here, passed, placeTest, presentTest}
+use Rattle.model.specs.Request.Reference.{Leads, Present, Follows, basis, begins, follow, further, here, passed, placeTest, presentTest}
 use Rattle.model.specs.Request.Reference.{resolve, standing}
 use Rattle.model.specs.State.WellFormed.{Holds, WellFormed}
 use Rattle.model.specs.Tables.Words.{Tables, absentKind, containerKind, entityCount, kinds, objectKind, usedPlaces}
@@ -23,18 +23,18 @@ present-agrees d e = agrees-as {P = ((1 ≤ e) × (e ≤ entityCount)) × (kinds
     (agrees-and (agrees-and (agrees-le 1 e) (agrees-le e entityCount)) (agrees-not (agrees-eq (kinds d e) absentKind)))
 
 -- What is read from e on is what the relation says.
-pub follow-reads : (d : Tables) (e : ℕ) (ps : List ℕ) → follow d e ps ≢ 0 → Reads d e ps (passed d e ps) (follow d e ps)
+pub follow-follows : (d : Tables) (e : ℕ) (ps : List ℕ) → follow d e ps ≢ 0 → Follows d e ps (passed d e ps) (follow d e ps)
 unfolding follow passed
-follow-reads d e [] h = here
-follow-reads d e (p ∷ ps) h = go (placeTest d e p) (place-agrees d e p .to) h (follow-reads d (standing d e p) ps)
+follow-follows d e [] h = here
+follow-follows d e (p ∷ ps) h = go (placeTest d e p) (place-agrees d e p .to) h (follow-follows d (standing d e p) ps)
   where
     go : (b : Bool) → (T b → (1 ≤ p) × (p ≤ usedPlaces d e)) → _≢_ {A = ℕ} (elim b [ true ↦ follow d (standing d e p) ps | false ↦ 0 ]) 0
-        → (follow d (standing d e p) ps ≢ 0 → Reads d (standing d e p) ps (passed d (standing d e p) ps) (follow d (standing d e p) ps))
-        → Reads d e (p ∷ ps) (e ∷ passed d (standing d e p) ps) (elim b [ true ↦ follow d (standing d e p) ps | false ↦ 0 ])
+        → (follow d (standing d e p) ps ≢ 0 → Follows d (standing d e p) ps (passed d (standing d e p) ps) (follow d (standing d e p) ps))
+        → Follows d e (p ∷ ps) (e ∷ passed d (standing d e p) ps) (elim b [ true ↦ follow d (standing d e p) ps | false ↦ 0 ])
     go true f n ih = further (f tt .0) (f tt .1) (ih n)
     go false f n ih = absurd (n refl)
 
-pub reads-follow : {d : Tables} {e x : ℕ} {ps w : List ℕ} → Reads d e ps w x → (follow d e ps ≡ x) × (passed d e ps ≡ w)
+pub reads-follow : {d : Tables} {e x : ℕ} {ps w : List ℕ} → Follows d e ps w x → (follow d e ps ≡ x) × (passed d e ps ≡ w)
 unfolding follow passed
 reads-follow here = (refl, refl)
 reads-follow {d} (further {e = e} {p = p} {ps = ps} {x = x} l h r) =
@@ -52,7 +52,7 @@ resolve-leads d (e ∷ ps) h = go (presentTest d e) (present-agrees d e .to) h
   where
     go : (b : Bool) → (T b → Present d e) → _≢_ {A = ℕ} (elim b [ true ↦ follow d e ps | false ↦ 0 ]) 0
         → Leads d (e ∷ ps) (passed d e ps) (elim b [ true ↦ follow d e ps | false ↦ 0 ])
-    go true f n = begins (f tt) (follow-reads d e ps n)
+    go true f n = begins (f tt) (follow-follows d e ps n)
     go false f n = absurd (n refl)
 
 -- Where a reference leads is what is read: there is one such entity, and one way.
@@ -65,7 +65,7 @@ leads-resolve {d} (begins {e = e} {ps = ps} {x = x} p r) = (go (presentTest d e)
     go false t q = absurd t
 
 -- In well-formed tables a reference leads to what is there.
-pub reads-present : {d : Tables} {e x : ℕ} {ps w : List ℕ} → WellFormed d → Present d e → Reads d e ps w x → Present d x
+pub reads-present : {d : Tables} {e x : ℕ} {ps w : List ℕ} → WellFormed d → Present d e → Follows d e ps w x → Present d x
 reads-present w p here = p
 reads-present {d} w p (further {e = e} {p = n} l h r) = reads-present w inner r
   where

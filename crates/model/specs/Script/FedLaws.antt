@@ -27,7 +27,7 @@ output-some (r ∷ rs) h = omega arith
 -- With room for a report, the last window leaves nothing, or fewer bytes than it had.
 last-shorter : (n : ℕ) (t w : List ℕ) → reportBytes ≤ n → ran t w true n .line ≡ 0 → ran t w true n .rest ≢ []
     → length (ran t w true n .rest) < length w
-last-shorter n t w room good more = cases (lt-or-le 0 (length (output rs))) settled idle
+last-shorter n t w room good more = cases (lt-or-le 0 (length (output rs))) settled waiting
   where
     rs : List Report
     rs = ran t w true n .reports
@@ -35,8 +35,8 @@ last-shorter n t w room good more = cases (lt-or-le 0 (length (output rs))) sett
     settled : 0 < length (output rs) → length (ran t w true n .rest) < length w
     settled h = omega (arith, output-some rs h, runs-shorter (ran-runs t w true n .good good))
 
-    idle : length (output rs) ≤ 0 → length (ran t w true n .rest) < length w
-    idle h = cases (ran-rest-short t w true n good (omega arith)) (λ q. absurd (more q)) (λ q. let z : _≡_ {A = ℕ} 0 1 = cc in absurd (omega arith))
+    waiting : length (output rs) ≤ 0 → length (ran t w true n .rest) < length w
+    waiting h = cases (ran-rest-short t w true n good (omega arith)) (λ q. absurd (more q)) (λ q. let z : _≡_ {A = ℕ} 0 1 = cc in absurd (omega arith))
 
 -- so the program ends there, by turns
 end-some : (k n : ℕ) (t w : List ℕ) → reportBytes ≤ n → length w < k → (rs : List Report) × Fed n t w [] rs

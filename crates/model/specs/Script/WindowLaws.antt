@@ -15,7 +15,7 @@ use Rattle.model.specs.Script.ReportLaws.{report-length}
 use Rattle.model.specs.Script.Reports.{Report, output, report, reportText, unread}
 use Rattle.model.specs.Script.Runs.{Answered, Runs, cut, stay, turn, whole}
 use Rattle.model.specs.Script.RunsLaws.{runs-answered, runs-longer}
-use Rattle.model.specs.Script.Windows.{Fed, Ran, again, broken, done, idle, onward, over, piece, preceded, ran, reportBytes, run}
+use Rattle.model.specs.Script.Windows.{Fed, Ran, again, broken, done, waiting, onward, over, piece, preceded, ran, reportBytes, run}
 use Rattle.model.specs.Script.Windows.{stopped, together}
 use Rattle.model.specs.Text.NearLaws.{read-bad, read-near-bad, read-shorter}
 use Rattle.model.specs.Text.Unfinished.{unfinished}
@@ -29,26 +29,26 @@ no-bytes [] h = refl
 no-bytes (b ∷ s) h = absurd (omega arith)
 
 -- nothing is begun only where the room is short or no byte is left
-pub idle-why : (n : ℕ) (s : List ℕ) → idle n s ≡ true → (n < reportBytes) ⊎ (s ≡ [])
-unfolding idle
-idle-why n s e = go (ltb n reportBytes) refl e
+pub waiting-why : (n : ℕ) (s : List ℕ) → waiting n s ≡ true → (n < reportBytes) ⊎ (s ≡ [])
+unfolding waiting
+waiting-why n s e = go (ltb n reportBytes) refl e
   where
     go : (t : Bool) → ltb n reportBytes ≡ t → (t || eqb (length s) 0) ≡ true → (n < reportBytes) ⊎ (s ≡ [])
     go true h f = inl (ltb-true n reportBytes h)
     go false h f = let z : length s ≡ 0 = eqb-true (length s) 0 f in inr (no-bytes s (omega arith))
 
 -- and otherwise there is room for a report, and a byte
-pub idle-not : (n : ℕ) (s : List ℕ) → idle n s ≡ false → (reportBytes ≤ n) × (0 < length s)
-unfolding idle
-idle-not n s e = go (ltb n reportBytes) refl e
+pub waiting-not : (n : ℕ) (s : List ℕ) → waiting n s ≡ false → (reportBytes ≤ n) × (0 < length s)
+unfolding waiting
+waiting-not n s e = go (ltb n reportBytes) refl e
   where
     go : (t : Bool) → ltb n reportBytes ≡ t → (t || eqb (length s) 0) ≡ false → (reportBytes ≤ n) × (0 < length s)
     go true h f = let z : _≡_ {A = ℕ} 0 1 = cc in absurd (omega arith)
     go false h f = let z : length s ≡ 0 → ⊥ = eqb-false (length s) 0 f in (ltb-false n reportBytes h, omega arith)
 
-idle-empty : (n : ℕ) → idle n [] ≡ true
-unfolding idle
-idle-empty n = cases (true-or-false (ltb n reportBytes)) (λ h. rw h) (λ h. rw h)
+waiting-empty : (n : ℕ) → waiting n [] ≡ true
+unfolding waiting
+waiting-empty n = cases (true-or-false (ltb n reportBytes)) (λ h. rw h) (λ h. rw h)
 
 -- a request is given up for a reason
 given-up : (last u : Bool) → (not last && u) ≡ false → (last ≡ true) ⊎ (u ≡ false)
@@ -113,12 +113,12 @@ course-onward on last t s n c h (badLine k) e = go (not last && unfinished s) re
 pub run-course : (k : ℕ) (last : Bool) (t s : List ℕ) (n : ℕ) → Course last t s (run k last t s n)
 unfolding run
 run-course zero last t s n = course-stopped last t s
-run-course (suc k) last t s n = go (λ t s n. run-course k last t s n) (idle n s) refl
+run-course (suc k) last t s n = go (λ t s n. run-course k last t s n) (waiting n s) refl
   where
-    go : ((t s : List ℕ) (n : ℕ) → Course last t s (run k last t s n)) → (b : Bool) → idle n s ≡ b
+    go : ((t s : List ℕ) (n : ℕ) → Course last t s (run k last t s n)) → (b : Bool) → waiting n s ≡ b
         → Course last t s (pick b (stopped t s) (onward (run k last) t s last n (readSeven s)))
     go c true e = course-stopped last t s
-    go c false e = course-onward (run k last) last t s n c (idle-not n s e .1) (readSeven s) refl
+    go c false e = course-onward (run k last) last t s n c (waiting-not n s e .1) (readSeven s) refl
 
 -- and so is what is done with all of it.
 pub ran-runs : (t s : List ℕ) (last : Bool) (n : ℕ) → Course last t s (ran t s last n)
@@ -130,7 +130,7 @@ ran-runs t s last n = run-course (length s) last t s n
 run-empty : (k : ℕ) (last : Bool) (t : List ℕ) (n : ℕ) → run k last t [] n ≡ stopped t []
 unfolding run
 run-empty zero last t n = refl
-run-empty (suc k) last t n = rw (idle-empty n)
+run-empty (suc k) last t n = rw (waiting-empty n)
 
 onward-same : (on on′ : List ℕ → List ℕ → ℕ → Ran) (t s : List ℕ) (last : Bool) (n : ℕ) (l : Lines)
     → ((m : Wording) (x : List ℕ) → l ≡ lines m x → (t : List ℕ) (n : ℕ) → on t x n ≡ on′ t x n) → onward on t s last n l ≡ onward on′ t s last n l
@@ -143,7 +143,7 @@ unfolding run
 run-fuel zero j last t s n h g = rw (no-bytes s h) (sym (run-empty j last t n))
 run-fuel (suc k) zero last t s n h g = rw (no-bytes s g) (run-empty (suc k) last t n)
 run-fuel (suc k) (suc j) last t s n h g =
-    ap (pick (idle n s) (stopped t s)) (onward-same (run k last) (run j last) t s last n (readSeven s)
+    ap (pick (waiting n s) (stopped t s)) (onward-same (run k last) (run j last) t s last n (readSeven s)
     (λ m x e u i. run-fuel k j last u x i (omega (arith, read-shorter s m x e)) (omega (arith, read-shorter s m x e))))
 
 -- a caller's own number of turns, at least as many as the window has bytes, is as good
@@ -171,12 +171,12 @@ onward-fits on last t s n f h (badLine k) = go (not last && unfinished s)
 pub run-fits : (k : ℕ) (last : Bool) (t s : List ℕ) (n : ℕ) → length (output (run k last t s n .reports)) ≤ n
 unfolding run output
 run-fits zero last t s n = omega arith
-run-fits (suc k) last t s n = go (λ t s n. run-fits k last t s n) (idle n s) refl
+run-fits (suc k) last t s n = go (λ t s n. run-fits k last t s n) (waiting n s) refl
   where
-    go : ((t s : List ℕ) (n : ℕ) → length (output (run k last t s n .reports)) ≤ n) → (b : Bool) → idle n s ≡ b
+    go : ((t s : List ℕ) (n : ℕ) → length (output (run k last t s n .reports)) ≤ n) → (b : Bool) → waiting n s ≡ b
         → length (output (pick b (stopped t s) (onward (run k last) t s last n (readSeven s)) .reports)) ≤ n
     go f true e = omega arith
-    go f false e = onward-fits (run k last) last t s n f (idle-not n s e .0) (readSeven s)
+    go f false e = onward-fits (run k last) last t s n f (waiting-not n s e .0) (readSeven s)
 
 -- So do all of them.
 pub ran-fits : (t s : List ℕ) (last : Bool) (n : ℕ) → length (output (ran t s last n .reports)) ≤ n
@@ -206,11 +206,11 @@ pub run-short : (k : ℕ) (last : Bool) (t s : List ℕ) (n : ℕ) → length s 
 unfolding run output
 run-short zero last t s n l h g = inl (no-bytes s l)
 run-short (suc k) last t s n l h g =
-    go (λ m x e u i. run-short k last u x i (omega (arith, read-shorter s m x e))) (idle n s) refl h g
+    go (λ m x e u i. run-short k last u x i (omega (arith, read-shorter s m x e))) (waiting n s) refl h g
   where
-    go : ((m : Wording) (x : List ℕ) → readSeven s ≡ lines m x → (u : List ℕ) (i : ℕ) → Short last i (run k last u x i)) → (b : Bool) → idle n s ≡ b
+    go : ((m : Wording) (x : List ℕ) → readSeven s ≡ lines m x → (u : List ℕ) (i : ℕ) → Short last i (run k last u x i)) → (b : Bool) → waiting n s ≡ b
         → Short last n (pick b (stopped t s) (onward (run k last) t s last n (readSeven s)))
-    go f true e h g = cases (idle-why n s e) (λ q. absurd (omega arith)) (λ q. inl q)
+    go f true e h g = cases (waiting-why n s e) (λ q. absurd (omega arith)) (λ q. inl q)
     go f false e h g = onward-short (run k last) last t s n (readSeven s) refl f h g
 
 -- and with exactly as many.

@@ -35,8 +35,8 @@ abbrev pub reportBytes : ℕ
 reportBytes = 52
 
 -- whether nothing more is begun in a window with the bytes s left and room for n
-unfoldable pub idle : ℕ → List ℕ → Bool
-idle n s = ltb n reportBytes || eqb (length s) 0
+unfoldable pub waiting : ℕ → List ℕ → Bool
+waiting n s = ltb n reportBytes || eqb (length s) 0
 
 -- One request of a window, where reading gave l: its report and then the others, by `on`; or that it cannot be read, unless it may be unfinished.
 -- `last` says that nothing will follow the window.
@@ -48,7 +48,7 @@ onward on t s last n (badLine k) = pick (not last && unfinished s) (stopped t s)
 -- At most k requests of a window, from the tables t on, with room for n bytes of reports.
 unfoldable pub run : ℕ → Bool → List ℕ → List ℕ → ℕ → Ran
 run zero last t s n = stopped t s
-run (suc k) last t s n = pick (idle n s) (stopped t s) (onward (run k last) t s last n (readSeven s))
+run (suc k) last t s n = pick (waiting n s) (stopped t s) (onward (run k last) t s last n (readSeven s))
 
 -- All requests of a window: it has no more of them than bytes.
 unfoldable pub ran : List ℕ → List ℕ → Bool → ℕ → Ran

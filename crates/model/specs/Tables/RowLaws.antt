@@ -97,8 +97,8 @@ sought v row (suc n) = go (eqb (row zero) v) (same (row zero) v) (seek v (λ i. 
     go false (other e) k (inl s) = inl (omega (arith, s .0), s .1)
     go false (other e) k (inr s) = inr (ap suc (s .0), later v row n e (s .1))
 
-pub close-idle : (row : ℕ → ℕ) (n k : ℕ) → Packed row n → n ≤ k → close k row ≡ row
-close-idle row n k p h = fun-ext λ i. go i (ltb i k) (below i k)
+pub close-beyond : (row : ℕ → ℕ) (n k : ℕ) → Packed row n → n ≤ k → close k row ≡ row
+close-beyond row n k p h = fun-ext λ i. go i (ltb i k) (below i k)
   where
     go : (i : ℕ) (b : Bool) → Below i k b → pick b (row i) (row (suc i)) ≡ row i
     go i true (under e) = refl
@@ -110,7 +110,7 @@ module _ (v : ℕ) (row : ℕ → ℕ) (n : ℕ) (p : Packed row n) where
     where
       go : (b : Bool) → Below (seek v row n) n b → Packed (without v row n) (pick b (pred n) n)
       go true (under h) = close-packed row n (seek v row n) p h
-      go false (over h) = rw (close-idle row n (seek v row n) p h) p
+      go false (over h) = rw (close-beyond row n (seek v row n) p h) p
 
   pub without-member : (c : ℕ) → Member (without v row n) (left v row n) c → Member row n c × (c ≢ v)
   without-member c = go (ltb (seek v row n) n) (below (seek v row n) n) (sought v row n)
@@ -121,7 +121,7 @@ module _ (v : ℕ) (row : ℕ → ℕ) (n : ℕ) (p : Packed row n) where
       go true (under h) (inr s) m = absurd (omega (arith, s .0))
       go false (over h) (inl s) m = absurd (omega (arith, s .0))
       go false (over h) (inr s) m =
-          let m′ : Member row n c = subst (λ (r : ℕ → ℕ). Member r n c) (close-idle row n (seek v row n) p h) m in
+          let m′ : Member row n c = subst (λ (r : ℕ → ℕ). Member r n c) (close-beyond row n (seek v row n) p h) m in
           (m′, λ z. s .1 (m′ .0) (m′ .1) (m′ .2 ∙ z))
 
   pub without-fewer : left v row n ≤ n
@@ -175,4 +175,4 @@ without-none v row n p none = go (ltb (seek v row n) n) (below (seek v row n) n)
     go : (b : Bool) → Below (seek v row n) n b → Sought v row n (seek v row n) → (pick b (pred n) n ≡ n) × (without v row n ≡ row)
     go true (under h) (inl s) = absurd (none (seek v row n, s .0, s .1))
     go true (under h) (inr s) = absurd (omega (arith, s .0))
-    go false (over h) s = (refl, close-idle row n (seek v row n) p h)
+    go false (over h) s = (refl, close-beyond row n (seek v row n) p h)
