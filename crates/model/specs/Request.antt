@@ -10,6 +10,7 @@ pub mod After
 pub mod Step
 pub mod Form
 pub mod Allowed
+pub mod Applies
 pub mod ReferenceLaws
 pub mod OperationLaws
 pub mod LadderLaws
