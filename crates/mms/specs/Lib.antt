@@ -1,4 +1,6 @@
 -- What the public calls promise, and that nothing else satisfies it.
 pub mod Contract
+pub mod Calls
 pub mod Unique
 pub mod RoundTrip
+pub mod CallLaws

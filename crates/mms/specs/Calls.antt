@@ -1,0 +1,88 @@
+-- Document 01, "What a reader can rely on": the calls that are linked, as sentences about what was lent, the word that C gets and what stands
+-- afterwards. Each is what the call's contract in src/lib.rt ensures, under a name that can be read aloud.
+use mathlib.Core.List.{List, [], _++_, _∷_}
+use mathlib.Core.Logic.{_⊎_}
+use mathlib.Core.Path.{_≡_}
+use Prim.Native.Nat.{_%_, _/_, _<_, _≤_, suc, ℕ}
+use lib.ListN.{getD, length}
+use Rattle.mms.specs.Contract.{Exports, Listing, Reading, Stepping, Writing, checking, exported, numbers}
+use Rattle.model.specs.Request.Words.{requestOf}
+use Rattle.model.specs.Script.Reports.{Report, unread}
+use Rattle.model.specs.Script.Runs.{requests, texts}
+use Rattle.model.specs.State.Secure.{Secure}
+use Rattle.model.specs.State.WellFormed.{WellFormed}
+use Rattle.model.specs.Tables.Layout.{tablesOf, userAt, wordCount}
+use Rattle.model.specs.Tables.Words.{firstNoticed, held, missed}
+use Rattle.model.specs.Text.Wording.{Wording}
+use Rattle.model.specs.Request.Refusals as refusal
+
+-- `mms_check`, lent the words t, answers a.
+abbrev pub CheckCall : List ℕ → ℕ → Type 0
+CheckCall t a = a ≡ exported (checking t)
+
+-- `mms_step`, lent the tables t and the request q, answers a and leaves r in the tables.
+abbrev pub StepCall : List ℕ → List ℕ → ℕ → List ℕ → Type 0
+StepCall t q a r = Exports (Stepping t q) a r
+
+-- `mms_list`, lent the tables t and a room, and given the user u, answers a and leaves r in the room.
+abbrev pub ListCall : List ℕ → ℕ → List ℕ → ℕ → List ℕ → Type 0
+ListCall t u room a r = Exports (Listing t u room) a r
+
+-- `mms_read`, lent the text s and the request w, answers a and leaves r in the request.
+abbrev pub ReadCall : List ℕ → List ℕ → ℕ → List ℕ → Type 0
+ReadCall s w a r = Exports (Reading s w) a r
+
+-- `mms_write`, lent the request w and a room, answers a and leaves r in the room.
+abbrev pub WriteCall : List ℕ → List ℕ → ℕ → List ℕ → Type 0
+WriteCall w room a r = Exports (Writing w room) a r
+
+-- Rule 8.6: the answer in the word that C gets,
+abbrev pub noIn : ℕ → ℕ
+noIn a = a / numbers
+
+-- and the number that goes with it.
+abbrev pub numberIn : ℕ → ℕ
+numberIn a = a % numbers
+
+-- who asks: word 0 of a request
+abbrev pub requester : List ℕ → ℕ
+requester q = requestOf q .user
+
+-- `mms_check` passes the words t.
+abbrev pub Passes : List ℕ → Type 0
+Passes t = CheckCall t refusal.accepted
+
+-- Rules 2.1, 3 and 4: the words are tables, well-formed and secure.
+pub record Sound (t : List ℕ) : Type 0 where
+  pub size : length t ≡ wordCount
+  pub wellFormed : WellFormed (tablesOf t)
+  pub secure : Secure (tablesOf t)
+
+-- Calls of `mms_step` one after another, m of them, each given what the last one left. A request may have any length.
+pub record StepCalls (m : ℕ) (tables requests : ℕ → List ℕ) (answers : ℕ → ℕ) : Type 0 where
+  pub each : (i : ℕ) → i < m → StepCall (tables i) (requests i) (answers i) (tables (suc i))
+
+-- Rule 8.2: r differs from t in words 5 to 7 of the user u, or in none.
+pub record OnlyNotice (t : List ℕ) (u : ℕ) (r : List ℕ) : Type 0 where
+  pub size : length r ≡ length t
+  pub others : (i : ℕ) → (userAt u held ≤ i → i ≤ userAt u missed → ⊥) → getD r i 0 ≡ getD t i 0
+
+-- Rule 12.3: the report p tells what `mms_step` answered to q and left: the answer, and the requester's words 5 and 7; with 1 to 4 nobody's.
+pub record Tells (p : Report) (q : List ℕ) (a : ℕ) (r : List ℕ) : Type 0 where
+  pub answer : p .answer ≡ noIn a
+  pub told : (noIn a ≡ refusal.accepted) ⊎ (firstNoticed ≤ noIn a)
+      → (p .held ≡ tablesOf r .user (requester q) held) × (p .missed ≡ tablesOf r .user (requester q) missed)
+  pub untold : refusal.badLength ≤ noIn a → noIn a < firstNoticed → (p .held ≡ 0) × (p .missed ≡ 0)
+
+-- Rule 12.2: the script s from the tables t on, as far as s′ and the tables t′, is calls of `mms_step`: its texts are requests, in order, and the
+-- reports rs tell of the calls, one of each.
+pub record ScriptCalls (t s : List ℕ) (rs : List Report) (t′ s′ : List ℕ) : Type 0 where
+  pub wordings : List Wording
+  pub text : s ≡ texts wordings ++ s′
+  pub many : length rs ≡ length wordings
+  pub tables : ℕ → List ℕ
+  pub answers : ℕ → ℕ
+  pub starts : tables 0 ≡ t
+  pub calls : StepCalls (length rs) tables (λ i. getD (requests wordings) i []) answers
+  pub ends : tables (length rs) ≡ t′
+  pub tells : (i : ℕ) → i < length rs → Tells (getD rs i unread) (getD (requests wordings) i []) (answers i) (tables (suc i))
