@@ -13,6 +13,7 @@ pub mod RangeLaws
 pub mod LayoutLaws
 pub mod WordsOf
 pub mod WordsOfLaws
+pub mod Contents
 pub mod Sheet
 pub mod SheetLaws
 pub mod StoreLaws

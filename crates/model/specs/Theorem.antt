@@ -2,6 +2,7 @@
 pub mod Definitions
 pub mod DefinitionLaws
 pub mod MayChange
+pub mod Done
 pub mod Statements
 pub mod NoRefusal
 pub mod Acceptance
