@@ -19,7 +19,7 @@ abbrev pub containerSort : ℕ
 containerSort = 2
 
 -- Rule 6.1: a new record, last in the container that is the first operand.
-pub record Created (s : Asked) (d d′ : Tables) : Type 0 where
+pub record HasCreated (s : Asked) (d d′ : Tables) : Type 0 where
   -- rule 6.1: the number of the new record
   pub new : ℕ
   -- rule 2.1: it is a number of an entity
@@ -51,14 +51,14 @@ pub record Created (s : Asked) (d d′ : Tables) : Type 0 where
   pub unshown : (i : ℕ) → sums d′ (s .first) i ≡ 0
 
 -- Rule 6.2: the entity is gone.
-pub record Deleted (s : Asked) (d d′ : Tables) : Type 0 where
+pub record HasDeleted (s : Asked) (d d′ : Tables) : Type 0 where
   -- rule 6.2: every word of its record is zero
   pub zeroed : (f : EntityWord) → d′ .entity (s .first) f ≡ 0
   -- rule 6.2: the container that held it has closed up; the others are as they were
   pub left : (x : ℕ) → kinds d x ≡ containerKind → TakenOut (s .first) (contents d x) (contents d′ x)
 
 -- Rule 6.3: the first operand stands last in the second, and in no other container.
-pub record Moved (s : Asked) (d d′ : Tables) : Type 0 where
+pub record HasMoved (s : Asked) (d d′ : Tables) : Type 0 where
   -- rule 6.3: the container that held it has closed up; the others are as they were
   pub left : (x : ℕ) → kinds d x ≡ containerKind → x ≢ s .second → TakenOut (s .first) (contents d x) (contents d′ x)
   -- rule 6.3: the second operand has closed up too, if the entity stood there; then comes the entity, behind all others
@@ -67,14 +67,14 @@ pub record Moved (s : Asked) (d d′ : Tables) : Type 0 where
   pub unshown : (i : ℕ) → sums d′ (s .second) i ≡ 0
 
 -- Rule 6.8: the operand has the triple.
-pub record Granted (s : Asked) (d d′ : Tables) : Type 0 where
+pub record HasGranted (s : Asked) (d d′ : Tables) : Type 0 where
   -- rule 6.8: a triple that is there stays where it stands
   pub again : List·Memᴰ (namedTriple s) (accessList d (s .first)) → accessList d′ (s .first) ≡ accessList d (s .first)
   -- rule 6.8: a new one comes behind all others
   pub last : (List·Memᴰ (namedTriple s) (accessList d (s .first)) → ⊥) → accessList d′ (s .first) ≡ accessList d (s .first) ++ (namedTriple s ∷ [])
 
 -- Rule 6.10: the requester's device shows the operand with the sum a.
-pub record Shown (s : Asked) (d d′ : Tables) : Type 0 where
+pub record HasShown (s : Asked) (d d′ : Tables) : Type 0 where
   -- rule 6.10: where the device shows it already, it shows the same things in the same order,
   pub again : List·Memᴰ (s .first) (contents d (own d s)) → contents d′ (own d s) ≡ contents d (own d s)
   -- and the sum at its place is a
@@ -95,7 +95,7 @@ pub record Emptied (v : ℕ) (d′ : Tables) : Type 0 where
   pub noSum : (i : ℕ) → sums d′ v i ≡ 0
 
 -- Rule 6.13: the requester is off.
-pub record LoggedOut (s : Asked) (d d′ : Tables) : Type 0 where
+pub record HasLoggedOut (s : Asked) (d d′ : Tables) : Type 0 where
   -- rule 6.13: the device that the requester was on shows nothing
   pub screen : Emptied (own d s) d′
   -- rule 6.13: the requester is on no device, and has no current roles
@@ -103,14 +103,14 @@ pub record LoggedOut (s : Asked) (d d′ : Tables) : Type 0 where
   pub noRoles : d′ .user (s .user) current ≡ 0
 
 -- Rule 6.19: the operand is released.
-pub record Released (s : Asked) (d′ : Tables) : Type 0 where
+pub record HasReleased (s : Asked) (d′ : Tables) : Type 0 where
   -- rule 6.19: its type says so
   pub released : d′ .entity (s .first) type ≡ releasedType
   -- rule 6.19: its releaser is the requester
   pub by : d′ .entity (s .first) releaser ≡ s .user
 
 -- Rule 6.20: the requester's notice is empty.
-pub record Acknowledged (s : Asked) (d′ : Tables) : Type 0 where
+pub record HasAcknowledged (s : Asked) (d′ : Tables) : Type 0 where
   -- rule 6.20: no refusal is held, no operation of it, and none was missed
   pub noRefusal : d′ .user (s .user) held ≡ 0
   pub noOperation : d′ .user (s .user) heldOp ≡ 0
@@ -118,23 +118,23 @@ pub record Acknowledged (s : Asked) (d′ : Tables) : Type 0 where
 
 -- What the operation o has done, of what was asked, from the tables d to the tables d′.
 abbrev pub Done : Op → Asked → Tables → Tables → Type 0
-Done toCreate s d d′ = Created s d d′
-Done toDelete s d d′ = Deleted s d d′
-Done toMove s d d′ = Moved s d d′
+Done toCreate s d d′ = HasCreated s d d′
+Done toDelete s d d′ = HasDeleted s d d′
+Done toMove s d d′ = HasMoved s d d′
 Done toEdit s d d′ = d′ .entity (s .first) value ≡ s .a
 Done toCopy s d d′ = d′ .entity (s .second) value ≡ d .entity (s .first) value
 Done toLevel s d d′ = d′ .entity (s .first) level ≡ s .a
 Done toMark s d d′ = d′ .entity (s .first) mark ≡ s .a
-Done toGrant s d d′ = Granted s d d′
+Done toGrant s d d′ = HasGranted s d d′
 Done toRevoke s d d′ = TakenOut (namedTriple s) (accessList d (s .first)) (accessList d′ (s .first))
-Done toShow s d d′ = Shown s d d′
+Done toShow s d d′ = HasShown s d d′
 Done toClear s d d′ = Emptied (own d s) d′
 Done toLogin s d d′ = d′ .user (s .user) device ≡ s .first
-Done toLogout s d d′ = LoggedOut s d d′
+Done toLogout s d d′ = HasLoggedOut s d d′
 Done toCurrent s d d′ = d′ .user (s .a) current ≡ s .b
 Done toClearance s d d′ = d′ .user (s .a) clearance ≡ s .b
 Done toAuthorised s d d′ = d′ .user (s .a) authorised ≡ s .b
 Done toMaximum s d d′ = d′ .entity (s .first) maximum ≡ s .a
 Done toDeviceLevel s d d′ = d′ .entity (s .first) level ≡ s .a
-Done toRelease s d d′ = Released s d′
-Done toAcknowledge s d d′ = Acknowledged s d′
+Done toRelease s d d′ = HasReleased s d′
+Done toAcknowledge s d d′ = HasAcknowledged s d′
