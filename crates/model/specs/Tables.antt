@@ -14,6 +14,7 @@ pub mod LayoutLaws
 pub mod WordsOf
 pub mod WordsOfLaws
 pub mod Contents
+pub mod ContentsLaws
 pub mod Sheet
 pub mod SheetLaws
 pub mod StoreLaws

@@ -21,6 +21,7 @@ pub mod FramedPlaces
 pub mod Framed
 pub mod Fixed
 pub mod Changed
+pub mod DonePlaces
 pub mod Unchanged
 pub mod Notices
 pub mod Steps
