@@ -22,7 +22,9 @@ pub mod Framed
 pub mod Fixed
 pub mod Changed
 pub mod DonePlaces
+pub mod DoneRows
 pub mod Unchanged
 pub mod Notices
 pub mod Steps
+pub mod DoneLaws
 pub mod Unique
