@@ -13,6 +13,8 @@ pub mod RangeLaws
 pub mod LayoutLaws
 pub mod WordsOf
 pub mod WordsOfLaws
+pub mod Contents
+pub mod ContentsLaws
 pub mod Sheet
 pub mod SheetLaws
 pub mod StoreLaws

@@ -2,6 +2,7 @@
 pub mod Definitions
 pub mod DefinitionLaws
 pub mod MayChange
+pub mod Done
 pub mod Statements
 pub mod NoRefusal
 pub mod Acceptance
@@ -20,7 +21,10 @@ pub mod FramedPlaces
 pub mod Framed
 pub mod Fixed
 pub mod Changed
+pub mod DonePlaces
+pub mod DoneRows
 pub mod Unchanged
 pub mod Notices
 pub mod Steps
+pub mod DoneLaws
 pub mod Unique

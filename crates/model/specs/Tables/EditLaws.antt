@@ -1,12 +1,12 @@
 -- A property of all records after an edit: the question "is this the record that was edited" is put once, here.
-use mathlib.Core.Bool.{Bool, false, true}
+use mathlib.Core.Bool.{Bool, false, not, true}
 use mathlib.Core.Logic.{_≢_, _⊎_, inl, inr}
-use mathlib.Core.Path.{_≡_, fun-ext, refl, subst, sym}
+use mathlib.Core.Path.{_∙_, _≡_, ap, fun-ext, refl, subst, sym}
 use Prim.Native.Nat.{ℕ}
 use native.Mathlib.Omega.{arith}
-use lib.Dec.{T, eqb, eqb→eq}
+use lib.Dec.{T, eqb, eqb-refl, eqb→eq, not-T}
 use Rattle.model.specs.Basics.Choice.{Same, it, other, pick, same}
-use Rattle.model.specs.Basics.TestLaws.{pick-same}
+use Rattle.model.specs.Basics.TestLaws.{pick-false, pick-same, pick-true}
 use Rattle.model.specs.Tables.Edits.{Edit, edited, written}
 use Rattle.model.specs.Tables.Rows.{Member}
 
@@ -52,3 +52,19 @@ member-emptied x e c m s h = go (member-cases x e c 0 m (λ i. 0) s h)
     go : ((x ≡ e) × Member (λ i. 0) 0 c) ⊎ ((x ≢ e) × Member s m c) → Member s m c
     go (inl q) = absurd (omega (arith, q .1 .1))
     go (inr q) = q .1
+
+-- the record of a number that passes the test is the one that the edit writes
+pub edited-on : {W : Type 0} (test : ℕ → Bool) (E : ℕ → Edit W) (r : ℕ → W → ℕ) (x : ℕ) → T (test x) → edited test E r x ≡ written (E x) (r x)
+edited-on test E r x t = fun-ext λ f. ap (λ (y : ℕ). pick (E x .touched f) y (r x f)) (pick-true (test x) (E x .value f) (r x f) t)
+
+-- every other record is as it was
+pub edited-off : {W : Type 0} (test : ℕ → Bool) (E : ℕ → Edit W) (r : ℕ → W → ℕ) (x : ℕ) → T (not (test x)) → edited test E r x ≡ r x
+edited-off test E r x t = fun-ext λ f. ap (λ (y : ℕ). pick (E x .touched f) y (r x f)) (pick-false (test x) (E x .value f) (r x f) t)
+    ∙ pick-same (E x .touched f) (r x f)
+
+-- the same where one record is edited
+pub edited-here : {W : Type 0} (E : Edit W) (e : ℕ) (r : ℕ → W → ℕ) → edited (λ x. eqb x e) (λ x. E) r e ≡ written E (r e)
+edited-here E e r = edited-on (λ x. eqb x e) (λ x. E) r e (eqb-refl e)
+
+pub edited-away : {W : Type 0} (E : Edit W) (e : ℕ) (r : ℕ → W → ℕ) (x : ℕ) → x ≢ e → edited (λ x. eqb x e) (λ x. E) r x ≡ r x
+edited-away E e r x n = edited-off (λ x. eqb x e) (λ x. E) r x (not-T (eqb x e) (λ t. n (eqb→eq x e t)))

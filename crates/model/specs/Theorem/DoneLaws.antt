@@ -1,0 +1,102 @@
+-- Rule 8.4: every allowed effect leaves the values that Theorem/Done says, and so does every accepted request, of tables and of words.
+use mathlib.Core.Bool.{Bool, false, true}
+use mathlib.Core.List.{List}
+use mathlib.Core.Option.{some}
+use mathlib.Core.Path.{_∙_, _≡_, ap, refl, subst, sym}
+use Prim.Native.Nat.{ℕ}
+use native.Mathlib.Omega.{arith}
+use lib.Dec.{eqb, eqb-refl}
+use Rattle.model.specs.Basics.Choice.{pick}
+use Rattle.model.specs.Basics.TestLaws.{is-false, is-true, pick-true}
+use Rattle.model.specs.Request.After.{after}
+use Rattle.model.specs.Request.AfterLaws.{after-accepted, effect-by}
+use Rattle.model.specs.Request.Allowed.{Allowed}
+use Rattle.model.specs.Request.Asked.{Asked, asked, own}
+use Rattle.model.specs.Request.Ladder.{answer}
+use Rattle.model.specs.Request.Operations.{Op, opOf, rowOf, toAcknowledge, toAuthorised, toClear, toClearance, toCopy, toCreate}
+use Rattle.model.specs.Request.Operations.{toCurrent, toDelete, toDeviceLevel, toEdit, toGrant, toLevel, toLogin, toLogout, toMark}
+use Rattle.model.specs.Request.Operations.{toMaximum, toMove, toRelease, toRevoke, toShow}
+use Rattle.model.specs.Request.Step.{afterOf, answerOf, sized}
+use Rattle.model.specs.Request.Words.{Request, requestOf}
+use Rattle.model.specs.State.WellFormed.{WellFormed}
+use Rattle.model.specs.Tables.Layout.{tablesOf}
+use Rattle.model.specs.Tables.LayoutLaws.{bounded}
+use Rattle.model.specs.Tables.Words.{Tables, authorised, clearance, current, device, held, heldOp, level, mark, maximum, missed, places}
+use Rattle.model.specs.Tables.Words.{releasedType, releaser, sums, type, usedPlaces, value}
+use Rattle.model.specs.Theorem.Acceptance.{accepted, accepted-good}
+use Rattle.model.specs.Theorem.Done.{Done, Emptied}
+use Rattle.model.specs.Theorem.DonePlaces.{create-done, delete-done, move-done}
+use Rattle.model.specs.Theorem.DoneRows.{grant-done, revoke-done, show-done}
+use Rattle.model.specs.Theorem.Steps.{afterOf-tables, answerOf-sized, unsized}
+use Rattle.model.specs.Request.Refusals as refusal
+
+-- the value at the record that is edited
+set-here : (e new old : ℕ) → pick (eqb e e) new old ≡ new
+set-here e new old = pick-true (eqb e e) new old (eqb-refl e)
+
+-- Of all twenty: what an allowed effect leaves is what was to be done.
+pub effect-done : (o : Op) (d : Tables) → WellFormed d → (s : Asked) → Allowed o s d → Done o s d (rowOf o .effect s d)
+effect-done toCreate d w s a = create-done d w s a
+effect-done toDelete d w s a = delete-done d w s a
+effect-done toMove d w s a = move-done d w s a
+effect-done toEdit d w s a = set-here (s .first) (s .a) (d .entity (s .first) value)
+effect-done toCopy d w s a = set-here (s .second) (d .entity (s .first) value) (d .entity (s .second) value)
+effect-done toLevel d w s a = set-here (s .first) (s .a) (d .entity (s .first) level)
+effect-done toMark d w s a = set-here (s .first) (s .a) (d .entity (s .first) mark)
+effect-done toGrant d w s a = grant-done d w s a
+effect-done toRevoke d w s a = revoke-done d w s a
+effect-done toShow d w s a = show-done d w s
+effect-done toClear d w s a = record {
+  none = set-here (own d s) 0 (usedPlaces d (own d s));
+  noPlace = λ i. set-here (own d s) 0 (places d (own d s) i);
+  noSum = λ i. set-here (own d s) 0 (sums d (own d s) i);
+}
+effect-done toLogin d w s a = set-here (s .user) (s .first) (d .user (s .user) device)
+effect-done toLogout d w s a = record {
+  screen = record {
+    none = set-here (own d s) 0 (usedPlaces d (own d s));
+    noPlace = λ i. set-here (own d s) 0 (places d (own d s) i);
+    noSum = λ i. set-here (own d s) 0 (sums d (own d s) i);
+  };
+  off = set-here (s .user) 0 (d .user (s .user) device);
+  noRoles = set-here (s .user) 0 (d .user (s .user) current);
+}
+effect-done toCurrent d w s a = set-here (s .a) (s .b) (d .user (s .a) current)
+effect-done toClearance d w s a = set-here (s .a) (s .b) (d .user (s .a) clearance)
+effect-done toAuthorised d w s a = set-here (s .a) (s .b) (d .user (s .a) authorised)
+effect-done toMaximum d w s a = set-here (s .first) (s .a) (d .entity (s .first) maximum)
+effect-done toDeviceLevel d w s a = set-here (s .first) (s .a) (d .entity (s .first) level)
+effect-done toRelease d w s a = record {
+  released = set-here (s .first) releasedType (d .entity (s .first) type);
+  by = set-here (s .first) (s .user) (d .entity (s .first) releaser);
+}
+effect-done toAcknowledge d w s a = record {
+  noRefusal = set-here (s .user) 0 (d .user (s .user) held);
+  noOperation = set-here (s .user) 0 (d .user (s .user) heldOp);
+  noneMissed = set-here (s .user) 0 (d .user (s .user) missed);
+}
+
+-- An accepted request has done what its operation is to do.
+pub accepted-done : (d : Tables) → WellFormed d → (q : Request) → answer d q ≡ refusal.accepted
+    → (o : Op) × (opOf (q .operation) ≡ some o) × Done o (asked d q) d (after d q)
+accepted-done d w q e =
+    let a = accepted d q e w in (
+      a .0,
+      a .1 .meant .named,
+      subst (Done (a .0) (asked d q) d) (sym (after-accepted d q e ∙ effect-by d q (a .0) (a .1 .meant .named)))
+          (effect-done (a .0) d w (asked d q) (a .1 .allowed)),
+    )
+
+-- So it has in the words.
+pub words-done : (t q : List ℕ) → answerOf t q ≡ refusal.accepted
+    → (o : Op) × (opOf (requestOf q .operation) ≡ some o) × Done o (asked (tablesOf t) (requestOf q)) (tablesOf t) (tablesOf (afterOf t q))
+words-done t q e = go (sized t q) refl
+  where
+    go : (b : Bool) → sized t q ≡ b
+        → (o : Op) × (opOf (requestOf q .operation) ≡ some o) × Done o (asked (tablesOf t) (requestOf q)) (tablesOf t) (tablesOf (afterOf t q))
+    go true z =
+        let s = is-true (sized t q) z in
+        let a = sym (answerOf-sized t q s) ∙ e in
+        let f = accepted-done (tablesOf t) (accepted-good (tablesOf t) (requestOf q) a (bounded t) .0) (requestOf q) a in
+        (f .0, f .1, subst (Done (f .0) (asked (tablesOf t) (requestOf q)) (tablesOf t)) (sym (afterOf-tables t q s)) (f .2))
+    go false z = absurd (omega (arith, unsized t q (is-false (sized t q) z) .0))
