@@ -3,6 +3,7 @@ pub mod Definitions
 pub mod DefinitionLaws
 pub mod MayChange
 pub mod Statements
+pub mod Sequence
 pub mod NoRefusal
 pub mod Acceptance
 pub mod Unrefused
