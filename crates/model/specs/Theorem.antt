@@ -24,4 +24,5 @@ pub mod Changed
 pub mod Unchanged
 pub mod Notices
 pub mod Steps
+pub mod SequenceStep
 pub mod Unique
