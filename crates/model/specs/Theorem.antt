@@ -25,4 +25,6 @@ pub mod Unchanged
 pub mod Notices
 pub mod Steps
 pub mod SequenceStep
+pub mod SequenceLaws
+pub mod SequenceSecure
 pub mod Unique

@@ -1,11 +1,11 @@
 -- What one step on words does to a user's notice (rules 8.2 and 8.3): an acknowledgement empties it, a refusal 5 to 16 adds to it, and every other
 -- request leaves it. These are the three turns of a sequence.
-use mathlib.Core.Bool.{Bool, _&&_, false, not, true}
+use mathlib.Core.Bool.{Bool, _&&_, false, true}
 use mathlib.Core.List.{List}
 use mathlib.Core.Logic.{_≢_}
 use mathlib.Core.Option.{Option, none, some}
-use mathlib.Core.Path.{_∙_, _≡_, ap, refl, subst, sym}
-use Prim.Native.Nat.{_<_, _≤_, suc, zero, ℕ}
+use mathlib.Core.Path.{_∙_, _≡_, refl, subst, sym}
+use Prim.Native.Nat.{_≤_, suc, zero, ℕ}
 use native.Mathlib.Omega.{arith}
 use lib.Dec.{T, eqb, leb, ltb}
 use Rattle.model.specs.Basics.Agree.{Agrees, agrees-and, agrees-le, every-at}
@@ -13,7 +13,6 @@ use Rattle.model.specs.Basics.Choice.{Below, Same, below, it, other, ove
 use Rattle.model.specs.Basics.TestLaws.{is-false, is-true, pick-true}
 use Rattle.model.specs.Basics.Tests.{every}
 use Rattle.model.specs.Effect.Notice.{keepFirst, missedMore, notice}
-use Rattle.model.specs.Effect.Words.{acknowledge}
 use Rattle.model.specs.Request.After.{after, noticedOp}
 use Rattle.model.specs.Request.AfterLaws.{after-accepted, after-each, after-noticed, effect-by}
 use Rattle.model.specs.Request.Asked.{asked}
@@ -28,7 +27,7 @@ use Rattle.model.specs.Tables.LayoutLaws.{bounded}
 use Rattle.model.specs.Tables.Words.{Tables, firstNoticed, held, heldOp, missed, missedMost, operationCount}
 use Rattle.model.specs.Theorem.Acceptance.{accepted-good}
 use Rattle.model.specs.Theorem.Notices.{accepted-notices}
-use Rattle.model.specs.Theorem.Sequence.{Held, NoNotice, heldFor, nothing, operationKept, stopped}
+use Rattle.model.specs.Theorem.Sequence.{Held, NoNotice, heldFor, operationKept, stopped}
 use Rattle.model.specs.Theorem.Statements.{SameNotice}
 use Rattle.model.specs.Theorem.Steps.{afterOf-tables, answerOf-sized, unsized}
 use Rattle.model.specs.Request.Refusals as refusal
@@ -122,7 +121,8 @@ refused-counted t q h = go (sized t q) refl
     go true z =
         let s = is-true (sized t q) z in
         let a = answerOf-sized t q s in
-        rw (a, afterOf-tables t q s, after-noticed (tablesOf t) (requestOf q) (answer (tablesOf t) (requestOf q)) refl (omega arith), sym (operation-kept (requestOf q)))
+        let n = after-noticed (tablesOf t) (requestOf q) (answer (tablesOf t) (requestOf q)) refl (omega arith) in
+        rw (a, afterOf-tables t q s, n, sym (operation-kept (requestOf q)))
         (notice-counted (tablesOf t) (requestOf q .user) (answer (tablesOf t) (requestOf q)) (noticedOp (requestOf q)))
     go false z = absurd (omega (arith, unsized t q (is-false (sized t q) z) .0))
 
@@ -137,7 +137,8 @@ acknowledged-empties t q m h = go (sized t q) refl
         let s = is-true (sized t q) z in
         let u = requestOf q .user in
         let a = sym (answerOf-sized t q s) ∙ h in
-        subst (λ (d : Tables). NoNotice d u) (sym (afterOf-tables t q s ∙ after-accepted (tablesOf t) (requestOf q) a ∙ effect-by (tablesOf t) (requestOf q) toAcknowledge m))
+        let e = after-accepted (tablesOf t) (requestOf q) a ∙ effect-by (tablesOf t) (requestOf q) toAcknowledge m in
+        subst (λ (d : Tables). NoNotice d u) (sym (afterOf-tables t q s ∙ e))
         (held-same (here u 0 (tablesOf t .user u held)) (here u 0 (tablesOf t .user u heldOp)), here u 0 (tablesOf t .user u missed))
     go false z = absurd (omega (arith, unsized t q (is-false (sized t q) z) .0))
 
