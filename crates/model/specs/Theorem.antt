@@ -4,6 +4,7 @@ pub mod DefinitionLaws
 pub mod MayChange
 pub mod Done
 pub mod Statements
+pub mod Sequence
 pub mod NoRefusal
 pub mod Acceptance
 pub mod Unrefused
@@ -27,4 +28,7 @@ pub mod Unchanged
 pub mod Notices
 pub mod Steps
 pub mod DoneLaws
+pub mod SequenceStep
+pub mod SequenceLaws
+pub mod SequenceSecure
 pub mod Unique
