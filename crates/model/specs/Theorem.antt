@@ -3,6 +3,7 @@ pub mod Definitions
 pub mod DefinitionLaws
 pub mod MayChange
 pub mod Statements
+pub mod Beyond
 pub mod NoRefusal
 pub mod Acceptance
 pub mod Unrefused
@@ -24,3 +25,4 @@ pub mod Unchanged
 pub mod Notices
 pub mod Steps
 pub mod Unique
+pub mod BeyondLaws
