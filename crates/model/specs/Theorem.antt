@@ -5,6 +5,7 @@ pub mod MayChange
 pub mod Done
 pub mod Statements
 pub mod Sequence
+pub mod Beyond
 pub mod NoRefusal
 pub mod Acceptance
 pub mod Unrefused
@@ -32,3 +33,4 @@ pub mod SequenceStep
 pub mod SequenceLaws
 pub mod SequenceSecure
 pub mod Unique
+pub mod BeyondLaws
