@@ -15,6 +15,7 @@ use Rattle.model.specs.State.AgreeSecure.{check-agrees}
 use Rattle.model.specs.State.Check.{check}
 use Rattle.model.specs.Text.Reading.{Reads}
 use Rattle.model.specs.Text.Writing.{Writes}
+use Rattle.model.specs.Theorem.Sequence.{Steps}
 use Rattle.model.specs.Request.Refusals as refusal
 
 -- The check's word is the model's answer, and nothing goes with it.
@@ -60,6 +61,11 @@ module _ {t q : List ℕ} {a : ℕ} {r : List ℕ} (x : StepCall t q a r) where
 -- A call of the step that meets its promise, of any words.
 pub step-call : (t q : List ℕ) → StepCall t q (answerOf t q * numbers + 0) (afterOf t q)
 step-call t q = record { answer = record { no = answerOf t q; number = 0 }; called = record { answer = refl; words = refl }; word = refl }
+
+-- Calls one after another are the model's steps.
+pub step-sequence : (m : ℕ) (tables requests : ℕ → List ℕ) (answers : ℕ → ℕ) → StepCalls m tables requests answers
+    → Steps m tables requests (λ i. noIn (answers i))
+step-sequence m tables requests answers c = record { answered = λ i h. step-no (c .each i h); left = λ i h. step-left (c .each i h) }
 
 -- The other three, of the halves of their words.
 pub list-halves : {t room r : List ℕ} {u a : ℕ} → ListCall t u room a r → Lists t u room (noIn a) (numberIn a) r

@@ -1,7 +1,7 @@
 -- Document 01, "What a reader can rely on": the calls that are linked, as sentences about what was lent, the word that C gets and what stands
 -- afterwards. Each is what the call's contract in src/lib.rt ensures, under a name that can be read aloud.
 use mathlib.Core.List.{List, [], _++_, _∷_}
-use mathlib.Core.Logic.{_⊎_}
+use mathlib.Core.Logic.{_≢_, _⊎_}
 use mathlib.Core.Path.{_≡_}
 use Prim.Native.Nat.{_%_, _/_, _<_, _≤_, suc, ℕ}
 use lib.ListN.{getD, length}
@@ -57,6 +57,12 @@ pub record Sound (t : List ℕ) : Type 0 where
   pub size : length t ≡ wordCount
   pub wellFormed : WellFormed (tablesOf t)
   pub secure : Secure (tablesOf t)
+
+-- Rule 8.5: what the words t lack, by the check's numbers.
+pub data Unsound (t : List ℕ) : ℕ → Type 0 where
+  badLength : length t ≢ wordCount → Unsound t refusal.badLength
+  notWellFormed : (WellFormed (tablesOf t) → ⊥) → Unsound t refusal.notWellFormed
+  notSecure : (Secure (tablesOf t) → ⊥) → Unsound t refusal.notSecure
 
 -- Calls of `mms_step` one after another, m of them, each given what the last one left. A request may have any length.
 pub record StepCalls (m : ℕ) (tables requests : ℕ → List ℕ) (answers : ℕ → ℕ) : Type 0 where

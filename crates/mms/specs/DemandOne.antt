@@ -1,0 +1,120 @@
+-- Demand 1 is met.
+use mathlib.Core.Bool.{Bool, false, true}
+use mathlib.Core.List.{List, _++_}
+use mathlib.Core.Logic.{_≢_}
+use mathlib.Core.Path.{_∙_, _≡_, ap, refl, subst, sym}
+use Prim.Native.Nat.{_*_, _<_, _≤_, ℕ}
+use native.Mathlib.Omega.{arith}
+use lib.Dec.{eqb}
+use lib.ListN.{drop, length}
+use Rattle.mms.specs.AnswerLaws.{check-range, list-answers, list-number, list-unchanged, read-answers, read-line, read-number}
+use Rattle.mms.specs.AnswerLaws.{read-unchanged, write-answers, write-number, write-unchanged}
+use Rattle.mms.specs.CallLaws.{check-no, check-number, list-halves, passes-check, read-halves, step-call, step-left, step-no, step-number}
+use Rattle.mms.specs.CallLaws.{step-sequence, write-halves}
+use Rattle.mms.specs.Calls.{ListCall, OnlyNotice, ReadCall, StepCall, WriteCall, noIn, requester}
+use Rattle.mms.specs.Contract.{Exports, Listing, Reading, Writing, exported}
+use Rattle.mms.specs.Demands.{DemandOne, Settled}
+use Rattle.mms.specs.NoticeWords.{quiet-words}
+use Rattle.mms.specs.Unique.{exported-list-unique, exported-read-unique, exported-step-unique, exported-write-unique}
+use Rattle.mms.specs.declared.Answer.{Answer}
+use Rattle.model.specs.Basics.Cases.{cases, lt-or-le, true-or-false}
+use Rattle.model.specs.Basics.Choice.{Same, it, other, same}
+use Rattle.model.specs.Basics.TestLaws.{is-false, is-true}
+use Rattle.model.specs.List.Listing.{barred, entries, entryWords}
+use Rattle.model.specs.List.ListingLaws.{lists-refused, lists-short, lists-written}
+use Rattle.model.specs.List.Ways.{found}
+use Rattle.model.specs.Request.Step.{afterOf, sized}
+use Rattle.model.specs.Tables.Layout.{tablesOf, wordCount}
+use Rattle.model.specs.Tables.Words.{firstNoticed}
+use Rattle.model.specs.Text.Reading.{readAnswer, readNumber, wordsAfter}
+use Rattle.model.specs.Text.Writing.{bytesAfter, writeAnswer, writeNumber}
+use Rattle.model.specs.Theorem.Definitions.{Quiet}
+use Rattle.model.specs.Theorem.SequenceLaws.{answerOf-range, sequence-noticed}
+use Rattle.model.specs.Theorem.SequenceStep.{others-noticed}
+use Rattle.model.specs.Theorem.Statements.{SameNotice}
+use Rattle.model.specs.Theorem.Steps.{afterOf-length, high-refusal-words, low-refusal-words, sized-agrees, unsized}
+use Rattle.model.specs.Request.Refusals as refusal
+
+-- whatever meets a promise does so for C
+exporting : (P : Answer → List ℕ → Type 0) (n k : ℕ) (r : List ℕ) → P (record { no = n; number = k }) r → (a : ℕ) × (r : List ℕ) × Exports P a r
+exporting P n k r p = (exported (record { no = n; number = k }), r, record { answer = record { no = n; number = k }; called = p; word = refl })
+
+-- every user has a list of any words, in any room
+list-ends : (t : List ℕ) (u : ℕ) (room : List ℕ) → (a : ℕ) × (r : List ℕ) × ListCall t u room a r
+list-ends t u room = go (eqb (barred t u) refusal.accepted) (same (barred t u) refusal.accepted)
+  where
+    l : List (List ℕ)
+    l = found (tablesOf t) u
+
+    go : (b : Bool) → Same (barred t u) refusal.accepted b → (a : ℕ) × (r : List ℕ) × ListCall t u room a r
+    go true (it e) = cases (lt-or-le (length room) (entryWords * length l))
+        (λ h. exporting (Listing t u room) refusal.tooShort (length l) room (lists-short t u room e h))
+        (λ h. exporting (Listing t u room) refusal.accepted (length l) (entries l ++ drop (length (entries l)) room)
+        (lists-written t u room (entries l ++ drop (length (entries l)) room) e h refl))
+    go false (other n) = exporting (Listing t u room) (barred t u) refusal.accepted room (lists-refused t u room n)
+
+step-settled : (t q : List ℕ) → Settled (StepCall t q)
+step-settled t q = record { ends = (_, afterOf t q, step-call t q); once = exported-step-unique t q }
+
+list-settled : (t : List ℕ) (u : ℕ) (room : List ℕ) → Settled (ListCall t u room)
+list-settled t u room = record { ends = list-ends t u room; once = exported-list-unique t u room }
+
+read-settled : (s w : List ℕ) → Settled (ReadCall s w)
+read-settled s w = record {
+  ends = exporting (Reading s w) (readAnswer s w) (readNumber s w) (wordsAfter s w) (record { answer = refl; number = refl; words = refl });
+  once = exported-read-unique s w;
+}
+
+write-settled : (w room : List ℕ) → Settled (WriteCall w room)
+write-settled w room = record {
+  ends = exporting (Writing w room) (writeAnswer w (length room)) (writeNumber w) (bytesAfter (writeAnswer w (length room)) w room)
+      (record { answer = refl; number = refl; bytes = refl });
+  once = exported-write-unique w room;
+}
+
+module _ {t q : List ℕ} {a : ℕ} {r : List ℕ} (x : StepCall t q a r) where
+  step-unchanged : refusal.badLength ≤ noIn a → noIn a < firstNoticed → r ≡ t
+  step-unchanged l h = step-left x ∙ low-refusal-words t q (omega (arith, step-no x)) (omega (arith, step-no x))
+
+  -- a refusal 5 to 16 is of 2,304 words and sixteen
+  step-sized : firstNoticed ≤ noIn a → length t ≡ wordCount
+  step-sized h = cases (true-or-false (sized t q)) (λ e. sized-agrees t q .to (is-true (sized t q) e) .0)
+      (λ e. absurd (omega (arith, step-no x, unsized t q (is-false (sized t q) e) .0)))
+
+  step-only-notice : firstNoticed ≤ noIn a → OnlyNotice t (requester q) r
+  step-only-notice h =
+      let e = step-left x in
+      let n : length r ≡ length t = ap length e ∙ afterOf-length t q in
+      let c = high-refusal-words t q (omega (arith, step-no x)) in record {
+        size = n;
+        others = quiet-words t r (requester q) (step-sized h) (n ∙ step-sized h)
+            (subst (λ (l : List ℕ). Quiet (tablesOf t) (requester q) (tablesOf l)) (sym e) c);
+      }
+
+  step-others : (y : ℕ) → y ≢ requester q → SameNotice (tablesOf t) (tablesOf r) y
+  step-others y n = subst (λ (l : List ℕ). SameNotice (tablesOf t) (tablesOf l) y) (sym (step-left x)) (others-noticed t q y n)
+
+pub demandOne : DemandOne
+demandOne = record {
+  stepSettled = step-settled;
+  listSettled = list-settled;
+  readSettled = read-settled;
+  writeSettled = write-settled;
+  checkAnswers = λ t a x. (omega (arith, check-no t a x, check-range t), check-number t a x);
+  stepAnswers = λ {t} {q} x. (omega (arith, step-no x, answerOf-range t q), step-number x);
+  listAnswers = λ x. list-answers (list-halves x);
+  listNumber = λ x. list-number (list-halves x);
+  readAnswers = λ x. read-answers (read-halves x);
+  readNumber = λ x. read-number (read-halves x);
+  readLine = λ x. read-line (read-halves x);
+  writeAnswers = λ x. write-answers (write-halves x);
+  writeNumber = λ x. write-number (write-halves x);
+  stepUnchanged = step-unchanged;
+  listUnchanged = λ x. list-unchanged (list-halves x);
+  readUnchanged = λ x. read-unchanged (read-halves x);
+  writeUnchanged = λ x. write-unchanged (write-halves x);
+  stepNotice = step-only-notice;
+  noticeKept = λ m tables requests answers c p.
+      sequence-noticed m tables requests (λ i. noIn (answers i)) (step-sequence m tables requests answers c) (passes-check (tables 0) p);
+  noticeOfOthers = step-others;
+}

@@ -1,0 +1,105 @@
+-- Demand 3 is met.
+use mathlib.Core.Bool.{Bool, false, true}
+use mathlib.Core.List.{List, List·Memᴰ, [], _++_, _∷_}
+use mathlib.Core.Logic.{_↔_, _≢_, _⊎_, inl, inr}
+use mathlib.Core.Path.{_∙_, _≡_, ap, refl, subst, sym}
+use Prim.Native.Nat.{_*_, _<_, _≤_, ℕ}
+use native.Mathlib.Omega.{arith}
+use lib.Dec.{T, eqb, leb}
+use lib.ListN.{drop, length, length-append}
+use Rattle.mms.specs.CallLaws.{list-halves, step-no}
+use Rattle.mms.specs.Calls.{ListCall, StepCall, noIn, numberIn}
+use Rattle.mms.specs.Demands.{DemandThree, Disclosed}
+use Rattle.model.specs.Basics.Agree.{agrees-eq, agrees-le}
+use Rattle.model.specs.Basics.Choice.{Same, it, other, pick, same}
+use Rattle.model.specs.Basics.Fails.{fails-agreed, fails-le}
+use Rattle.model.specs.Basics.TestLaws.{holds-true, is-true, pick-false, pick-true}
+use Rattle.model.specs.List.Admitted.{Admitted}
+use Rattle.model.specs.List.AdmittedLaws.{admitted-barred, barred-admitted, barred-range}
+use Rattle.model.specs.List.CompleteLaws.{complete-once}
+use Rattle.model.specs.List.Listing.{Lists, barred, entries, entry, entryWords, listAnswer, opens, showing}
+use Rattle.model.specs.List.ShowLaws.{opens-agrees}
+use Rattle.model.specs.Request.Step.{answerOf}
+use Rattle.model.specs.Request.Words.{nameCount}
+use Rattle.model.specs.Request.Refusals as refusal
+
+-- an entry is five words
+entries-words : (l : List (List ℕ)) → length (entries l) ≡ entryWords * length l
+unfolding entries
+entries-words [] = refl
+entries-words (x ∷ l) = omega (arith, length-append (entry x) (entries l), entries-words l)
+
+module _ {t room r : List ℕ} {u : ℕ} (a : ℕ) (x : Lists t u room (noIn a) (numberIn a) r) where
+  -- where the list is not barred, the answer says whether the entries fit
+  answer-of : barred t u ≡ refusal.accepted
+      → noIn a ≡ pick (leb (entryWords * length (x .list)) (length room)) refusal.accepted refusal.tooShort
+  answer-of e = x .answer ∙ pick-true (eqb (barred t u) refusal.accepted)
+      (pick (leb (entryWords * length (x .list)) (length room)) refusal.accepted refusal.tooShort) (barred t u) (agrees-eq (barred t u) refusal.accepted .from e)
+
+  list-fits : barred t u ≡ refusal.accepted → entryWords * length (x .list) ≤ length room
+      → (noIn a ≡ refusal.accepted) × (r ≡ entries (x .list) ++ drop (entryWords * length (x .list)) room)
+  list-fits e h =
+      let z = answer-of e ∙ pick-true (leb (entryWords * length (x .list)) (length room)) refusal.accepted refusal.tooShort
+              (agrees-le (entryWords * length (x .list)) (length room) .from h) in (
+        z,
+        x .words ∙ pick-true (eqb (noIn a) refusal.accepted) (entries (x .list) ++ drop (length (entries (x .list))) room) room
+            (agrees-eq (noIn a) refusal.accepted .from z) ∙ ap (λ (n : ℕ). entries (x .list) ++ drop n room) (entries-words (x .list)),
+      )
+
+  list-short : barred t u ≡ refusal.accepted → length room < entryWords * length (x .list) → (noIn a ≡ refusal.tooShort) × (r ≡ room)
+  list-short e h =
+      let z = answer-of e ∙ pick-false (leb (entryWords * length (x .list)) (length room)) refusal.accepted refusal.tooShort
+              (fails-le (entryWords * length (x .list)) (length room) .from h) in (
+        z,
+        x .words ∙ pick-false (eqb (noIn a) refusal.accepted) (entries (x .list) ++ drop (length (entries (x .list))) room) room
+            (fails-agreed (agrees-eq (noIn a) refusal.accepted) .from (λ y. omega (arith, z))),
+      )
+
+  list-count : barred t u ≡ refusal.accepted → numberIn a ≡ length (x .list)
+  list-count e = x .number ∙ pick-true (eqb (barred t u) refusal.accepted) (length (x .list)) 0 (agrees-eq (barred t u) refusal.accepted .from e)
+
+  -- a reference is an entry exactly where the step's own answer opens it
+  list-exactly : (y : List ℕ) → 1 ≤ length y → length y ≤ nameCount → {b : ℕ} {s : List ℕ} → StepCall t (showing u y) b s
+      → List·Memᴰ y (x .list) ↔ ((noIn b ≡ refusal.accepted) ⊎ (noIn b ≡ refusal.noRoom))
+  list-exactly y low high {b} c = (
+    λ m. back (opens-agrees t u y .to (is-true (opens t u y) (x .complete .only y m .2))),
+    λ z. x .complete .every y low high (holds-true (opens t u y) (opens-agrees t u y .from (forth z))),
+  )
+    where
+      n : noIn b ≡ answerOf t (showing u y)
+      n = step-no c
+
+      back : (answerOf t (showing u y) ≡ refusal.accepted) ⊎ (answerOf t (showing u y) ≡ refusal.noRoom)
+          → (noIn b ≡ refusal.accepted) ⊎ (noIn b ≡ refusal.noRoom)
+      back (inl e) = inl (n ∙ e)
+      back (inr e) = inr (n ∙ e)
+
+      forth : (noIn b ≡ refusal.accepted) ⊎ (noIn b ≡ refusal.noRoom)
+          → (answerOf t (showing u y) ≡ refusal.accepted) ⊎ (answerOf t (showing u y) ≡ refusal.noRoom)
+      forth (inl e) = inl (sym n ∙ e)
+      forth (inr e) = inr (sym n ∙ e)
+
+  list-disclosed : Admitted t u → Disclosed t u room a r
+  list-disclosed h =
+      let e = admitted-barred t u h in record {
+        list = x .list;
+        named = λ y m. let z = x .complete .only y m in (z .0, z .1);
+        exactly = list-exactly;
+        once = complete-once (x .complete);
+        ordered = x .complete .sorted;
+        count = list-count e;
+        fits = list-fits e;
+        short = list-short e;
+      }
+
+  -- nobody else is admitted, and so the list is barred
+  list-refused : (Admitted t u → ⊥) → (refusal.badLength ≤ noIn a) × (noIn a ≤ refusal.notLoggedOn)
+  list-refused f =
+      let k : barred t u ≢ refusal.accepted = λ e. f (barred-admitted t u e) in
+      let z = x .answer ∙ pick-false (eqb (barred t u) refusal.accepted)
+              (pick (leb (entryWords * length (x .list)) (length room)) refusal.accepted refusal.tooShort) (barred t u)
+              (fails-agreed (agrees-eq (barred t u) refusal.accepted) .from k) in
+      (omega (arith, z, k), omega (arith, z, barred-range t u))
+
+pub demandThree : DemandThree
+demandThree = record { disclosed = λ {a = a} x. list-disclosed a (list-halves x); refused = λ {a = a} x. list-refused a (list-halves x) }

@@ -1,0 +1,181 @@
+-- Document 01, "What a reader can rely on": the client's three demands, each as one statement about the calls that are linked, with a part for each
+-- sentence. They are said of any slices, any lengths and any words. Who believes this page, the definitions that it cites and the toolchain need
+-- read no law and no code: demandOne, demandTwo and demandThree, in the files behind this one, prove them.
+use mathlib.Core.List.{List, List·Memᴰ, [], _++_, _∷_}
+use mathlib.Core.Logic.{_↔_, _≢_, _⊎_}
+use mathlib.Core.Path.{_≡_}
+use Prim.Native.Nat.{_*_, _<_, _≤_, suc, ℕ}
+use lib.ListN.{drop, getD, length, take}
+use Rattle.mms.specs.Calls.{CheckCall, ListCall, OnlyNotice, Passes, ReadCall, ScriptCalls, Sound, StepCall, StepCalls, Unsound}
+use Rattle.mms.specs.Calls.{WriteCall, noIn, numberIn, requester}
+use Rattle.model.specs.List.Admitted.{Admitted}
+use Rattle.model.specs.List.Listing.{entries, entryWords, showing}
+use Rattle.model.specs.List.Order.{Sorted}
+use Rattle.model.specs.Request.After.{after}
+use Rattle.model.specs.Request.Allowed.{Accepted}
+use Rattle.model.specs.Request.Applies.{AppliesTo, Lowest}
+use Rattle.model.specs.Request.Asked.{asked}
+use Rattle.model.specs.Request.Operations.{Op}
+use Rattle.model.specs.Request.Words.{nameCount, requestOf, requestWords}
+use Rattle.model.specs.Script.Reports.{Report, output, unread}
+use Rattle.model.specs.Script.Runs.{Outputs, requests}
+use Rattle.model.specs.Tables.Layout.{tablesOf}
+use Rattle.model.specs.Tables.Words.{firstNoticed}
+use Rattle.model.specs.Text.Broken.{FirstBad, sorts}
+use Rattle.model.specs.Text.Given.{HasText, Small}
+use Rattle.model.specs.Text.Unfinished.{lineTotal}
+use Rattle.model.specs.Theorem.Beyond.{OnlyReleased, ReleasedStays, SameDevices, SameUsers}
+use Rattle.model.specs.Theorem.Definitions.{History, HistorySecure, Obeys, SystemSecure}
+use Rattle.model.specs.Theorem.Done.{Done}
+use Rattle.model.specs.Theorem.MayChange.{Frame}
+use Rattle.model.specs.Theorem.Sequence.{Noticed}
+use Rattle.model.specs.Theorem.Statements.{SameNotice}
+use Rattle.model.specs.Request.Refusals as refusal
+
+-- Rule 14.1: a call, given what was lent, has an answer and leaves something; and both are settled.
+pub record Settled (Call : ℕ → List ℕ → Type 0) : Type 0 where
+  pub ends : (a : ℕ) × (r : List ℕ) × Call a r
+  pub once : (a b : ℕ) (r s : List ℕ) → Call a r → Call b s → (a ≡ b) × (r ≡ s)
+
+-- Demand 1: every call ends with an answer, refusals change nothing but a notice, and a notice keeps the first unread refusal and a count.
+pub record DemandOne : Type 0 where
+  -- Every call, lent any words or bytes, ends with one answer, and leaves one thing in what it may write.
+  pub stepSettled : (t q : List ℕ) → Settled (StepCall t q)
+  pub listSettled : (t : List ℕ) (u : ℕ) (room : List ℕ) → Settled (ListCall t u room)
+  pub readSettled : (s w : List ℕ) → Settled (ReadCall s w)
+  pub writeSettled : (w room : List ℕ) → Settled (WriteCall w room)
+  -- The check answers 0 to 3 and writes nothing. No number goes with its answer.
+  pub checkAnswers : (t : List ℕ) (a : ℕ) → CheckCall t a → (noIn a ≤ refusal.notSecure) × (numberIn a ≡ 0)
+  -- The step answers 0 to 16. No number goes with its answer.
+  pub stepAnswers : {t q : List ℕ} {a : ℕ} {r : List ℕ} → StepCall t q a r → (noIn a ≤ refusal.notAcknowledged) × (numberIn a ≡ 0)
+  -- The list answers 0, 1 to 4, 6 or 17. A number goes with 0 and 17 only.
+  pub listAnswers : {t room r : List ℕ} {u a : ℕ} → ListCall t u room a r
+      → List·Memᴰ (noIn a) (refusal.accepted ∷ refusal.badLength ∷ refusal.notWellFormed ∷ refusal.notSecure ∷ refusal.unknownRequester
+      ∷ refusal.notLoggedOn ∷ refusal.tooShort ∷ [])
+  pub listNumber : {t room r : List ℕ} {u a : ℕ} → ListCall t u room a r → noIn a ≢ refusal.accepted → noIn a ≢ refusal.tooShort → numberIn a ≡ 0
+  -- The reader answers 0, 1 or 18. A number goes with 18 only, and is 1 to 8.
+  pub readAnswers : {s w r : List ℕ} {a : ℕ} → ReadCall s w a r → List·Memᴰ (noIn a) (refusal.accepted ∷ refusal.badLength ∷ refusal.notARequest ∷ [])
+  pub readNumber : {s w r : List ℕ} {a : ℕ} → ReadCall s w a r → noIn a ≢ refusal.notARequest → numberIn a ≡ 0
+  pub readLine : {s w r : List ℕ} {a : ℕ} → ReadCall s w a r → noIn a ≡ refusal.notARequest → (1 ≤ numberIn a) × (numberIn a ≤ suc lineTotal)
+  -- The writer answers 0, 1, 5 or 17. A number goes with 0 and 17 only.
+  pub writeAnswers : {w room r : List ℕ} {a : ℕ} → WriteCall w room a r
+      → List·Memᴰ (noIn a) (refusal.accepted ∷ refusal.badLength ∷ refusal.badRequest ∷ refusal.tooShort ∷ [])
+  pub writeNumber : {w room r : List ℕ} {a : ℕ} → WriteCall w room a r → noIn a ≢ refusal.accepted → noIn a ≢ refusal.tooShort → numberIn a ≡ 0
+  -- After a refusal 1 to 4 of the step the tables are as they were;
+  pub stepUnchanged : {t q : List ℕ} {a : ℕ} {r : List ℕ} → StepCall t q a r → refusal.badLength ≤ noIn a → noIn a < firstNoticed → r ≡ t
+  -- after any refusal of the list, 6 and 17 among them, the room is;
+  pub listUnchanged : {t room r : List ℕ} {u a : ℕ} → ListCall t u room a r → noIn a ≢ refusal.accepted → r ≡ room
+  -- after any of the reader, 18 among them, the request is;
+  pub readUnchanged : {s w r : List ℕ} {a : ℕ} → ReadCall s w a r → noIn a ≢ refusal.accepted → r ≡ w
+  -- and after any of the writer, 5 and 17 among them, the room is.
+  pub writeUnchanged : {w room r : List ℕ} {a : ℕ} → WriteCall w room a r → noIn a ≢ refusal.accepted → r ≡ room
+  -- After a refusal 5 to 16 of the step the tables differ in words 5 to 7 of the requester at most.
+  pub stepNotice : {t q : List ℕ} {a : ℕ} {r : List ℕ} → StepCall t q a r → firstNoticed ≤ noIn a → OnlyNotice t (requester q) r
+  -- After any calls of the step, from tables that the check passes on, each user's notice holds the first refusal 5 to 16 of that user since the
+  -- last acknowledgement that was accepted, or what was held at the start; with its operation; and counts them, up to 65,535.
+  pub noticeKept : (m : ℕ) (tables requests : ℕ → List ℕ) (answers : ℕ → ℕ) → StepCalls m tables requests answers → Passes (tables 0) → (u : ℕ)
+      → Noticed tables requests (λ i. noIn (answers i)) u m
+  -- No request changes the notice of anybody but the requester.
+  pub noticeOfOthers : {t q : List ℕ} {a : ℕ} {r : List ℕ} → StepCall t q a r → (x : ℕ) → x ≢ requester q → SameNotice (tablesOf t) (tablesOf r) x
+
+-- Rules 6 and 8.4: what an accepted request q has made of the tables t: the operation that it names was allowed, has been done, and nothing else has.
+pub record Effected (t q r : List ℕ) : Type 0 where
+  pub operation : Op
+  pub accepted : Accepted operation (tablesOf t) (requestOf q)
+  pub size : length r ≡ length t
+  pub done : Done operation (asked (tablesOf t) (requestOf q)) (tablesOf t) (tablesOf r)
+  pub framed : Frame operation (asked (tablesOf t) (requestOf q)) (tablesOf t) (tablesOf r)
+
+-- Rules 9.4, 9.13 and 9.14: calls that never end are a history of the papers' model, and it is secure, and so is the system that starts so.
+pub record SecureHistory (tables requests : ℕ → List ℕ) : Type 0 where
+  pub history : History after (tablesOf (tables 0)) (λ i. tablesOf (tables i)) (λ i. requestOf (requests i))
+  pub secure : HistorySecure after (λ i. tablesOf (tables i))
+  pub system : SystemSecure after (tablesOf (tables 0))
+
+-- Rule 12: what the program writes of a script, as calls of the step on tables that are sound throughout.
+pub record SecureScript (t s o : List ℕ) : Type 0 where
+  -- the reports, and the bytes that they are written as
+  pub reports : List Report
+  pub written : o ≡ output reports
+  -- the reports of requests that were read; where one was not, 18 is reported once more and is the last
+  pub before : List Report
+  pub last : (reports ≡ before) ⊎ (reports ≡ before ++ (unread ∷ []))
+  -- they tell of calls, each given what the last one left
+  pub left : List ℕ
+  pub rest : List ℕ
+  pub calls : ScriptCalls t s before left rest
+  -- the tables behind each report are sound,
+  pub sound : (i : ℕ) → i ≤ length before → Sound (calls .tables i)
+  -- and each pair of them obeys Definitions 5 to 11
+  pub obeys : (i : ℕ) → i < length before
+      → Obeys (tablesOf (calls .tables i)) (requestOf (getD (requests (calls .wordings)) i [])) (tablesOf (calls .tables (suc i)))
+
+-- Demand 2: a request is refused exactly when a condition applies, with the lowest number; else it has its stated effect and no other; every history
+-- stays secure; and text and words convert both ways without loss.
+pub record DemandTwo : Type 0 where
+  -- The check's answer is 1 for words that are not 2,304, else 2 where the tables are not well-formed, else 3 where they are not secure, else 0:
+  pub checkLowest : (t : List ℕ) (a : ℕ) → CheckCall t a → (n : ℕ) → (noIn a ≡ n) ↔ Lowest (Unsound t) n
+  -- it passes words exactly where they are well-formed and secure tables.
+  pub checkSound : (t : List ℕ) (a : ℕ) → CheckCall t a → (noIn a ≡ refusal.accepted) ↔ Sound t
+  -- The step's answer is the lowest number whose refusal applies, and 0 where none does.
+  pub stepLowest : {t q : List ℕ} {a : ℕ} {r : List ℕ} → StepCall t q a r → (n : ℕ) → (noIn a ≡ n) ↔ Lowest (AppliesTo t q) n
+  -- With 0 the tables are what the operation makes of them, and every other word is as before.
+  pub stepEffect : {t q : List ℕ} {a : ℕ} {r : List ℕ} → StepCall t q a r → noIn a ≡ refusal.accepted → Effected t q r
+  -- From tables that the check passes, the tables after each of any calls of the step are well-formed and secure,
+  pub callsSound : (m : ℕ) (tables requests : ℕ → List ℕ) (answers : ℕ → ℕ) → StepCalls m tables requests answers → Passes (tables 0)
+      → (i : ℕ) → i ≤ m → Passes (tables i) × Sound (tables i)
+  -- and whatever the tables were, each pair of them obeys Definitions 5 to 11.
+  pub callsObey : (m : ℕ) (tables requests : ℕ → List ℕ) (answers : ℕ → ℕ) → StepCalls m tables requests answers
+      → (i : ℕ) → i < m → Obeys (tablesOf (tables i)) (requestOf (requests i)) (tablesOf (tables (suc i)))
+  -- Calls that never end, with requests of sixteen words, are a secure history (Definitions 4, 13 and 14).
+  pub callsHistory : (tables requests : ℕ → List ℕ) (answers : ℕ → ℕ) → ((m : ℕ) → StepCalls m tables requests answers) → Passes (tables 0)
+      → ((i : ℕ) → length (requests i) ≡ requestWords) → SecureHistory tables requests
+  -- Beyond the Definitions: nothing becomes released but by a release of that very draft, created entities included;
+  pub onlyReleased : {t q : List ℕ} {a : ℕ} {r : List ℕ} → StepCall t q a r → Passes t → OnlyReleased (tablesOf t) (requestOf q) (tablesOf r)
+  -- what is released is never deleted, and stays released by the same user, through any calls;
+  pub callsReleased : (m : ℕ) (tables requests : ℕ → List ℕ) (answers : ℕ → ℕ) → StepCalls m tables requests answers → Passes (tables 0)
+      → ReleasedStays (tablesOf (tables 0)) (tablesOf (tables m))
+  -- and users and devices are those of the start.
+  pub callsFixed : (m : ℕ) (tables requests : ℕ → List ℕ) (answers : ℕ → ℕ) → StepCalls m tables requests answers → Passes (tables 0)
+      → SameUsers (tablesOf (tables 0)) (tablesOf (tables m)) × SameDevices (tablesOf (tables 0)) (tablesOf (tables m))
+  -- What the program writes of a script are reports of such calls.
+  pub scriptSecure : {t s o : List ℕ} → Outputs t s o → Passes t → SecureScript t s o
+  -- A text that is read is written again, byte for byte, from the words that were read, in any room that it fits.
+  pub readThenWrite : {s v w room r : List ℕ} {a b : ℕ} → ReadCall s v a w → noIn a ≡ refusal.accepted → WriteCall w room b r → length s ≤ length room
+      → (noIn b ≡ refusal.accepted) × (numberIn b ≡ length s) × (r ≡ s ++ drop (length s) room)
+  -- Words of 32 bits that are written are read again, word for word, from the bytes that were written.
+  pub writeThenRead : {w room r v u : List ℕ} {a b : ℕ} → Small w → WriteCall w room b r → noIn b ≡ refusal.accepted → length v ≡ requestWords
+      → ReadCall (take (numberIn b) r) v a u → (noIn a ≡ refusal.accepted) × (u ≡ w)
+  -- The writer answers 5 to sixteen words of 32 bits exactly where no text gives them,
+  pub writeRefuses : {w room r : List ℕ} {b : ℕ} → length w ≡ requestWords → Small w → WriteCall w room b r → (noIn b ≡ refusal.badRequest) ↔ (¬ HasText w)
+  -- and the reader answers 18 exactly where a line is bad or missing, and names the first such line.
+  pub readRefuses : {s v w : List ℕ} {a : ℕ} → ReadCall s v a w → noIn a ≡ refusal.notARequest → FirstBad sorts s (numberIn a)
+  pub readNames : {s v w : List ℕ} {a k : ℕ} → FirstBad sorts s k → length v ≡ requestWords → ReadCall s v a w
+      → (noIn a ≡ refusal.notARequest) × (numberIn a ≡ k)
+
+-- Demand 3: the list of the user u on the tables t, in a room, with the answer a and what stands in the room afterwards.
+pub record Disclosed (t : List ℕ) (u : ℕ) (room : List ℕ) (a : ℕ) (r : List ℕ) : Type 0 where
+  pub list : List (List ℕ)
+  -- Each entry is a reference of one to four names,
+  pub named : (x : List ℕ) → List·Memᴰ x list → (1 ≤ length x) × (length x ≤ nameCount)
+  -- and a reference of one to four names is an entry exactly where the step, asked by u to show it with value and label, accepts, or refuses for want
+  -- of room only.
+  pub exactly : (x : List ℕ) → 1 ≤ length x → length x ≤ nameCount → {b : ℕ} {s : List ℕ} → StepCall t (showing u x) b s
+      → List·Memᴰ x list ↔ ((noIn b ≡ refusal.accepted) ⊎ (noIn b ≡ refusal.noRoom))
+  -- No entry stands twice,
+  pub once : (i j : ℕ) → i < j → j < length list → getD list i [] ≡ getD list j [] → ⊥
+  -- and they stand in order.
+  pub ordered : Sorted list
+  -- The number is how many there are, with room or without.
+  pub count : numberIn a ≡ length list
+  -- In a room that is large enough the answer is 0, the entries stand at the front, five words each, and all behind them is as it was.
+  pub fits : entryWords * length list ≤ length room → (noIn a ≡ refusal.accepted) × (r ≡ entries list ++ drop (entryWords * length list) room)
+  -- In a room that is too short it is 17, and the room is as it was.
+  pub short : length room < entryWords * length list → (noIn a ≡ refusal.tooShort) × (r ≡ room)
+
+pub record DemandThree : Type 0 where
+  -- For a user who is there and logged on, on tables that the check passes, the list is what the record above says.
+  pub disclosed : {t room r : List ℕ} {u a : ℕ} → ListCall t u room a r → Admitted t u → Disclosed t u room a r
+  -- For anybody else, or on other tables, it is refused with 1 to 4 or 6.
+  pub refused : {t room r : List ℕ} {u a : ℕ} → ListCall t u room a r → (Admitted t u → ⊥)
+      → (refusal.badLength ≤ noIn a) × (noIn a ≤ refusal.notLoggedOn)
