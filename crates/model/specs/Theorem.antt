@@ -27,4 +27,7 @@ pub mod Unchanged
 pub mod Notices
 pub mod Steps
 pub mod DoneLaws
+pub mod SameWords
+pub mod UniquePlaces
+pub mod UniqueOutcome
 pub mod Unique

@@ -1,7 +1,7 @@
 -- Rows as lists: what appending to a row, closing it up and packing it are, read as lists.
 use mathlib.Core.Bool.{Bool, false, true}
 use mathlib.Core.List.{List, List·Memᴰ, List·Memᴰ·cases-cons, List·Memᴰ·head, List·Memᴰ·not-nil, List·Memᴰ·tail, [], _++_, _∷_, cons≢nil}
-use mathlib.Core.List.{head-eq-of-cons-eq, nil≢cons, tail-eq-of-cons-eq}
+use mathlib.Core.List.{Memᴰ·append-right, head-eq-of-cons-eq, nil≢cons, tail-eq-of-cons-eq}
 use mathlib.Core.Logic.{_⊎_, inl, inr}
 use mathlib.Core.Path.{_∙_, _≡_, ap, ap₂, refl, subst, sym}
 use Prim.Native.Nat.{_+_, _<_, _≤_, pred, suc, zero, ℕ}
@@ -136,6 +136,10 @@ parted v (z ∷ l) = go (eqb z v) (same z v) (parted v l)
     go true (it e) r = inl ([], l, ap {B = List ℕ} (λ (y : ℕ). y ∷ l) e)
     go false (other e) (inl r) = inl (z ∷ r .0, r .1, ap {B = List ℕ} (λ (t : List ℕ). z ∷ t) (r .2))
     go false (other e) (inr r) = inr (λ m. cases (List·Memᴰ·cases-cons m) (λ q. e (sym q)) r)
+
+-- v stands in a list or does not
+pub listed-or-not : (v : ℕ) (l : List ℕ) → List·Memᴰ v l ⊎ (List·Memᴰ v l → ⊥)
+listed-or-not v l = cases (parted v l) (λ r. inl (subst (List·Memᴰ v) (sym (r .2)) (Memᴰ·append-right (r .0) (List·Memᴰ·head refl)))) inr
 
 -- only one list is a list with v taken out
 pub taken-unique : (v : ℕ) (l a b : List ℕ) → TakenOut v l a → TakenOut v l b → a ≡ b
