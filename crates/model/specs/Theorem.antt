@@ -30,4 +30,5 @@ pub mod DoneLaws
 pub mod SameWords
 pub mod UniquePlaces
 pub mod UniqueOutcome
+pub mod Outcomes
 pub mod Unique

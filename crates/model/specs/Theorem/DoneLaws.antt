@@ -2,7 +2,7 @@
 use mathlib.Core.Bool.{Bool, false, true}
 use mathlib.Core.List.{List}
 use mathlib.Core.Option.{some}
-use mathlib.Core.Path.{_∙_, _≡_, ap, refl, subst, sym}
+use mathlib.Core.Path.{_∙_, _≡_, refl, subst, sym}
 use Prim.Native.Nat.{ℕ}
 use native.Mathlib.Omega.{arith}
 use lib.Dec.{eqb, eqb-refl}
@@ -21,10 +21,10 @@ use Rattle.model.specs.Request.Words.{Request, requestOf}
 use Rattle.model.specs.State.WellFormed.{WellFormed}
 use Rattle.model.specs.Tables.Layout.{tablesOf}
 use Rattle.model.specs.Tables.LayoutLaws.{bounded}
-use Rattle.model.specs.Tables.Words.{Tables, authorised, clearance, current, device, held, heldOp, level, mark, maximum, missed, places}
-use Rattle.model.specs.Tables.Words.{releasedType, releaser, sums, type, usedPlaces, value}
+use Rattle.model.specs.Tables.Words.{Tables, authorised, clearance, current, device, held, heldOp, level, mark, maximum, missed}
+use Rattle.model.specs.Tables.Words.{places, releasedType, releaser, sums, type, usedPlaces, value}
 use Rattle.model.specs.Theorem.Acceptance.{accepted, accepted-good}
-use Rattle.model.specs.Theorem.Done.{Done, Emptied}
+use Rattle.model.specs.Theorem.Done.{Done}
 use Rattle.model.specs.Theorem.DonePlaces.{create-done, delete-done, move-done}
 use Rattle.model.specs.Theorem.DoneRows.{grant-done, revoke-done, show-done}
 use Rattle.model.specs.Theorem.Steps.{afterOf-tables, answerOf-sized, unsized}

@@ -6,10 +6,10 @@ use mathlib.Core.Path.{_∙_, _≡_, ap, refl, subst, sym}
 use Prim.Native.Nat.{_<_, _≤_, suc, zero, ℕ}
 use native.Mathlib.Nat.{not-suc-le-zero}
 use native.Mathlib.Omega.{arith}
-use lib.Dec.{T, eqb}
+use lib.Dec.{eqb}
 use Rattle.model.specs.Basics.Agree.{agrees-eq}
 use Rattle.model.specs.Basics.Choice.{Same, it, other, same}
-use Rattle.model.specs.Effect.Places.{bearing, create, delete, erase, fresh, leave, leaving, move, put, putting, sortKind, sortType, vacant}
+use Rattle.model.specs.Effect.Places.{bearing, delete, fresh, leave, leaving, put, putting, sortKind, sortType, vacant}
 use Rattle.model.specs.Effect.PlacesLaws.{vacant-absent}
 use Rattle.model.specs.Request.Allowed.{MayCreate, MayDelete, MayMove}
 use Rattle.model.specs.Request.Asked.{Asked}
@@ -20,9 +20,8 @@ use Rattle.model.specs.Tables.ContentsLaws.{none-taken, values-put, with
 use Rattle.model.specs.Tables.EditLaws.{case, edited-away, edited-here, edited-on}
 use Rattle.model.specs.Tables.Edits.{blank, written}
 use Rattle.model.specs.Tables.RowLaws.{before}
-use Rattle.model.specs.Tables.Rows.{Member, replace}
 use Rattle.model.specs.Tables.Words.{EntityWord, Tables, absentKind, containerKind, entityCount, kind, kinds, level, mark, maximum}
-use Rattle.model.specs.Tables.Words.{place, places, releaser, shown, sums, triple, triples, type, used, usedPlaces, value}
+use Rattle.model.specs.Tables.Words.{place, places, releaser, shown, sums, triple, type, used, usedPlaces, value}
 use Rattle.model.specs.Tables.WordsOf.{firstValues}
 use Rattle.model.specs.Theorem.Done.{HasCreated, HasDeleted, HasMoved}
 

@@ -1,9 +1,9 @@
 -- Two records, or two tables, with the same words: what their lists and the words that an operation may change say of them.
 use mathlib.Core.Bool.{Bool, _&&_, _||_, false, not, true}
 use mathlib.Core.List.{List}
-use mathlib.Core.Logic.{_⊎_, inl, inr}
+use mathlib.Core.Logic.{_⊎_}
 use mathlib.Core.Path.{_∙_, _≡_, ap, fun-ext, refl, subst, sym}
-use Prim.Native.Nat.{_<_, _≤_, ℕ}
+use Prim.Native.Nat.{_<_, ℕ}
 use native.Mathlib.Omega.{arith}
 use lib.Dec.{T, eqb, eqb→eq}
 use lib.ListN.{length}
@@ -18,8 +18,8 @@ use Rattle.model.specs.Tables.ContentsLaws.{packed-list, values-each}
 use Rattle.model.specs.Tables.Rows.{Packed}
 use Rattle.model.specs.Tables.WordAtLaws.{entity-word-same, user-word-same}
 use Rattle.model.specs.Tables.Words.{EntityWord, Tables, UserWord, authorised, clearance, current, device, held, heldOp, index, kind}
-use Rattle.model.specs.Tables.Words.{level, mark, maximum, missed, place, places, present, releaser, shown, spare, tag, triple, triples}
-use Rattle.model.specs.Tables.Words.{type, used, usedPlaces, userIndex, userTag, value}
+use Rattle.model.specs.Tables.Words.{level, mark, maximum, missed, place, places, present, releaser, shown, spare, tag, triple}
+use Rattle.model.specs.Tables.Words.{triples, type, used, usedPlaces, userIndex, userTag, value}
 use Rattle.model.specs.Tables.WordsOf.{firstValues}
 use Rattle.model.specs.Tables.WordsOfLaws.{values-length}
 use Rattle.model.specs.Theorem.MayChange.{Frame, contentWord, entityMay, screenWord, userMay, userWordIs, wordOrRow}

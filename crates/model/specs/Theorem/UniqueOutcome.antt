@@ -2,34 +2,27 @@
 -- section 3, its rule in section 6 and rule 8.4 allow, and a reader needs no definition of an effect.
 use mathlib.Core.Bool.{Bool, _&&_, _||_, false, true}
 use mathlib.Core.List.{List, List·Memᴰ}
-use mathlib.Core.Logic.{_↔_, _≢_, _⊎_, inl, inr}
-use mathlib.Core.Option.{some}
-use mathlib.Core.Path.{_∙_, _≡_, ap, refl, subst, sym}
+use mathlib.Core.Logic.{_≢_, _⊎_, inl, inr}
+use mathlib.Core.Path.{_∙_, _≡_, ap, sym}
 use Prim.Native.Nat.{_<_, _≤_, ℕ}
 use native.Mathlib.Omega.{arith}
 use lib.Dec.{T, eqb}
 use lib.ListN.{length}
 use Rattle.model.specs.Basics.Cases.{cases, lt-or-le}
 use Rattle.model.specs.Basics.Choice.{Same, it, other, same}
-use Rattle.model.specs.Request.After.{after}
-use Rattle.model.specs.Request.AfterLaws.{after-accepted, effect-by}
 use Rattle.model.specs.Request.Allowed.{Allowed}
-use Rattle.model.specs.Request.Asked.{Asked, asked, namedTriple, own}
-use Rattle.model.specs.Request.Ladder.{answer}
-use Rattle.model.specs.Request.Operations.{Op, opOf, rowOf, toAcknowledge, toAuthorised, toClear, toClearance, toCopy, toCreate}
-use Rattle.model.specs.Request.Operations.{toCurrent, toDelete, toDeviceLevel, toEdit, toGrant, toLevel, toLogin, toLogout, toMark}
-use Rattle.model.specs.Request.Operations.{toMaximum, toMove, toRelease, toRevoke, toShow}
-use Rattle.model.specs.Request.Words.{Request}
+use Rattle.model.specs.Request.Asked.{Asked, namedTriple, own}
+use Rattle.model.specs.Request.Operations.{Op, rowOf, toAcknowledge, toAuthorised, toClear, toClearance, toCopy, toCreate, toCurrent}
+use Rattle.model.specs.Request.Operations.{toDelete, toDeviceLevel, toEdit, toGrant, toLevel, toLogin, toLogout, toMark, toMaximum}
+use Rattle.model.specs.Request.Operations.{toMove, toRelease, toRevoke, toShow}
 use Rattle.model.specs.State.Secure.{Good}
-use Rattle.model.specs.State.WellFormed.{WellFormed}
-use Rattle.model.specs.Tables.Contents.{accessList, contentSums, contents}
+use Rattle.model.specs.Tables.Contents.{accessList, contents}
 use Rattle.model.specs.Tables.ContentsLaws.{listed-or-not, taken-unique, values-each}
 use Rattle.model.specs.Tables.Words.{EntityWord, Tables, UserWord, authorised, clearance, current, device, held, heldOp, level, mark}
-use Rattle.model.specs.Tables.Words.{maximum, missed, place, places, present, releaser, shown, spare, sums, tag, triple, type, used}
-use Rattle.model.specs.Tables.Words.{usedPlaces, userTag, value}
+use Rattle.model.specs.Tables.Words.{maximum, missed, place, places, present, releaser, spare, sums, tag, triple, type, usedPlaces}
+use Rattle.model.specs.Tables.Words.{userTag, value}
 use Rattle.model.specs.Tables.WordsOf.{firstValues}
 use Rattle.model.specs.Tables.WordsOfLaws.{values-length}
-use Rattle.model.specs.Theorem.Acceptance.{accepted}
 use Rattle.model.specs.Theorem.Done.{Emptied, Outcome}
 use Rattle.model.specs.Theorem.DoneLaws.{effect-done}
 use Rattle.model.specs.Theorem.Framed.{framed}

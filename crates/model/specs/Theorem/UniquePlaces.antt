@@ -1,9 +1,9 @@
 -- The rules leave no choice for create, delete and move: no two tables are both the outcome of one of these.
 use mathlib.Core.Bool.{Bool, _&&_, _||_, false, true}
-use mathlib.Core.List.{List, List·Memᴰ, [], _++_, _∷_}
+use mathlib.Core.List.{List, [], _++_, _∷_}
 use mathlib.Core.Logic.{_≢_, _⊎_, inl, inr}
-use mathlib.Core.Path.{_∙_, _≡_, ap, refl, subst, sym}
-use Prim.Native.Nat.{_<_, _≤_, suc, ℕ}
+use mathlib.Core.Path.{_∙_, _≡_, ap, subst, sym}
+use Prim.Native.Nat.{_<_, _≤_, ℕ}
 use native.Mathlib.Omega.{arith}
 use lib.Dec.{T, eqb, eqb→eq}
 use Rattle.model.specs.Basics.Cases.{cases, lt-or-le}
@@ -11,24 +11,19 @@ use Rattle.model.specs.Basics.Choice.{Same, it, other, same}
 use Rattle.model.specs.Basics.TestLaws.{T-l, T-r}
 use Rattle.model.specs.Effect.Places.{draftSort, objectSort, vacant}
 use Rattle.model.specs.Effect.PlacesLaws.{vacant-absent}
-use Rattle.model.specs.Request.Allowed.{Allowed, MayCreate}
-use Rattle.model.specs.Request.Asked.{Asked, own}
+use Rattle.model.specs.Request.Allowed.{MayCreate}
+use Rattle.model.specs.Request.Asked.{Asked}
 use Rattle.model.specs.Request.Form.{Between}
-use Rattle.model.specs.Request.Operations.{Op, toAcknowledge, toAuthorised, toClear, toClearance, toCopy, toCreate, toCurrent}
-use Rattle.model.specs.Request.Operations.{toDelete, toDeviceLevel, toEdit, toGrant, toLevel, toLogin, toLogout, toMark, toMaximum}
-use Rattle.model.specs.Request.Operations.{toMove, toRelease, toRevoke, toShow}
+use Rattle.model.specs.Request.Operations.{toCreate, toDelete, toMove}
 use Rattle.model.specs.State.AgreeLinks.{in-agrees}
-use Rattle.model.specs.State.WellFormed.{WellFormed}
-use Rattle.model.specs.Tables.Contents.{TakenOut, contentSums, contents}
-use Rattle.model.specs.Tables.ContentsLaws.{parted, taken-unique, values-each}
-use Rattle.model.specs.Tables.Words.{EntityWord, Tables, UserWord, absentKind, authorised, clearance, containerKind, current, device, draftType, held, heldOp}
-use Rattle.model.specs.Tables.Words.{kind, kinds, level, mark, maximum, missed, objectKind, place, places, plainType, releaser, shown, spare, sums, tag, triple, triples}
-use Rattle.model.specs.Tables.Words.{type, used, usedPlaces, userTag, value}
-use Rattle.model.specs.Theorem.Done.{Emptied, HasCreated, HasShown, Outcome, containerSort}
+use Rattle.model.specs.Tables.Contents.{contents}
+use Rattle.model.specs.Tables.ContentsLaws.{taken-unique}
+use Rattle.model.specs.Tables.Words.{EntityWord, Tables, absentKind, containerKind, draftType, kind, kinds, level, objectKind, places}
+use Rattle.model.specs.Tables.Words.{plainType, triple, triples, type, usedPlaces}
+use Rattle.model.specs.Theorem.Done.{HasCreated, Outcome, containerSort}
 use Rattle.model.specs.Theorem.DonePlaces.{vacant-lowest}
-use Rattle.model.specs.Theorem.MayChange.{contentWord, holder, screenWord, userWordIs, wordOrRow}
-use Rattle.model.specs.Theorem.SameWords.{access-same, at-entity, at-user, content-same, contents-same, frame-same, one-of}
-use Rattle.model.specs.Theorem.SameWords.{screen-same, triples-same, user-word-same-in, word-same}
+use Rattle.model.specs.Theorem.MayChange.{contentWord, holder, wordOrRow}
+use Rattle.model.specs.Theorem.SameWords.{at-entity, content-same, contents-same, frame-same, one-of, triples-same, word-same}
 
 -- Of the numbers from 1 on that are absent, one is the lowest.
 lowest-one : (d : Tables) (n m : ℕ) → 1 ≤ n → 1 ≤ m → kinds d n ≡ absentKind → kinds d m ≡ absentKind
