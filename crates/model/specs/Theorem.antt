@@ -3,6 +3,9 @@ pub mod Definitions
 pub mod DefinitionLaws
 pub mod MayChange
 pub mod Done
+pub mod DonePlaces
+pub mod DoneRows
+pub mod DoneLaws
 pub mod Statements
 pub mod NoRefusal
 pub mod Acceptance
@@ -21,12 +24,9 @@ pub mod FramedPlaces
 pub mod Framed
 pub mod Fixed
 pub mod Changed
-pub mod DonePlaces
-pub mod DoneRows
 pub mod Unchanged
 pub mod Notices
 pub mod Steps
-pub mod DoneLaws
 pub mod SameWords
 pub mod UniquePlaces
 pub mod UniqueOutcome

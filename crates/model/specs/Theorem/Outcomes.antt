@@ -1,4 +1,4 @@
--- What an accepted request leaves is the outcome of its operation, and the only one: of tables, and of words.
+-- What an accepted request has done (rule 8.4), of tables and of words; and that what it leaves is the only outcome that the rules allow.
 use mathlib.Core.Bool.{Bool, false, true}
 use mathlib.Core.List.{List}
 use mathlib.Core.Logic.{_↔_}
@@ -16,15 +16,42 @@ use Rattle.model.specs.Request.Operations.{Op, opOf, rowOf}
 use Rattle.model.specs.Request.Step.{afterOf, answerOf, sized}
 use Rattle.model.specs.Request.Words.{Request, requestOf}
 use Rattle.model.specs.State.Secure.{Good}
+use Rattle.model.specs.State.WellFormed.{WellFormed}
 use Rattle.model.specs.Tables.Layout.{tablesOf, wordCount}
 use Rattle.model.specs.Tables.LayoutLaws.{bounded}
 use Rattle.model.specs.Tables.Words.{Tables}
 use Rattle.model.specs.Tables.WordsOfLaws.{tablesOf-injective}
 use Rattle.model.specs.Theorem.Acceptance.{accepted, accepted-good}
-use Rattle.model.specs.Theorem.Done.{Outcome}
+use Rattle.model.specs.Theorem.Done.{Done, Outcome}
+use Rattle.model.specs.Theorem.DoneLaws.{effect-done}
 use Rattle.model.specs.Theorem.Steps.{afterOf-length, afterOf-tables, answerOf-sized, sized-agrees, unsized}
 use Rattle.model.specs.Theorem.UniqueOutcome.{done-exact, effect-outcome}
 use Rattle.model.specs.Request.Refusals as refusal
+
+-- An accepted request has done what its operation is to do.
+pub accepted-done : (d : Tables) → WellFormed d → (q : Request) → answer d q ≡ refusal.accepted
+    → (o : Op) × (opOf (q .operation) ≡ some o) × Done o (asked d q) d (after d q)
+accepted-done d w q e =
+    let a = accepted d q e w in (
+      a .0,
+      a .1 .meant .named,
+      subst (Done (a .0) (asked d q) d) (sym (after-accepted d q e ∙ effect-by d q (a .0) (a .1 .meant .named)))
+          (effect-done (a .0) d w (asked d q) (a .1 .allowed)),
+    )
+
+-- So it has in the words.
+pub words-done : (t q : List ℕ) → answerOf t q ≡ refusal.accepted
+    → (o : Op) × (opOf (requestOf q .operation) ≡ some o) × Done o (asked (tablesOf t) (requestOf q)) (tablesOf t) (tablesOf (afterOf t q))
+words-done t q e = go (sized t q) refl
+  where
+    go : (b : Bool) → sized t q ≡ b
+        → (o : Op) × (opOf (requestOf q .operation) ≡ some o) × Done o (asked (tablesOf t) (requestOf q)) (tablesOf t) (tablesOf (afterOf t q))
+    go true z =
+        let s = is-true (sized t q) z in
+        let a = sym (answerOf-sized t q s) ∙ e in
+        let f = accepted-done (tablesOf t) (accepted-good (tablesOf t) (requestOf q) a (bounded t) .0) (requestOf q) a in
+        (f .0, f .1, subst (Done (f .0) (asked (tablesOf t) (requestOf q)) (tablesOf t)) (sym (afterOf-tables t q s)) (f .2))
+    go false z = absurd (omega (arith, unsized t q (is-false (sized t q) z) .0))
 
 -- The tables after an accepted request are the outcome of the operation that it names, and no other tables are.
 pub accepted-outcome : (d : Tables) → Good d → (q : Request) → answer d q ≡ refusal.accepted
