@@ -24,6 +24,7 @@ use Rattle.model.specs.Text.Lines.{lineEnd}
 use Rattle.model.specs.Text.Numbers.{base, digitCount, digitsEnd, most, nineByte, zeroByte}
 use Rattle.model.specs.Text.References.{dotByte}
 use Rattle.model.specs.Text.Unfinished.{lineTotal, longest}
+use Rattle.model.specs.Theorem.Done.{containerSort}
 use Rattle.model.specs.Request.Refusals as refusal
 
 -- Rule 1.1: ranks 0 to 3, compartments 0 to 255, levels 0 to 1,023.
@@ -79,8 +80,8 @@ pub limits-are : (firstNoticed ≡ 5) × (lastNoticed ≡ 16) × (missedMost ≡
 limits-are = (refl, refl, refl, refl, refl)
 
 -- Rule 6.1: the sorts of a new entity.
-pub sorts-are : (objectSort ≡ 1) × (draftSort ≡ 3)
-sorts-are = (refl, refl)
+pub sorts-are : (objectSort ≡ 1) × (containerSort ≡ 2) × (draftSort ≡ 3)
+sorts-are = (refl, refl, refl)
 
 -- Rules 6.1 to 6.20: the operations.
 pub operations-are :

@@ -3,6 +3,9 @@ pub mod Definitions
 pub mod DefinitionLaws
 pub mod MayChange
 pub mod Done
+pub mod DonePlaces
+pub mod DoneRows
+pub mod DoneLaws
 pub mod Statements
 pub mod Sequence
 pub mod Beyond
@@ -23,8 +26,6 @@ pub mod FramedPlaces
 pub mod Framed
 pub mod Fixed
 pub mod Changed
-pub mod DonePlaces
-pub mod DoneRows
 pub mod Unchanged
 pub mod Notices
 pub mod Steps
@@ -32,5 +33,9 @@ pub mod DoneLaws
 pub mod SequenceStep
 pub mod SequenceLaws
 pub mod SequenceSecure
+pub mod SameWords
+pub mod UniquePlaces
+pub mod UniqueOutcome
+pub mod Outcomes
 pub mod Unique
 pub mod BeyondLaws

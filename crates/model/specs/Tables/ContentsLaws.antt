@@ -1,7 +1,7 @@
 -- Rows as lists: what appending to a row, closing it up and packing it are, read as lists.
 use mathlib.Core.Bool.{Bool, false, true}
-use mathlib.Core.List.{List, List·Memᴰ, List·Memᴰ·cases-cons, List·Memᴰ·head, List·Memᴰ·not-nil, List·Memᴰ·tail, [], _++_, _∷_, cons≢nil}
-use mathlib.Core.List.{head-eq-of-cons-eq, nil≢cons, tail-eq-of-cons-eq}
+use mathlib.Core.List.{List, List·Memᴰ, List·Memᴰ·cases-cons, List·Memᴰ·head, List·Memᴰ·not-nil, List·Memᴰ·tail, [], _++_, _∷_}
+use mathlib.Core.List.{Memᴰ·append-right, head-eq-of-cons-eq, nil≢cons, tail-eq-of-cons-eq}
 use mathlib.Core.Logic.{_⊎_, inl, inr}
 use mathlib.Core.Path.{_∙_, _≡_, ap, ap₂, refl, subst, sym}
 use Prim.Native.Nat.{_+_, _<_, _≤_, pred, suc, zero, ℕ}
@@ -13,7 +13,7 @@ use Rattle.model.specs.Basics.Cases.{cases}
 use Rattle.model.specs.Basics.Choice.{Below, Same, below, it, other, over, pick, same, under}
 use Rattle.model.specs.Tables.Contents.{TakenOut, nonzero}
 use Rattle.model.specs.Tables.EditLaws.{case}
-use Rattle.model.specs.Tables.RowLaws.{close-beyond, close-packed, sought, without-none}
+use Rattle.model.specs.Tables.RowLaws.{close-beyond, sought}
 use Rattle.model.specs.Tables.Rows.{Member, Packed, Sought, close, left, replace, seek, without}
 use Rattle.model.specs.Tables.Words.{placeCount}
 use Rattle.model.specs.Tables.WordsOf.{firstValues}
@@ -23,7 +23,8 @@ use Rattle.model.specs.Tables.WordsOfLaws.{values-at, values-length}
 pub values-same : (n : ℕ) (f g : ℕ → ℕ) → ((i : ℕ) → i < n → f i ≡ g i) → firstValues n f ≡ firstValues n g
 unfolding firstValues
 values-same zero f g h = refl
-values-same (suc n) f g h = ap₂ {C = List ℕ} (λ (x : ℕ) (l : List ℕ). x ∷ l) (h 0 (omega arith)) (values-same n (λ i. f (suc i)) (λ i. g (suc i)) (λ i l. h (suc i) (omega arith)))
+values-same (suc n) f g h = ap₂ {C = List ℕ} (λ (x : ℕ) (l : List ℕ). x ∷ l) (h 0 (omega arith))
+    (values-same n (λ i. f (suc i)) (λ i. g (suc i)) (λ i l. h (suc i) (omega arith)))
 
 -- and the other way
 pub values-each : (n : ℕ) (f g : ℕ → ℕ) → firstValues n f ≡ firstValues n g → (i : ℕ) → i < n → f i ≡ g i
@@ -119,7 +120,8 @@ module _ (row : ℕ → ℕ) (n v : ℕ) where
 pub without-taken : (v : ℕ) (row : ℕ → ℕ) (n : ℕ) → Packed row n → TakenOut v (firstValues n row) (firstValues (left v row n) (without v row n))
 without-taken v row n w = go (ltb (seek v row n) n) (below (seek v row n) n) (sought v row n)
   where
-    go : (b : Bool) → Below (seek v row n) n b → Sought v row n (seek v row n) → TakenOut v (firstValues n row) (firstValues (pick b (pred n) n) (without v row n))
+    go : (b : Bool) → Below (seek v row n) n b → Sought v row n (seek v row n)
+        → TakenOut v (firstValues n row) (firstValues (pick b (pred n) n) (without v row n))
     go true (under h) (inl z) = close-taken row n v (seek v row n) w h (z .1)
     go true (under h) (inr z) = absurd (omega (arith, z .0))
     go false (over h) (inl z) = absurd (omega (arith, z .0))
@@ -137,6 +139,10 @@ parted v (z ∷ l) = go (eqb z v) (same z v) (parted v l)
     go false (other e) (inl r) = inl (z ∷ r .0, r .1, ap {B = List ℕ} (λ (t : List ℕ). z ∷ t) (r .2))
     go false (other e) (inr r) = inr (λ m. cases (List·Memᴰ·cases-cons m) (λ q. e (sym q)) r)
 
+-- v stands in a list or does not
+pub listed-or-not : (v : ℕ) (l : List ℕ) → List·Memᴰ v l ⊎ (List·Memᴰ v l → ⊥)
+listed-or-not v l = cases (parted v l) (λ r. inl (subst (List·Memᴰ v) (sym (r .2)) (Memᴰ·append-right (r .0) (List·Memᴰ·head refl)))) inr
+
 -- only one list is a list with v taken out
 pub taken-unique : (v : ℕ) (l a b : List ℕ) → TakenOut v l a → TakenOut v l b → a ≡ b
 taken-unique v l a b x y = cases (parted v l) (λ r. x .closed (r .0) (r .1) (r .2) ∙ sym (y .closed (r .0) (r .1) (r .2))) (λ r. x .kept r ∙ sym (y .kept r))
@@ -147,7 +153,8 @@ nonzero-first : (m n : ℕ) (row : ℕ → ℕ) → n ≤ m → ((i : ℕ) → i
 unfolding firstValues nonzero
 nonzero-first zero zero row h f g = refl
 nonzero-first zero (suc n) row h f g = absurd (not-suc-le-zero h)
-nonzero-first (suc m) zero row h f g = rw (g 0 (omega arith)) (nonzero-first m zero (λ i. row (suc i)) (omega arith) (λ i l. absurd (not-suc-le-zero l)) (λ i l. g (suc i) (omega arith)))
+nonzero-first (suc m) zero row h f g = rw (g 0 (omega arith))
+    (nonzero-first m zero (λ i. row (suc i)) (omega arith) (λ i l. absurd (not-suc-le-zero l)) (λ i l. g (suc i) (omega arith)))
 nonzero-first (suc m) (suc n) row h f g = go (row 0) (f 0 (omega arith))
     (nonzero-first m n (λ i. row (suc i)) (omega arith) (λ i l. f (suc i) (omega arith)) (λ i l. g (suc i) (omega arith)))
   where

@@ -9,10 +9,12 @@ use Rattle.model.specs.Request.Asked.{Asked, namedTriple, own}
 use Rattle.model.specs.Request.Operations.{Op, toAcknowledge, toAuthorised, toClear, toClearance, toCopy, toCreate, toCurrent}
 use Rattle.model.specs.Request.Operations.{toDelete, toDeviceLevel, toEdit, toGrant, toLevel, toLogin, toLogout, toMark, toMaximum}
 use Rattle.model.specs.Request.Operations.{toMove, toRelease, toRevoke, toShow}
+use Rattle.model.specs.State.WellFormed.{WellFormed}
 use Rattle.model.specs.Tables.Contents.{TakenOut, accessList, contentSums, contents}
 use Rattle.model.specs.Tables.Words.{EntityWord, Tables, absentKind, authorised, clearance, containerKind, current, device, draftType}
 use Rattle.model.specs.Tables.Words.{entityCount, held, heldOp, kinds, level, mark, maximum, missed, objectKind, places, plainType}
 use Rattle.model.specs.Tables.Words.{releasedType, releaser, sums, triples, type, usedPlaces, value}
+use Rattle.model.specs.Theorem.MayChange.{Frame}
 
 -- Rule 6.1: the sort 2 of a new entity; 1 and 3 have their names in Effect/Places.
 abbrev pub containerSort : ℕ
@@ -138,3 +140,12 @@ Done toMaximum s d d′ = d′ .entity (s .first) maximum ≡ s .a
 Done toDeviceLevel s d d′ = d′ .entity (s .first) level ≡ s .a
 Done toRelease s d d′ = HasReleased s d′
 Done toAcknowledge s d d′ = HasAcknowledged s d′
+
+-- All that the rules say of the tables d′ after an accepted operation.
+pub record Outcome (o : Op) (s : Asked) (d d′ : Tables) : Type 0 where
+  -- section 3: they are well-formed
+  pub wellFormed : WellFormed d′
+  -- section 6: the words of the operation's rule have the values that it names
+  pub done : Done o s d d′
+  -- rule 8.4: every other word is as before
+  pub framed : Frame o s d d′

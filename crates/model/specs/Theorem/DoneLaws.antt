@@ -1,34 +1,20 @@
--- Rule 8.4: every allowed effect leaves the values that Theorem/Done says, and so does every accepted request, of tables and of words.
-use mathlib.Core.Bool.{Bool, false, true}
-use mathlib.Core.List.{List}
-use mathlib.Core.Option.{some}
-use mathlib.Core.Path.{_∙_, _≡_, ap, refl, subst, sym}
+-- Rule 8.4: every allowed effect leaves the values that Theorem/Done says.
+use mathlib.Core.Path.{_≡_}
 use Prim.Native.Nat.{ℕ}
-use native.Mathlib.Omega.{arith}
 use lib.Dec.{eqb, eqb-refl}
 use Rattle.model.specs.Basics.Choice.{pick}
-use Rattle.model.specs.Basics.TestLaws.{is-false, is-true, pick-true}
-use Rattle.model.specs.Request.After.{after}
-use Rattle.model.specs.Request.AfterLaws.{after-accepted, effect-by}
+use Rattle.model.specs.Basics.TestLaws.{pick-true}
 use Rattle.model.specs.Request.Allowed.{Allowed}
-use Rattle.model.specs.Request.Asked.{Asked, asked, own}
-use Rattle.model.specs.Request.Ladder.{answer}
-use Rattle.model.specs.Request.Operations.{Op, opOf, rowOf, toAcknowledge, toAuthorised, toClear, toClearance, toCopy, toCreate}
-use Rattle.model.specs.Request.Operations.{toCurrent, toDelete, toDeviceLevel, toEdit, toGrant, toLevel, toLogin, toLogout, toMark}
-use Rattle.model.specs.Request.Operations.{toMaximum, toMove, toRelease, toRevoke, toShow}
-use Rattle.model.specs.Request.Step.{afterOf, answerOf, sized}
-use Rattle.model.specs.Request.Words.{Request, requestOf}
+use Rattle.model.specs.Request.Asked.{Asked, own}
+use Rattle.model.specs.Request.Operations.{Op, rowOf, toAcknowledge, toAuthorised, toClear, toClearance, toCopy, toCreate, toCurrent}
+use Rattle.model.specs.Request.Operations.{toDelete, toDeviceLevel, toEdit, toGrant, toLevel, toLogin, toLogout, toMark, toMaximum}
+use Rattle.model.specs.Request.Operations.{toMove, toRelease, toRevoke, toShow}
 use Rattle.model.specs.State.WellFormed.{WellFormed}
-use Rattle.model.specs.Tables.Layout.{tablesOf}
-use Rattle.model.specs.Tables.LayoutLaws.{bounded}
-use Rattle.model.specs.Tables.Words.{Tables, authorised, clearance, current, device, held, heldOp, level, mark, maximum, missed, places}
-use Rattle.model.specs.Tables.Words.{releasedType, releaser, sums, type, usedPlaces, value}
-use Rattle.model.specs.Theorem.Acceptance.{accepted, accepted-good}
-use Rattle.model.specs.Theorem.Done.{Done, Emptied}
+use Rattle.model.specs.Tables.Words.{Tables, authorised, clearance, current, device, held, heldOp, level, mark, maximum, missed}
+use Rattle.model.specs.Tables.Words.{places, releasedType, releaser, sums, type, usedPlaces, value}
+use Rattle.model.specs.Theorem.Done.{Done}
 use Rattle.model.specs.Theorem.DonePlaces.{create-done, delete-done, move-done}
 use Rattle.model.specs.Theorem.DoneRows.{grant-done, revoke-done, show-done}
-use Rattle.model.specs.Theorem.Steps.{afterOf-tables, answerOf-sized, unsized}
-use Rattle.model.specs.Request.Refusals as refusal
 
 -- the value at the record that is edited
 set-here : (e new old : ℕ) → pick (eqb e e) new old ≡ new
@@ -75,28 +61,3 @@ effect-done toAcknowledge d w s a = record {
   noOperation = set-here (s .user) 0 (d .user (s .user) heldOp);
   noneMissed = set-here (s .user) 0 (d .user (s .user) missed);
 }
-
--- An accepted request has done what its operation is to do.
-pub accepted-done : (d : Tables) → WellFormed d → (q : Request) → answer d q ≡ refusal.accepted
-    → (o : Op) × (opOf (q .operation) ≡ some o) × Done o (asked d q) d (after d q)
-accepted-done d w q e =
-    let a = accepted d q e w in (
-      a .0,
-      a .1 .meant .named,
-      subst (Done (a .0) (asked d q) d) (sym (after-accepted d q e ∙ effect-by d q (a .0) (a .1 .meant .named)))
-          (effect-done (a .0) d w (asked d q) (a .1 .allowed)),
-    )
-
--- So it has in the words.
-pub words-done : (t q : List ℕ) → answerOf t q ≡ refusal.accepted
-    → (o : Op) × (opOf (requestOf q .operation) ≡ some o) × Done o (asked (tablesOf t) (requestOf q)) (tablesOf t) (tablesOf (afterOf t q))
-words-done t q e = go (sized t q) refl
-  where
-    go : (b : Bool) → sized t q ≡ b
-        → (o : Op) × (opOf (requestOf q .operation) ≡ some o) × Done o (asked (tablesOf t) (requestOf q)) (tablesOf t) (tablesOf (afterOf t q))
-    go true z =
-        let s = is-true (sized t q) z in
-        let a = sym (answerOf-sized t q s) ∙ e in
-        let f = accepted-done (tablesOf t) (accepted-good (tablesOf t) (requestOf q) a (bounded t) .0) (requestOf q) a in
-        (f .0, f .1, subst (Done (f .0) (asked (tablesOf t) (requestOf q)) (tablesOf t)) (sym (afterOf-tables t q s)) (f .2))
-    go false z = absurd (omega (arith, unsized t q (is-false (sized t q) z) .0))

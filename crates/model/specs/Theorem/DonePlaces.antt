@@ -6,10 +6,10 @@ use mathlib.Core.Path.{_∙_, _≡_, ap, refl, subst, sym}
 use Prim.Native.Nat.{_<_, _≤_, suc, zero, ℕ}
 use native.Mathlib.Nat.{not-suc-le-zero}
 use native.Mathlib.Omega.{arith}
-use lib.Dec.{T, eqb}
+use lib.Dec.{eqb}
 use Rattle.model.specs.Basics.Agree.{agrees-eq}
 use Rattle.model.specs.Basics.Choice.{Same, it, other, same}
-use Rattle.model.specs.Effect.Places.{bearing, create, delete, erase, fresh, leave, leaving, move, put, putting, sortKind, sortType, vacant}
+use Rattle.model.specs.Effect.Places.{bearing, delete, fresh, leave, leaving, put, putting, sortKind, sortType, vacant}
 use Rattle.model.specs.Effect.PlacesLaws.{vacant-absent}
 use Rattle.model.specs.Request.Allowed.{MayCreate, MayDelete, MayMove}
 use Rattle.model.specs.Request.Asked.{Asked}
@@ -20,9 +20,8 @@ use Rattle.model.specs.Tables.ContentsLaws.{none-taken, values-put, with
 use Rattle.model.specs.Tables.EditLaws.{case, edited-away, edited-here, edited-on}
 use Rattle.model.specs.Tables.Edits.{blank, written}
 use Rattle.model.specs.Tables.RowLaws.{before}
-use Rattle.model.specs.Tables.Rows.{Member, replace}
 use Rattle.model.specs.Tables.Words.{EntityWord, Tables, absentKind, containerKind, entityCount, kind, kinds, level, mark, maximum}
-use Rattle.model.specs.Tables.Words.{place, places, releaser, shown, sums, triple, triples, type, used, usedPlaces, value}
+use Rattle.model.specs.Tables.Words.{place, places, releaser, shown, sums, triple, type, used, usedPlaces, value}
 use Rattle.model.specs.Tables.WordsOf.{firstValues}
 use Rattle.model.specs.Theorem.Done.{HasCreated, HasDeleted, HasMoved}
 
@@ -50,6 +49,11 @@ empty-taken : (n m : ℕ) (r q : ℕ → ℕ) (e : ℕ) → n ≡ 0 → m ≡ 0 
 unfolding firstValues
 empty-taken n m r q e a b = rw (a, b) (none-taken r 0 e (λ k. omega (arith, k .1)))
 
+-- Every number from 1 on that is lower than the lowest absent one is present.
+pub vacant-lowest : (d : Tables) (x : ℕ) → 1 ≤ x → x < vacant d → kinds d x ≢ absentKind
+vacant-lowest d zero l h = absurd (not-suc-le-zero l)
+vacant-lowest d (suc x) l h = before absentKind (λ i. kinds d (suc i)) entityCount x (omega arith)
+
 module _ (d : Tables) (w : WellFormed d) (s : Asked) where
   -- a container shows nothing
   unshown : (c : ℕ) → kinds d c ≡ containerKind → (i : ℕ) → sums d c i ≡ 0
@@ -61,7 +65,7 @@ module _ (d : Tables) (w : WellFormed d) (s : Asked) where
     low = omega arith;
     high = a .number;
     absent = gone;
-    lowest = below-present;
+    lowest = vacant-lowest d;
     object = λ q. (is kind ∙ ap sortKind q, is type ∙ ap sortType q);
     container = λ q. (is kind ∙ ap sortKind q, is type ∙ ap sortType q);
     draft = λ q. (is kind ∙ ap sortKind q, is type ∙ ap sortType q);
@@ -95,10 +99,6 @@ module _ (d : Tables) (w : WellFormed d) (s : Asked) where
 
       apart : e ≢ c
       apart q = omega (arith, ap (kinds d) q, gone, a .box)
-
-      below-present : (x : ℕ) → 1 ≤ x → x < e → kinds d x ≢ absentKind
-      below-present zero l h = absurd (not-suc-le-zero l)
-      below-present (suc x) l h = before absentKind (λ i. kinds d (suc i)) entityCount x (omega arith)
 
       -- the new record, word by word
       is : (f : EntityWord) → put c e 0 with-it .entity e f ≡ written (bearing c (sortKind (s .a)) (sortType (s .a)) (s .b) d) (d .entity e) f

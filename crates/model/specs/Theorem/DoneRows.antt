@@ -1,18 +1,18 @@
 -- Grant, revoke and show have done what Theorem/Done says.
 use mathlib.Core.Bool.{Bool, false, true}
 use mathlib.Core.List.{List, List·Memᴰ, [], _++_, _∷_}
-use mathlib.Core.Logic.{_≢_, _⊎_, inl, inr}
+use mathlib.Core.Logic.{_≢_, inl, inr}
 use mathlib.Core.Path.{_∙_, _≡_, ap, ap₂, refl, subst, sym}
 use Prim.Native.Nat.{_<_, _≤_, pred, suc, ℕ}
 use native.Mathlib.Omega.{arith}
 use lib.Dec.{ltb}
 use Rattle.model.specs.Basics.Choice.{Below, below, over, pick, under}
-use Rattle.model.specs.Effect.Screens.{placing, spot}
+use Rattle.model.specs.Effect.Screens.{placing}
 use Rattle.model.specs.Effect.Triples.{granted}
-use Rattle.model.specs.Request.Allowed.{MayGrant, MayRevoke, MayShow}
+use Rattle.model.specs.Request.Allowed.{MayGrant, MayRevoke}
 use Rattle.model.specs.Request.Asked.{Asked, namedTriple, own}
 use Rattle.model.specs.Request.Operations.{rowOf, toGrant, toRevoke, toShow}
-use Rattle.model.specs.State.WellFormed.{GoodTriple, WellFormed}
+use Rattle.model.specs.State.WellFormed.{WellFormed}
 use Rattle.model.specs.Tables.Contents.{TakenOut, accessList, contentSums, contents, nonzero}
 use Rattle.model.specs.Tables.ContentsLaws.{close-taken, listed-member, member-listed, none-taken, packed-list, values-put}
 use Rattle.model.specs.Tables.EditLaws.{case, edited-here}
