@@ -12,7 +12,7 @@ use Rattle.model.specs.Basics.Agree.{Agrees, agrees-and, agrees-le, ever
 use Rattle.model.specs.Basics.Choice.{Below, Same, below, it, other, over, pick, same, under}
 use Rattle.model.specs.Basics.TestLaws.{is-false, is-true, pick-true}
 use Rattle.model.specs.Basics.Tests.{every}
-use Rattle.model.specs.Effect.Notice.{keepFirst, missedMore, notice}
+use Rattle.model.specs.Effect.Notice.{missedMore, notice}
 use Rattle.model.specs.Request.After.{after, noticedOp}
 use Rattle.model.specs.Request.AfterLaws.{after-accepted, after-each, after-noticed, effect-by}
 use Rattle.model.specs.Request.Asked.{asked}
@@ -88,24 +88,19 @@ pub record Counted (d d′ : Tables) (u a o : ℕ) : Type 0 where
 
 notice-counted : (d : Tables) (u a o : ℕ) → Counted d (notice u a o d) u a o
 notice-counted d u a o = record {
-  kept = λ h. keeps (eqb (d .user u held) 0) (same (d .user u held) 0) h;
-  taken = λ h. takes (eqb (d .user u held) 0) (same (d .user u held) 0) h;
+  kept = keeps (eqb (d .user u held) 0) refl (same (d .user u held) 0);
+  taken = takes (eqb (d .user u held) 0) refl (same (d .user u held) 0);
   more = here u _ (d .user u missed) ∙ one-more (ltb (d .user u missed) missedMost) (below (d .user u missed) missedMost);
 }
   where
-    keeps : (b : Bool) → Same (d .user u held) 0 b → d .user u held ≢ 0 → _≡_ {A = Held} record {
-      refusal = pick (eqb u u) (keepFirst b a (d .user u held)) (d .user u held);
-      operation = pick (eqb u u) (keepFirst b o (d .user u heldOp)) (d .user u heldOp);
-    } (heldFor d u)
-    keeps true (it e) n = absurd (n e)
-    keeps false (other e) n = held-same (here u _ _) (here u _ _)
+    keeps : (b : Bool) → eqb (d .user u held) 0 ≡ b → Same (d .user u held) 0 b → d .user u held ≢ 0 → heldFor (notice u a o d) u ≡ heldFor d u
+    keeps true e (it z) n = absurd (n z)
+    keeps false e (other z) n = rw e (held-same (here u _ (d .user u held)) (here u _ (d .user u heldOp)))
 
-    takes : (b : Bool) → Same (d .user u held) 0 b → d .user u held ≡ 0 → _≡_ {A = Held} record {
-      refusal = pick (eqb u u) (keepFirst b a (d .user u held)) (d .user u held);
-      operation = pick (eqb u u) (keepFirst b o (d .user u heldOp)) (d .user u heldOp);
-    } record { refusal = a; operation = o }
-    takes true (it e) h = held-same (here u _ _) (here u _ _)
-    takes false (other e) h = absurd (e h)
+    takes : (b : Bool) → eqb (d .user u held) 0 ≡ b → Same (d .user u held) 0 b → d .user u held ≡ 0
+        → heldFor (notice u a o d) u ≡ record { refusal = a; operation = o }
+    takes true e (it z) h = rw e (held-same (here u _ (d .user u held)) (here u _ (d .user u heldOp)))
+    takes false e (other z) h = absurd (z h)
 
     one-more : (b : Bool) → Below (d .user u missed) missedMost b → missedMore b (d .user u missed) ≡ stopped (suc (d .user u missed))
     one-more true (under l) = sym (stopped-within (suc (d .user u missed)) l)
