@@ -26,5 +26,6 @@ pub mod Notices
 pub mod Steps
 pub mod SequenceStep
 pub mod SequenceLaws
+pub mod SequenceUnique
 pub mod SequenceSecure
 pub mod Unique

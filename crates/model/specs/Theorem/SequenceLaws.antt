@@ -29,6 +29,10 @@ use Rattle.model.specs.Theorem.Statements.{SameNotice}
 use Rattle.model.specs.Theorem.Steps.{answerOf-sized, unsized}
 use Rattle.model.specs.Request.Refusals as refusal
 
+-- The first i of m steps are steps too.
+pub steps-before : (tables requests : ℕ → List ℕ) (answers : ℕ → ℕ) (m i : ℕ) → i ≤ m → Steps m tables requests answers → Steps i tables requests answers
+steps-before tables requests answers m i l s = record { answered = λ j h. s .answered j (omega arith); left = λ j h. s .left j (omega arith) }
+
 -- No step is answered above 16.
 pub answerOf-range : (t q : List ℕ) → answerOf t q ≤ lastNoticed
 answerOf-range t q = go (sized t q) refl
@@ -216,11 +220,11 @@ module _ (tables requests : ℕ → List ℕ) (answers : ℕ → ℕ) (u : ℕ) 
   noticed-after : WellFormed (tablesOf (tables 0)) → (m : ℕ) → Steps m tables requests answers → Noticed tables requests answers u m
   noticed-after w zero s = noticed-start w
   noticed-after w (suc m) s = noticed-next m
-      (noticed-after w m record { answered = λ i h. s .answered i (omega arith); left = λ i h. s .left i (omega arith) })
+      (noticed-after w m (steps-before tables requests answers (suc m) m (omega arith) s))
       (turn m (s .answered m (omega arith)) (s .left m (omega arith)))
 
 -- Rules 8.2 and 8.3: what each user's notice says after m steps from words that pass the state check, and so after each of them.
-pub sequence-noticed : (m : ℕ) (tables requests : ℕ → List ℕ) (answers : ℕ → ℕ) → Steps m tables requests answers
+pub sequence-noticed : (tables requests : ℕ → List ℕ) (answers : ℕ → ℕ) (m : ℕ) → Steps m tables requests answers
     → check (tables 0) ≡ refusal.accepted → (u : ℕ) → Noticed tables requests answers u m
-sequence-noticed m tables requests answers s e u =
+sequence-noticed tables requests answers m s e u =
     noticed-after tables requests answers u (check-agrees (tables 0) .to (agrees-eq (check (tables 0)) refusal.accepted .from e) .1 .0) m s
