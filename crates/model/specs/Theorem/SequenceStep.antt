@@ -27,7 +27,7 @@ use Rattle.model.specs.Tables.LayoutLaws.{bounded}
 use Rattle.model.specs.Tables.Words.{Tables, firstNoticed, held, heldOp, missed, missedMost, operationCount}
 use Rattle.model.specs.Theorem.Acceptance.{accepted-good}
 use Rattle.model.specs.Theorem.Notices.{accepted-notices}
-use Rattle.model.specs.Theorem.Sequence.{Held, NoNotice, heldFor, operationKept, stopped}
+use Rattle.model.specs.Theorem.Sequence.{Held, NoNotice, heldFor, operationKept, missedFor}
 use Rattle.model.specs.Theorem.Statements.{SameNotice}
 use Rattle.model.specs.Theorem.Steps.{afterOf-tables, answerOf-sized, unsized}
 use Rattle.model.specs.Request.Refusals as refusal
@@ -70,11 +70,11 @@ here : (x v a : ℕ) → pick (eqb x x) v a ≡ v
 here x v a = case (λ (y : ℕ). y ≡ v) x x v a (λ e. refl) (λ n. absurd (n refl))
 
 -- A count within its greatest is itself, and one past it is its greatest.
-pub stopped-within : (n : ℕ) → n ≤ missedMost → stopped n ≡ n
-stopped-within n h = pick-true (leb n missedMost) n missedMost (agrees-le n missedMost .from h)
+pub missed-within : (n : ℕ) → n ≤ missedMost → missedFor n ≡ n
+missed-within n h = pick-true (leb n missedMost) n missedMost (agrees-le n missedMost .from h)
 
-pub stopped-past : (n : ℕ) → missedMost ≤ n → stopped n ≡ missedMost
-stopped-past n h = go (leb n missedMost) (agrees-le n missedMost)
+pub missed-past : (n : ℕ) → missedMost ≤ n → missedFor n ≡ missedMost
+missed-past n h = go (leb n missedMost) (agrees-le n missedMost)
   where
     go : (b : Bool) → Agrees b (n ≤ missedMost) → pick b n missedMost ≡ missedMost
     go true a = let l = a .to tt in omega arith
@@ -84,7 +84,7 @@ stopped-past n h = go (leb n missedMost) (agrees-le n missedMost)
 pub record Counted (d d′ : Tables) (u a o : ℕ) : Type 0 where
   pub kept : d .user u held ≢ 0 → heldFor d′ u ≡ heldFor d u
   pub taken : d .user u held ≡ 0 → heldFor d′ u ≡ record { refusal = a; operation = o }
-  pub more : d′ .user u missed ≡ stopped (suc (d .user u missed))
+  pub more : d′ .user u missed ≡ missedFor (suc (d .user u missed))
 
 notice-counted : (d : Tables) (u a o : ℕ) → Counted d (notice u a o d) u a o
 notice-counted d u a o = record {
@@ -102,9 +102,9 @@ notice-counted d u a o = record {
     takes true e (it z) h = rw e (held-same (here u _ (d .user u held)) (here u _ (d .user u heldOp)))
     takes false e (other z) h = absurd (z h)
 
-    one-more : (b : Bool) → Below (d .user u missed) missedMost b → missedMore b (d .user u missed) ≡ stopped (suc (d .user u missed))
-    one-more true (under l) = sym (stopped-within (suc (d .user u missed)) l)
-    one-more false (over l) = sym (stopped-past (suc (d .user u missed)) (omega arith))
+    one-more : (b : Bool) → Below (d .user u missed) missedMost b → missedMore b (d .user u missed) ≡ missedFor (suc (d .user u missed))
+    one-more true (under l) = sym (missed-within (suc (d .user u missed)) l)
+    one-more false (over l) = sym (missed-past (suc (d .user u missed)) (omega arith))
 
 -- Rule 8.2 of words: a refusal 5 to 16 adds to the requester's notice.
 pub refused-counted : (t q : List ℕ) → firstNoticed ≤ answerOf t q

@@ -14,7 +14,7 @@ use Rattle.model.specs.Basics.Choice.{Same, it, other, same}
 use Rattle.model.specs.Request.Step.{afterOf, answerOf}
 use Rattle.model.specs.Tables.Layout.{tablesOf}
 use Rattle.model.specs.Tables.Words.{held, missed}
-use Rattle.model.specs.Theorem.Sequence.{Acknowledged, FirstRefused, Held, Noticed, Refused, Steps, heldFor, refusals, refusedTest, stopped}
+use Rattle.model.specs.Theorem.Sequence.{Acknowledged, FirstRefused, Held, Noticed, Refused, Steps, heldFor, refusals, refusedTest, missedFor}
 use Rattle.model.specs.Theorem.SequenceLaws.{refused-agrees}
 use Rattle.model.specs.Theorem.SequenceStep.{held-same}
 use Rattle.model.specs.Theorem.Statements.{SameNotice, afterWords}
@@ -113,7 +113,7 @@ module _ (s t requests : ℕ → List ℕ) (answers : ℕ → ℕ) (u m : ℕ) (
     noticed-unique = (
       ap (λ (z : Held). z .refusal) held-now,
       ap (λ (z : Held). z .operation) held-now,
-      y .missed ∙ ap₂ (λ (a k : ℕ). stopped (a + k)) (same-then .2) (ap₂ (refusals requests answers u) (sym since-unique) later-same) ∙ sym (x .missed),
+      y .missed ∙ ap₂ (λ (a k : ℕ). missedFor (a + k)) (same-then .2) (ap₂ (refusals requests answers u) (sym since-unique) later-same) ∙ sym (x .missed),
     )
       where
         later-same : y .later ≡ x .later
