@@ -32,6 +32,7 @@ pub mod Steps
 pub mod DoneLaws
 pub mod SequenceStep
 pub mod SequenceLaws
+pub mod SequenceUnique
 pub mod SequenceSecure
 pub mod SameWords
 pub mod UniquePlaces

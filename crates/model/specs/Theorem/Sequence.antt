@@ -30,20 +30,20 @@ abbrev pub heldFor : Tables → ℕ → Held
 heldFor d u = record { refusal = d .user u held; operation = d .user u heldOp }
 
 -- no refusal is held
-abbrev pub nothing : Held
-nothing = record { refusal = 0; operation = 0 }
+abbrev pub noneHeld : Held
+noneHeld = record { refusal = 0; operation = 0 }
 
 -- The notice of user u is empty: nothing is held, and nothing was missed.
 abbrev pub NoNotice : Tables → ℕ → Type 0
-NoNotice d u = (heldFor d u ≡ nothing) × (d .user u missed ≡ 0)
+NoNotice d u = (heldFor d u ≡ noneHeld) × (d .user u missed ≡ 0)
 
 -- Rule 8.2: the operation that a notice keeps of a request for number n: n itself, or 0 where it is not 1 to 20.
 abbrev pub operationKept : ℕ → ℕ
 operationKept n = pick (leb 1 n && leb n operationCount) n 0
 
--- Rule 8.2: a count that stops at 65,535.
-abbrev pub stopped : ℕ → ℕ
-stopped n = pick (leb n missedMost) n missedMost
+-- Rule 8.2: the number missed that n refusals make: n, or 65,535 where it is more.
+abbrev pub missedFor : ℕ → ℕ
+missedFor n = pick (leb n missedMost) n missedMost
 
 module _ (requests : ℕ → List ℕ) (answers : ℕ → ℕ) (u : ℕ) where
   -- Request i is of user u, and was refused with 5 to 16.
@@ -94,4 +94,4 @@ pub record Noticed (tables requests : ℕ → List ℕ) (answers : ℕ → ℕ) 
   pub quiet : tablesOf (tables since) .user u held ≡ 0 → ((i : ℕ) → since ≤ i → i < m → Refused requests answers u i → ⊥)
       → NoNotice (tablesOf (tables m)) u
   -- the number missed is that of all refusals since then, added to what was missed at the start
-  pub missed : tablesOf (tables m) .user u missed ≡ stopped (tablesOf (tables since) .user u missed + refusals requests answers u since later)
+  pub missed : tablesOf (tables m) .user u missed ≡ missedFor (tablesOf (tables since) .user u missed + refusals requests answers u since later)

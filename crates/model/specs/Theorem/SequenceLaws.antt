@@ -23,11 +23,15 @@ use Rattle.model.specs.State.WellFormed.{WellFormed}
 use Rattle.model.specs.Tables.Layout.{tablesOf}
 use Rattle.model.specs.Tables.Words.{firstNoticed, held, lastNoticed, missed, missedMost}
 use Rattle.model.specs.Theorem.Sequence.{Acknowledged, FirstRefused, Held, NoNotice, Noticed, Refused, Steps, heldFor, leftBy, operationKept}
-use Rattle.model.specs.Theorem.Sequence.{refusals, refusedTest, stopped}
-use Rattle.model.specs.Theorem.SequenceStep.{Counted, acknowledged-empties, held-same, refused-counted, stopped-past, stopped-within, words-same}
+use Rattle.model.specs.Theorem.Sequence.{refusals, refusedTest, missedFor}
+use Rattle.model.specs.Theorem.SequenceStep.{Counted, acknowledged-empties, held-same, refused-counted, missed-past, missed-within, words-same}
 use Rattle.model.specs.Theorem.Statements.{SameNotice}
 use Rattle.model.specs.Theorem.Steps.{answerOf-sized, unsized}
 use Rattle.model.specs.Request.Refusals as refusal
+
+-- The first i of m steps are steps too.
+pub steps-before : (tables requests : ℕ → List ℕ) (answers : ℕ → ℕ) (m i : ℕ) → i ≤ m → Steps m tables requests answers → Steps i tables requests answers
+steps-before tables requests answers m i l s = record { answered = λ j h. s .answered j (omega arith); left = λ j h. s .left j (omega arith) }
 
 -- No step is answered above 16.
 pub answerOf-range : (t q : List ℕ) → answerOf t q ≤ lastNoticed
@@ -37,16 +41,16 @@ answerOf-range t q = go (sized t q) refl
     go true z = omega (arith, answerOf-sized t q (is-true (sized t q) z), answer-range (tablesOf t) (requestOf q))
     go false z = omega (arith, unsized t q (is-false (sized t q) z) .0)
 
--- A count with nothing added is itself, and one that has stopped goes on as if it had not.
-stopped-alone : (x r : ℕ) → x ≤ missedMost → r ≡ 0 → x ≡ stopped (x + r)
-stopped-alone x r h e =
+-- A count with nothing added is itself, and one that has come to its greatest goes on as if it had none.
+missed-alone : (x r : ℕ) → x ≤ missedMost → r ≡ 0 → x ≡ missedFor (x + r)
+missed-alone x r h e =
     let z : x + r ≡ x = omega arith in
-    rw z (sym (stopped-within x h))
+    rw z (sym (missed-within x h))
 
-stopped-more : (n k : ℕ) → suc n ≡ k → stopped (suc (stopped n)) ≡ stopped k
-stopped-more n k e = cases (lt-or-le missedMost n)
-    (λ l. ap (λ (x : ℕ). stopped (suc x)) (stopped-past n (omega arith)) ∙ stopped-past (suc missedMost) (omega arith) ∙ sym (stopped-past k (omega arith)))
-    (λ l. ap (λ (x : ℕ). stopped (suc x)) (stopped-within n l) ∙ ap stopped e)
+missed-more : (n k : ℕ) → suc n ≡ k → missedFor (suc (missedFor n)) ≡ missedFor k
+missed-more n k e = cases (lt-or-le missedMost n)
+    (λ l. ap (λ (x : ℕ). missedFor (suc x)) (missed-past n (omega arith)) ∙ missed-past (suc missedMost) (omega arith) ∙ sym (missed-past k (omega arith)))
+    (λ l. ap (λ (x : ℕ). missedFor (suc x)) (missed-within n l) ∙ ap missedFor e)
 
 module _ (requests : ℕ → List ℕ) (answers : ℕ → ℕ) (u : ℕ) where
   -- The test of a refusal says its statement.
@@ -128,7 +132,7 @@ module _ (tables requests : ℕ → List ℕ) (answers : ℕ → ℕ) (u : ℕ) 
     stays = λ h. refl;
     first = λ z j h f. absurd (omega arith);
     quiet = λ z f. (held-same z (w .users u .notice .quiet z), w .users u .notice .none .0 z);
-    missed = stopped-alone (tablesOf (tables 0) .user u missed) 0 (w .users u .notice .missedIn) refl;
+    missed = missed-alone (tablesOf (tables 0) .user u missed) 0 (w .users u .notice .missedIn) refl;
   }
 
   module _ (m : ℕ) (n : Noticed tables requests answers u m) where
@@ -152,7 +156,7 @@ module _ (tables requests : ℕ → List ℕ) (answers : ℕ → ℕ) (u : ℕ) 
       stays = λ h. refl;
       first = λ z j h f. absurd (omega (arith, f .from));
       quiet = λ z f. e;
-      missed = stopped-alone (tablesOf (tables (suc m)) .user u missed) 0 (omega (arith, e .1)) refl;
+      missed = missed-alone (tablesOf (tables (suc m)) .user u missed) 0 (omega (arith, e .1)) refl;
     }
 
     counted-next : (Acknowledged requests answers u m → ⊥) → Refused requests answers u m
@@ -168,7 +172,7 @@ module _ (tables requests : ℕ → List ℕ) (answers : ℕ → ℕ) (u : ℕ) 
       stays = λ h. let e = n .stays h in c .kept (λ z. h (sym (ap (λ (x : Held). x .refusal) e) ∙ z)) ∙ e;
       first = λ z j h f. first-next z j f (eq-or-lt-of-le (le-of-suc-le-suc h));
       quiet = λ z f. absurd (f m (omega (arith, n .parts)) (omega arith) r);
-      missed = c .more ∙ ap (λ (x : ℕ). stopped (suc x)) (n .missed) ∙ stopped-more _ _ one-more;
+      missed = c .more ∙ ap (λ (x : ℕ). missedFor (suc x)) (n .missed) ∙ missed-more _ _ one-more;
     }
       where
         one-more : suc (tablesOf (tables (n .since)) .user u missed + refusals requests answers u (n .since) (n .later))
@@ -196,7 +200,7 @@ module _ (tables requests : ℕ → List ℕ) (answers : ℕ → ℕ) (u : ℕ) 
       stays = λ h. same-held ∙ n .stays h;
       first = λ z j h f. first-next z j f (eq-or-lt-of-le (le-of-suc-le-suc h));
       quiet = λ z f. let q = n .quiet z (λ i a b. f i a (omega arith)) in (same-held ∙ q .0, s .2 ∙ q .1);
-      missed = s .2 ∙ n .missed ∙ ap (λ (x : ℕ). stopped (tablesOf (tables (n .since)) .user u missed + x))
+      missed = s .2 ∙ n .missed ∙ ap (λ (x : ℕ). missedFor (tablesOf (tables (n .since)) .user u missed + x))
           (sym (refusals-same requests answers u (n .since) (n .later) m (n .parts) r));
     }
       where
@@ -216,11 +220,11 @@ module _ (tables requests : ℕ → List ℕ) (answers : ℕ → ℕ) (u : ℕ) 
   noticed-after : WellFormed (tablesOf (tables 0)) → (m : ℕ) → Steps m tables requests answers → Noticed tables requests answers u m
   noticed-after w zero s = noticed-start w
   noticed-after w (suc m) s = noticed-next m
-      (noticed-after w m record { answered = λ i h. s .answered i (omega arith); left = λ i h. s .left i (omega arith) })
+      (noticed-after w m (steps-before tables requests answers (suc m) m (omega arith) s))
       (turn m (s .answered m (omega arith)) (s .left m (omega arith)))
 
 -- Rules 8.2 and 8.3: what each user's notice says after m steps from words that pass the state check, and so after each of them.
-pub sequence-noticed : (m : ℕ) (tables requests : ℕ → List ℕ) (answers : ℕ → ℕ) → Steps m tables requests answers
+pub sequence-noticed : (tables requests : ℕ → List ℕ) (answers : ℕ → ℕ) (m : ℕ) → Steps m tables requests answers
     → check (tables 0) ≡ refusal.accepted → (u : ℕ) → Noticed tables requests answers u m
-sequence-noticed m tables requests answers s e u =
+sequence-noticed tables requests answers m s e u =
     noticed-after tables requests answers u (check-agrees (tables 0) .to (agrees-eq (check (tables 0)) refusal.accepted .from e) .1 .0) m s

@@ -12,7 +12,7 @@ use Rattle.model.specs.Basics.Agree.{Agrees, agrees-and, agrees-le, ever
 use Rattle.model.specs.Basics.Choice.{Below, Same, below, it, other, over, pick, same, under}
 use Rattle.model.specs.Basics.TestLaws.{is-false, is-true, pick-true}
 use Rattle.model.specs.Basics.Tests.{every}
-use Rattle.model.specs.Effect.Notice.{keepFirst, missedMore, notice}
+use Rattle.model.specs.Effect.Notice.{missedMore, notice}
 use Rattle.model.specs.Request.After.{after, noticedOp}
 use Rattle.model.specs.Request.AfterLaws.{after-accepted, after-each, after-noticed, effect-by}
 use Rattle.model.specs.Request.Asked.{asked}
@@ -27,7 +27,7 @@ use Rattle.model.specs.Tables.LayoutLaws.{bounded}
 use Rattle.model.specs.Tables.Words.{Tables, firstNoticed, held, heldOp, missed, missedMost, operationCount}
 use Rattle.model.specs.Theorem.Acceptance.{accepted-good}
 use Rattle.model.specs.Theorem.Notices.{accepted-notices}
-use Rattle.model.specs.Theorem.Sequence.{Held, NoNotice, heldFor, operationKept, stopped}
+use Rattle.model.specs.Theorem.Sequence.{Held, NoNotice, heldFor, operationKept, missedFor}
 use Rattle.model.specs.Theorem.Statements.{SameNotice}
 use Rattle.model.specs.Theorem.Steps.{afterOf-tables, answerOf-sized, unsized}
 use Rattle.model.specs.Request.Refusals as refusal
@@ -70,11 +70,11 @@ here : (x v a : ℕ) → pick (eqb x x) v a ≡ v
 here x v a = case (λ (y : ℕ). y ≡ v) x x v a (λ e. refl) (λ n. absurd (n refl))
 
 -- A count within its greatest is itself, and one past it is its greatest.
-pub stopped-within : (n : ℕ) → n ≤ missedMost → stopped n ≡ n
-stopped-within n h = pick-true (leb n missedMost) n missedMost (agrees-le n missedMost .from h)
+pub missed-within : (n : ℕ) → n ≤ missedMost → missedFor n ≡ n
+missed-within n h = pick-true (leb n missedMost) n missedMost (agrees-le n missedMost .from h)
 
-pub stopped-past : (n : ℕ) → missedMost ≤ n → stopped n ≡ missedMost
-stopped-past n h = go (leb n missedMost) (agrees-le n missedMost)
+pub missed-past : (n : ℕ) → missedMost ≤ n → missedFor n ≡ missedMost
+missed-past n h = go (leb n missedMost) (agrees-le n missedMost)
   where
     go : (b : Bool) → Agrees b (n ≤ missedMost) → pick b n missedMost ≡ missedMost
     go true a = let l = a .to tt in omega arith
@@ -84,32 +84,27 @@ stopped-past n h = go (leb n missedMost) (agrees-le n missedMost)
 pub record Counted (d d′ : Tables) (u a o : ℕ) : Type 0 where
   pub kept : d .user u held ≢ 0 → heldFor d′ u ≡ heldFor d u
   pub taken : d .user u held ≡ 0 → heldFor d′ u ≡ record { refusal = a; operation = o }
-  pub more : d′ .user u missed ≡ stopped (suc (d .user u missed))
+  pub more : d′ .user u missed ≡ missedFor (suc (d .user u missed))
 
 notice-counted : (d : Tables) (u a o : ℕ) → Counted d (notice u a o d) u a o
 notice-counted d u a o = record {
-  kept = λ h. keeps (eqb (d .user u held) 0) (same (d .user u held) 0) h;
-  taken = λ h. takes (eqb (d .user u held) 0) (same (d .user u held) 0) h;
+  kept = keeps (eqb (d .user u held) 0) refl (same (d .user u held) 0);
+  taken = takes (eqb (d .user u held) 0) refl (same (d .user u held) 0);
   more = here u _ (d .user u missed) ∙ one-more (ltb (d .user u missed) missedMost) (below (d .user u missed) missedMost);
 }
   where
-    keeps : (b : Bool) → Same (d .user u held) 0 b → d .user u held ≢ 0 → _≡_ {A = Held} record {
-      refusal = pick (eqb u u) (keepFirst b a (d .user u held)) (d .user u held);
-      operation = pick (eqb u u) (keepFirst b o (d .user u heldOp)) (d .user u heldOp);
-    } (heldFor d u)
-    keeps true (it e) n = absurd (n e)
-    keeps false (other e) n = held-same (here u _ _) (here u _ _)
+    keeps : (b : Bool) → eqb (d .user u held) 0 ≡ b → Same (d .user u held) 0 b → d .user u held ≢ 0 → heldFor (notice u a o d) u ≡ heldFor d u
+    keeps true e (it z) n = absurd (n z)
+    keeps false e (other z) n = rw e (held-same (here u _ (d .user u held)) (here u _ (d .user u heldOp)))
 
-    takes : (b : Bool) → Same (d .user u held) 0 b → d .user u held ≡ 0 → _≡_ {A = Held} record {
-      refusal = pick (eqb u u) (keepFirst b a (d .user u held)) (d .user u held);
-      operation = pick (eqb u u) (keepFirst b o (d .user u heldOp)) (d .user u heldOp);
-    } record { refusal = a; operation = o }
-    takes true (it e) h = held-same (here u _ _) (here u _ _)
-    takes false (other e) h = absurd (e h)
+    takes : (b : Bool) → eqb (d .user u held) 0 ≡ b → Same (d .user u held) 0 b → d .user u held ≡ 0
+        → heldFor (notice u a o d) u ≡ record { refusal = a; operation = o }
+    takes true e (it z) h = rw e (held-same (here u _ (d .user u held)) (here u _ (d .user u heldOp)))
+    takes false e (other z) h = absurd (z h)
 
-    one-more : (b : Bool) → Below (d .user u missed) missedMost b → missedMore b (d .user u missed) ≡ stopped (suc (d .user u missed))
-    one-more true (under l) = sym (stopped-within (suc (d .user u missed)) l)
-    one-more false (over l) = sym (stopped-past (suc (d .user u missed)) (omega arith))
+    one-more : (b : Bool) → Below (d .user u missed) missedMost b → missedMore b (d .user u missed) ≡ missedFor (suc (d .user u missed))
+    one-more true (under l) = sym (missed-within (suc (d .user u missed)) l)
+    one-more false (over l) = sym (missed-past (suc (d .user u missed)) (omega arith))
 
 -- Rule 8.2 of words: a refusal 5 to 16 adds to the requester's notice.
 pub refused-counted : (t q : List ℕ) → firstNoticed ≤ answerOf t q
