@@ -25,11 +25,11 @@ pub fn create(t: &mut [u32], q: &[u32], u: User, c: Entity) -> u32
         return refusal::LEVEL_OR_ROLES;
     }
     let n = places::vacant(t);
-    if (size::ENTITIES < n) | (size::PLACES <= tables::used(t, c)) {
+    if (size::ENTITIES < n.0) | (size::PLACES <= tables::used(t, c)) {
         return refusal::NO_ROOM;
     }
-    filling::bear(t, Entity(n), c, request::a(q), l);
-    filling::put_last(t, c, Entity(n));
+    filling::bear(t, n, c, request::a(q), l);
+    filling::put_last(t, c, n);
     refusal::ACCEPTED
 }
 

@@ -67,19 +67,19 @@ pub fn on_screen(t: &[u32], e: Entity) -> bool
     false
 }
 
-// The lowest number of an absent entity, or the first that is no entity's.
-pub fn vacant(t: &[u32]) -> u32
+// The lowest absent entity, or the first number past all entities.
+pub fn vacant(t: &[u32]) -> Entity
     requires { ⌜ length (now t) ≡ wordCount ⌝ }
-    ensures { λ r. ⌜ r ≡ vacant (tablesOf (now (t .entry))) ⌝ }
+    ensures { λ r. ⌜ r .0 ≡ vacant (tablesOf (now (t .entry))) ⌝ }
 {
     let mut i: u32 = 0;
     while i < size::ENTITIES {
         if tables::kind(t, Entity(i + 1)) == kind::ABSENT {
-            return i + 1;
+            return Entity(i + 1);
         }
         i += 1;
     }
-    size::PAST_ENTITIES
+    Entity(size::PAST_ENTITIES)
 }
 
 // Whether c is e or lies in it, by going up from c.

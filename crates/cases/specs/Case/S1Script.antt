@@ -1,4 +1,4 @@
--- Rule 13: the script of S1 and its whole output, byte for byte: user 2 shows 4.1 and then 5, each with a = 3.
+-- Document 01, "Case state S1"; rule 13: the script of S1 and its whole output, byte for byte: user 2 shows 4.1 and then 5, each with a = 3.
 use mathlib.Core.Bool.{Bool, _&&_, true}
 use mathlib.Core.List.{List, [], _∷_}
 use mathlib.Core.Path.{_∙_, _≡_, ap, ap₂, refl, subst, sym}

@@ -1,4 +1,4 @@
--- Case state S1 as the 2,304 words that a program reads, and that they give the same tables.
+-- Document 01, "Case state S1"; rules 13 and 2.1: case state S1 as the 2,304 words that a program reads, and that they give the same tables.
 use mathlib.Core.List.{List, [], _++_, _∷_}
 use mathlib.Core.Path.{_∙_, _≡_, ap, refl, subst, sym}
 use Prim.Native.Nat.{_*_, _-_, ℕ}

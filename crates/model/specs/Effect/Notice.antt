@@ -1,4 +1,4 @@
--- Rule 8.2: the notice that a refusal leaves.
+-- Document 01, "The refusal ladder"; rule 8.2: the notice that a refusal leaves.
 use mathlib.Core.Bool.{Bool, false, true}
 use Prim.Native.Nat.{suc, ℕ}
 use lib.Dec.{eqb, ltb}

@@ -1,4 +1,4 @@
--- The effects on what stands in containers (rules 6.1 to 6.3).
+-- Document 01, "The request and its operations"; rules 6.1 to 6.3: the effects on what stands in containers.
 use Prim.Native.Nat.{suc, ℕ}
 use lib.Dec.{eqb}
 use Rattle.model.specs.Basics.Choice.{pick}

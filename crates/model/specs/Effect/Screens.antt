@@ -1,4 +1,4 @@
--- The effects on devices and on who is on them (rules 6.10 to 6.13).
+-- Document 01, "The request and its operations"; rules 6.10 to 6.13: the effects on devices and on who is on them.
 use Prim.Native.Nat.{suc, ℕ}
 use lib.Dec.{ltb}
 use Rattle.model.specs.Basics.Choice.{pick}

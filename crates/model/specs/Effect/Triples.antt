@@ -1,4 +1,4 @@
--- The effects on access triples (rules 6.8 and 6.9).
+-- Document 01, "The request and its operations"; rules 6.8 and 6.9: the effects on access triples.
 use Prim.Native.Nat.{ℕ}
 use lib.Dec.{ltb}
 use Rattle.model.specs.Basics.Choice.{pick}

@@ -1,4 +1,4 @@
--- The effects that set words of one record and touch no place (rules 6.4 to 6.7 and 6.14 to 6.20).
+-- Document 01, "The request and its operations"; rules 6.4 to 6.7 and 6.14 to 6.20: the effects that set words of one record and touch no place.
 use Prim.Native.Nat.{ℕ}
 use Rattle.model.specs.Tables.Edits.{Edit, _and_, onEntity, onUser, userWord, word}
 use Rattle.model.specs.Tables.Words.{Tables, UserWord, authorised, clearance, current, held, heldOp, level, mark, maximum, missed}

@@ -1,4 +1,4 @@
--- Rule 10.2: what holds where the list is not refused with 1 to 6.
+-- Document 01, "The refusal ladder"; rule 10.2: what holds where the list is not refused with 1 to 6.
 use mathlib.Core.List.{List}
 use mathlib.Core.Logic.{_≢_}
 use mathlib.Core.Path.{_≡_}

@@ -1,4 +1,5 @@
--- Rules 10.3 to 10.5: what makes a list of references the list for a test of references. It names no walk and no tables.
+-- Document 01, "The refusal ladder" and "What a reader can rely on"; rules 10.3 to 10.5: what makes a list of references the list for a test of
+-- references. It names no walk and no tables.
 use mathlib.Core.Bool.{Bool, true}
 use mathlib.Core.List.{List, List·Memᴰ}
 use mathlib.Core.Path.{_≡_}

@@ -1,5 +1,6 @@
 -- This file serves the proofs only: the statement of the list does not use it.
--- Rule 10.3: what is left of the step's ladder for the list, the rungs from 7 on of a request to show what a reference names.
+-- Document 01, "The refusal ladder"; rule 10.3: what is left of the step's ladder for the list, the rungs from 7 on of a request to show what a
+-- reference names.
 use mathlib.Core.Bool.{Bool, _&&_, _||_, not}
 use mathlib.Core.List.{List}
 use Prim.Native.Nat.{ℕ}

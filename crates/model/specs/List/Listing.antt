@@ -1,4 +1,4 @@
--- Rules 10.1 to 10.4 and 10.7: the disclosure list of any words, any user's number and any room.
+-- Document 01, "The refusal ladder"; rules 10.1 to 10.4 and 10.7: the disclosure list of any words, any user's number and any room.
 use mathlib.Core.Bool.{Bool, _||_}
 use mathlib.Core.List.{List, [], _++_, _∷_}
 use mathlib.Core.Logic.{_⊎_}

@@ -1,4 +1,4 @@
--- Rule 10.5: the order of references, each a list of names.
+-- Document 01, "The refusal ladder"; rule 10.5: the order of references, each a list of names.
 use mathlib.Core.List.{List, List·Memᴰ, [], _∷_}
 use mathlib.Core.Logic.{_⊎_}
 use mathlib.Core.Path.{_≡_}

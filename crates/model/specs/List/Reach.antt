@@ -1,4 +1,5 @@
--- Rule 10.6: how many continuations there can be by at most k further names, and how many entries a list can have.
+-- Document 01, "The refusal ladder"; rule 10.6: how many continuations there can be by at most k further names, and how many entries a list
+-- can have.
 use Prim.Native.Nat.{_*_, _+_, pred, suc, zero, ℕ}
 use Rattle.model.specs.Request.Words.{nameCount}
 use Rattle.model.specs.Tables.Words.{entityCount, placeCount}

@@ -1,4 +1,5 @@
--- Rule 10.3 in the words of the rules: what holds where a user could read what a reference names. No ladder and no walk is in it.
+-- Document 01, "The refusal ladder"; rule 10.3 in the words of the rules: what holds where a user could read what a reference names. No ladder
+-- and no walk is in it.
 use mathlib.Core.List.{List}
 use Prim.Native.Nat.{ℕ}
 use Rattle.model.specs.Level.{AtMost}

@@ -1,4 +1,5 @@
--- Rule 10.6: the walk, over any number of ways that lead on from an entity, any entity at the end of each, and any test of an entity.
+-- Document 01, "The refusal ladder"; rule 10.6: the walk, over any number of ways that lead on from an entity, any entity at the end of each, and
+-- any test of an entity.
 use mathlib.Core.Bool.{Bool, _&&_, false}
 use mathlib.Core.List.{List, [], _++_, _∷_, map}
 use Prim.Native.Nat.{suc, zero, ℕ}

@@ -1,4 +1,5 @@
--- Rule 10.6 in the tables: what the walk of a user asks of an entity, the same for every reference that comes by it.
+-- Document 01, "The refusal ladder"; rule 10.6 in the tables: what the walk of a user asks of an entity, the same for every reference that comes
+-- by it.
 use mathlib.Core.Bool.{Bool, _&&_}
 use mathlib.Core.List.{List, [], _∷_}
 use Prim.Native.Nat.{pred, ℕ}

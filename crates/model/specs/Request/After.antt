@@ -1,4 +1,4 @@
--- Rule 8: what a request leaves, by its answer.
+-- Document 01, "The refusal ladder"; rule 8: what a request leaves, by its answer.
 use mathlib.Core.Bool.{false, true}
 use mathlib.Core.Option.{none, some}
 use Prim.Native.Nat.{ℕ}

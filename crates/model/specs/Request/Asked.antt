@@ -1,4 +1,4 @@
--- Rule 5.3: what a request asks, once its references have been read in given tables.
+-- Document 01, "The request and its operations"; rules 5.3 and 5.6: what a request asks, once its references have been read in given tables.
 use mathlib.Core.Bool.{Bool}
 use mathlib.Core.List.{List}
 use Prim.Native.Nat.{ℕ}

@@ -1,4 +1,5 @@
--- Rule 5.4 as a statement: the form that each operation asks of a request, written out operation by operation.
+-- Document 01, "The request and its operations"; rule 5.4 as a statement: the form that each operation asks of a request, written out operation
+-- by operation.
 use mathlib.Core.Path.{_≡_}
 use Prim.Native.Nat.{_<_, _≤_, ℕ}
 use Rattle.model.specs.Effect.Places.{draftSort, objectSort}

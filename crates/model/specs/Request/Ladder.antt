@@ -1,4 +1,4 @@
--- Rule 7: the ladder of refusals, and the answer.
+-- Document 01, "The refusal ladder"; rule 7: the ladder of refusals, and the answer.
 use mathlib.Core.Bool.{Bool, _&&_, _||_, false, not, true}
 use mathlib.Core.List.{List, [], _∷_}
 use mathlib.Core.Logic.{_≢_}

@@ -1,4 +1,5 @@
--- Rules 5.2 and 5.3: where a list of names leads, one name after another; 0 where one of them leads nowhere.
+-- Document 01, "The request and its operations"; rules 5.2 and 5.3: where a list of names leads, one name after another; 0 where one of them
+-- leads nowhere.
 use mathlib.Core.Bool.{Bool, _&&_, false, not, true}
 use mathlib.Core.List.{List, [], _∷_}
 use mathlib.Core.Logic.{_≢_}

@@ -1,5 +1,5 @@
--- Rule 7: the answers by name. One list for the model, the code, the header and the crate: `noRoom` is NO_ROOM and NoRoom there. A file that
--- cites them says `use .. as refusal`, so that a refusal's number is never taken for the test of the same name.
+-- Document 01, "The refusal ladder"; rule 7: the answers by name. One list for the model, the code, the header and the crate: `noRoom` is NO_ROOM
+-- and NoRoom there. A file that cites them says `use .. as refusal`, so that a refusal's number is never taken for the test of the same name.
 use Prim.Native.Nat.{ℕ}
 
 -- done

@@ -1,4 +1,5 @@
--- The step on words: rule 7.1, then the ladder. Any two lists of words have an answer, and words that stand afterwards.
+-- Document 01, "The refusal ladder"; rule 7.1, then the ladder: the step on words. Any two lists of words have an answer, and words that stand
+-- afterwards.
 use mathlib.Core.Bool.{Bool, _&&_, not}
 use mathlib.Core.List.{List}
 use mathlib.Core.Path.{_≡_}

@@ -1,4 +1,4 @@
--- Rule 5.1: a request is sixteen words. Rule 5.2: a reference has a length and four name words.
+-- Document 01, "The request and its operations"; rule 5.1: a request is sixteen words. Rule 5.2: a reference has a length and four name words.
 use mathlib.Core.List.{List, [], _∷_}
 use Prim.Native.Nat.{_+_, suc, ℕ}
 use lib.ListN.{getD, take}

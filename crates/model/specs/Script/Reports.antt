@@ -1,4 +1,4 @@
--- Rule 12.3: what the program writes of a request.
+-- Document 01, "Request text"; rule 12.3: what the program writes of a request.
 use mathlib.Core.Bool.{Bool, _&&_}
 use mathlib.Core.List.{List, [], _++_, _∷_}
 use Prim.Native.Nat.{ℕ}

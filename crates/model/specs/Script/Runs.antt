@@ -1,4 +1,5 @@
--- Rules 12.2 to 12.4: a script is request after request, and each is answered by the tables that the requests before it have left.
+-- Document 01, "Request text"; rules 12.2 to 12.4: a script is request after request, and each is answered by the tables that the requests before
+-- it have left.
 use mathlib.Core.List.{List, [], _++_, _∷_}
 use mathlib.Core.Path.{_≡_}
 use Prim.Native.Nat.{_<_, ℕ}

@@ -1,4 +1,4 @@
--- Rules 12.1 and 12.5: the tables as the bytes of a file.
+-- Document 01, "Request text"; rules 12.1 and 12.5: the tables as the bytes of a file.
 use mathlib.Core.List.{List, [], _∷_}
 use Prim.Native.Nat.{_%_, _*_, _+_, _/_, ℕ}
 use lib.Dec.{eqb}

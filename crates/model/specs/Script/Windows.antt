@@ -1,5 +1,5 @@
--- Rules 12.2 to 12.4 for a script that arrives piece by piece: a window holds what has arrived and is not answered yet, and what the program
--- writes of all windows together is what is written of the whole script (`Script/WindowLaws`).
+-- Document 01, "Request text"; rules 12.2 to 12.4 for a script that arrives piece by piece: a window holds what has arrived and is not answered
+-- yet, and what the program writes of all windows together is what is written of the whole script (`Script/WindowLaws`).
 use mathlib.Core.Bool.{Bool, _&&_, _||_, false, not, true}
 use mathlib.Core.List.{List, [], _++_, _∷_}
 use mathlib.Core.Logic.{_≢_, _⊎_}

@@ -1,5 +1,5 @@
--- The tests of what records say of one another (rules 3.6, 3.13 to 3.16, 3.18), of well-formed and secure tables (rules 3 and 4),
--- and the answer of the state check (rule 8.5).
+-- Document 01, "The tables" and "The refusal ladder"; rules 3.6, 3.13 to 3.16 and 3.18, the tests of what records say of one another; rule 3 as one test;
+-- rules 4.1 to 4.5, the tests of secure tables, and rule 4 as one; rule 8.5, the answer of the state check.
 use mathlib.Core.Bool.{Bool, _&&_, not}
 use mathlib.Core.List.{List}
 use Prim.Native.Nat.{suc, ℕ}
@@ -59,6 +59,7 @@ unfoldable pub idleTest : (k n : ℕ → ℕ) (at : ℕ → ℕ → ℕ) (dev : 
 idleTest k n at dev = every entityCount (λ e. imp (terminal (k (suc e)))
     (imp (every userCount (λ u. not (eqb (dev (suc u)) (suc e)))) (eqb (n (suc e)) 0)))
 
+-- Rules 3.6, 3.13 to 3.16 and 3.18 together.
 unfoldable pub linksTest : (k n : ℕ → ℕ) (at : ℕ → ℕ → ℕ) (dev : ℕ → ℕ) → Bool
 linksTest k n at dev = contentsTest k n at dev && (oneTest k n at dev && (loopTest k n at dev
     && (deviceTest k n at dev && (aloneTest k n at dev && idleTest k n at dev))))

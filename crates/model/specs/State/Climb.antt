@@ -1,4 +1,5 @@
--- Rules 3.14 and 6.3: bounded tests for "inside at any depth", steps up from one container to the next.
+-- Document 01, "The tables" and "The request and its operations"; rules 3.14 and 6.3: bounded tests for "inside at any depth", steps up
+-- from one container to the next.
 use mathlib.Core.Bool.{Bool, false, true}
 use Prim.Native.Nat.{suc, zero, ℕ}
 use lib.Dec.{eqb}

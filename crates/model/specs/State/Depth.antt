@@ -1,4 +1,4 @@
--- Rule 3.14: "inside at any depth", over any relation H b a, which says that a stands directly in b.
+-- Document 01, "The tables"; rule 3.14: "inside at any depth", over any relation H b a, which says that a stands directly in b.
 use mathlib.Core.Logic.{_⊎_}
 use mathlib.Core.Path.{_≡_}
 use Prim.Native.Nat.{ℕ}

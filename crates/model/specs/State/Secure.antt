@@ -1,4 +1,4 @@
--- Rule 4, secure (Definition 2): a named part for each sentence.
+-- Document 01, "The tables"; rule 4, secure (Definition 2): a named part for each sentence.
 use mathlib.Core.Bool.{Bool}
 use mathlib.Core.Logic.{_≢_}
 use mathlib.Core.Path.{_≡_}

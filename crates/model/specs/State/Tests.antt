@@ -1,4 +1,5 @@
--- The tests of a record by itself (rules 3.1 to 3.12 and 3.17 to 3.22), each over the words that it speaks of.
+-- Document 01, "The tables"; rules 3.1 to 3.5, 3.7 to 3.12, 3.17 and 3.19 to 3.22: the tests of a record by itself, each over the words that it
+-- speaks of. That a user's device is 0 to 64 (rule 3.2) is not among them: rule 3.15, in State/Check, asks more of it.
 use mathlib.Core.Bool.{Bool, _&&_, _||_, not}
 use Prim.Native.Nat.{ℕ}
 use lib.Dec.{eqb, leb, ltb}
@@ -36,7 +37,7 @@ unfoldable pub tripleTest : ℕ → Bool
 tripleTest t = (leb 1 (whoOf t) && leb (whoOf t) whoMost)
     && ((leb 1 (operationIn t) && leb (operationIn t) operationCount) && (leb 1 (positionOf t) && leb (positionOf t) positionCount))
 
--- Rule 3.5: the triples before the first zero.
+-- Rules 3.5 and 3.22: the triples before the first zero.
 unfoldable pub accessTest : (ℕ → ℕ) → Bool
 accessTest r = packedTest r (seek 0 r placeCount) && every placeCount (λ i. imp (ltb i (seek 0 r placeCount)) (tripleTest (r i)))
 
@@ -48,7 +49,7 @@ noneTest w = eqb (w kind) 0 && (eqb (w type) 0 && (eqb (w level) 0 && (eqb (w ma
     && (every placeCount (λ i. eqb (w (shown i)) 0)
     && every placeCount (λ i. eqb (w (triple i)) 0))))))))))
 
--- An entity's record by itself.
+-- The rules above together: an entity's record by itself.
 unfoldable pub entityTest : (EntityWord → ℕ) → Bool
 entityTest w = imp (eqb (w kind) absentKind) (noneTest w) && (shapeTest (w kind) (w type) (w level) (w mark) (w value) (w releaser) (w maximum)
     && (filledTest (w kind) (w used) (λ i. w (place i)) (λ i. w (shown i)) && accessTest (λ i. w (triple i))))
@@ -63,7 +64,7 @@ unfoldable pub nobodyTest : (UserWord → ℕ) → Bool
 nobodyTest w = eqb (w present) 0 && (eqb (w clearance) 0 && (eqb (w authorised) 0 && (eqb (w current) 0
     && (eqb (w device) 0 && (eqb (w held) 0 && (eqb (w heldOp) 0 && eqb (w missed) 0))))))
 
--- A user's record by itself.
+-- Rules 3.2 and 3.17, with 3.1 and those of the notice: a user's record by itself.
 unfoldable pub userTest : (UserWord → ℕ) → Bool
 userTest w = imp (eqb (w present) 0) (nobodyTest w)
     && (leb (w present) 1 && (ltb (w clearance) levelCount && (ltb (w authorised) roleSets && (ltb (w current) roleSets

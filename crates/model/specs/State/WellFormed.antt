@@ -1,5 +1,5 @@
--- Rule 3, well-formed: a named part for each sentence. The parts are grouped by the words that they speak of, so that an edit
--- of other words leaves a group as it is, by computation. All quantify over every number: what is absent is zero.
+-- Document 01, "The tables"; rule 3, well-formed: a named part for each sentence. The parts are grouped by the words that they speak of, so that an
+-- edit of other words leaves a group as it is, by computation. All quantify over every number: what is absent is zero.
 use mathlib.Core.Logic.{_↔_, _≢_, _⊎_}
 use mathlib.Core.Path.{_≡_}
 use Prim.Native.Nat.{_<_, _≤_, ℕ}

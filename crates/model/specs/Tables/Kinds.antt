@@ -1,5 +1,5 @@
--- What a kind is good for. Of the kinds of rule 2.3 the device alone shows things, and it alone is logged on to. These are two things all the same,
--- and each rule cites the one that it speaks of.
+-- Document 01, "The tables"; rule 2.3: what a kind is good for. Of its kinds the device alone shows things, and it alone is logged on to. These are
+-- two things all the same, and each rule cites the one that it speaks of.
 use mathlib.Core.Bool.{Bool}
 use mathlib.Core.Path.{_≡_}
 use Prim.Native.Nat.{ℕ}

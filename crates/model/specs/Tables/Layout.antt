@@ -1,4 +1,4 @@
--- Rule 2.1: where each named word stands in the 2,304 words, and the tables that a list of words gives.
+-- Document 01, "The tables"; rules 2.1 to 2.3: where each named word stands in the 2,304 words, and the tables that a list of words gives.
 use mathlib.Core.Bool.{Bool, _&&_}
 use mathlib.Core.List.{List}
 use mathlib.Core.Logic.{_⊎_}

@@ -1,4 +1,5 @@
--- A row of places (rules 3.4 and 3.5): the used ones come first and are distinct, the rest is zero; and what can be done to a row.
+-- Document 01, "The tables"; rules 3.4 and 3.5: a row of places, of which the used ones come first and are distinct, and the rest is zero; and what
+-- can be done to a row.
 use mathlib.Core.Logic.{_≢_, _⊎_}
 use mathlib.Core.Path.{_≡_}
 use Prim.Native.Nat.{_<_, _≤_, pred, suc, zero, ℕ}

@@ -1,4 +1,4 @@
--- The word that stands at each place of a record: `userOffset` and `offset` read the other way.
+-- Document 01, "The tables"; rules 2.2 and 2.3: the word that stands at each place of a record, `userOffset` and `offset` read the other way.
 use mathlib.Core.List.{[], _∷_}
 use Prim.Native.Nat.{_%_, _+_, _-_, _/_, min, ℕ}
 use lib.ListN.{getD}

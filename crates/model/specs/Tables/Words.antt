@@ -1,4 +1,4 @@
--- The words of the tables by name (rules 2.1 to 2.5), and the numbers that they are counted and told apart by.
+-- Document 01, "The tables"; rules 2.1 to 2.5: the words of the tables by name, and the numbers that they are counted and told apart by.
 use Prim.Native.Nat.{_%_, _*_, _+_, _/_, suc, ℕ}
 use Rattle.model.specs.Level.{roleCount}
 use Rattle.model.specs.Request.Refusals as refusal

@@ -1,4 +1,4 @@
--- The 2,304 words of any tables: `tablesOf` read the other way.
+-- Document 01, "The tables"; rule 2.1: the 2,304 words of any tables, `tablesOf` read the other way.
 use mathlib.Core.List.{List, [], _∷_}
 use Prim.Native.Nat.{_%_, _-_, _/_, suc, zero, ℕ}
 use lib.Dec.{ltb}

@@ -1,4 +1,4 @@
--- Rule 11.4: the first line that is bad or missing, said of the bytes alone.
+-- Document 01, "Request text"; rule 11.4: the first line that is bad or missing, said of the bytes alone.
 use mathlib.Core.List.{List, [], _++_, _∷_}
 use mathlib.Core.Path.{_≡_}
 use Prim.Native.Nat.{_≤_, suc, ℕ}

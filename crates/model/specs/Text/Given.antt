@@ -1,4 +1,4 @@
--- Rules 11.3 to 11.5: which words a text gives, and which words have a text, said without the writer.
+-- Document 01, "Request text"; rules 11.3 to 11.5: which words a text gives, and which words have a text, said without the writer.
 use mathlib.Core.List.{List, []}
 use mathlib.Core.Path.{_≡_}
 use Prim.Native.Nat.{_≤_, ℕ}

@@ -1,4 +1,4 @@
--- Rule 11.1: a line is its key, an equals sign, its value and LF. The keys here have their equals sign with them.
+-- Document 01, "Request text"; rule 11.1: a line is its key, an equals sign, its value and LF. The keys here have their equals sign with them.
 use mathlib.Core.List.{List, [], _++_, _∷_}
 use Prim.Native.Nat.{ℕ}
 use lib.Dec.{eqb}

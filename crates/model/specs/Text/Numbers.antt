@@ -1,4 +1,4 @@
--- Rule 11.2: a number as text, decimal and without leading zeros: how it is written, and how it is read.
+-- Document 01, "Request text"; rule 11.2: a number as text, decimal and without leading zeros: how it is written, and how it is read.
 use mathlib.Core.Bool.{Bool, false}
 use mathlib.Core.List.{List, [], _∷_}
 use Prim.Native.Nat.{_%_, _*_, _+_, _-_, _/_, suc, zero, ℕ}

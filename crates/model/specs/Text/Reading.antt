@@ -1,4 +1,4 @@
--- Rule 11.4: the reader, of any bytes and any words in its room.
+-- Document 01, "Request text"; rule 11.4: the reader, of any bytes and any words in its room.
 use mathlib.Core.List.{List}
 use mathlib.Core.Path.{_≡_}
 use Prim.Native.Nat.{ℕ}

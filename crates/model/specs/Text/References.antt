@@ -1,4 +1,4 @@
--- Rule 11.2: a reference as text, none to four names with a dot between two.
+-- Document 01, "Request text"; rule 11.2: a reference as text, none to four names with a dot between two.
 use mathlib.Core.List.{List, [], _++_, _∷_}
 use Prim.Native.Nat.{pred, suc, zero, ℕ}
 use lib.Dec.{eqb}

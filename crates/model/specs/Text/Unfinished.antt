@@ -1,4 +1,4 @@
--- Rules 12.2 and 12.4: how long the program waits for the rest of a request.
+-- Document 01, "Request text"; rules 12.2 and 12.4: how long the program waits for the rest of a request.
 use mathlib.Core.Bool.{Bool, _&&_}
 use mathlib.Core.List.{List, [], _∷_}
 use Prim.Native.Nat.{_+_, ℕ}

@@ -1,4 +1,4 @@
--- Rules 11.1 and 11.2: the text of a request, its seven lines.
+-- Document 01, "Request text"; rules 11.1 and 11.2: the text of a request, its seven lines.
 use mathlib.Core.List.{List, [], _++_, _∷_}
 use Prim.Native.Nat.{suc, ℕ}
 use Rattle.model.specs.List.Listing.{entry}

@@ -1,4 +1,4 @@
--- Rule 11.3: the writer, of any words and any room.
+-- Document 01, "Request text"; rule 11.3: the writer, of any words and any room.
 use mathlib.Core.Bool.{Bool, _&&_}
 use mathlib.Core.List.{List, _++_}
 use mathlib.Core.Path.{_≡_}

@@ -1,5 +1,5 @@
--- What this desk keeps beyond Definition 11 (rule 9.11), of created and deleted numbers too, and what no request
--- changes (rules 6.2, 6.19 and 8.7).
+-- Document 01, its opening and "The request and its operations"; rules 6.2, 6.19 and 8.7: what this desk keeps beyond Definition 11, of created and
+-- deleted numbers too, and what no request changes.
 use mathlib.Core.Logic.{_↔_, _≢_, _⊎_}
 use mathlib.Core.Path.{_≡_}
 use Prim.Native.Nat.{ℕ}

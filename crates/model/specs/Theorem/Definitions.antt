@@ -1,5 +1,5 @@
--- Definitions 3 to 14 of the model as document 01 reads them (rules 9.3 to 9.14), as predicates of the tables before, a request and
--- the tables after. They say nothing of this desk's answer: anybody's desk can be judged by them.
+-- Document 01, "How the definitions are read"; rules 9.3 to 9.14: Definitions 3 to 14 of the model, as predicates of the tables before, a request
+-- and the tables after. They say nothing of this desk's answer: anybody's desk can be judged by them.
 use mathlib.Core.Bool.{Bool, _&&_}
 use mathlib.Core.Logic.{_≢_, _⊎_}
 use mathlib.Core.Path.{_≡_}

@@ -1,4 +1,4 @@
--- Rule 8.4: the words that each operation may change at all.
+-- Document 01, "The request and its operations"; rule 8.4: the words that each operation may change at all.
 use mathlib.Core.Bool.{Bool, _&&_, _||_, false, not}
 use mathlib.Core.Path.{_≡_}
 use Prim.Native.Nat.{ℕ}

@@ -1,4 +1,5 @@
--- What some theorems say, put in words of its own: notices that stay, IDs on devices, and the tables after many requests.
+-- Document 01, "The refusal ladder" and "How the definitions are read"; rules 8.2, 8.3 and 9.8: what some theorems say, put in words of its own:
+-- notices that stay, IDs on devices, and the tables after many requests.
 use mathlib.Core.List.{List, [], _∷_}
 use mathlib.Core.Logic.{_≢_, _⊎_}
 use mathlib.Core.Option.{some}

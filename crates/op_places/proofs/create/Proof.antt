@@ -70,16 +70,16 @@ same-length-3 c = search needs
 -- src/lib.rt:29:9
 returns-3 : tie.Need-returns-3
 returns-3 c =
-    let s5 = c .before .before .before .before .before in
-    let s6 = s5 .before in
+    let s4 = c .before .before .before .before in
+    let s6 = s4 .before .before in
     let s7 = s6 .before in
-    let s9 = s7 .before .before in
-    let s10 = s9 .before in
+    let s8 = s7 .before in
+    let s10 = s8 .before .before in
     let s11 = s10 .before in
-    let s15 = s11 .before .before .before .before in
-    create-full _ _ _ _ (s15 .pre .0) (s15 .pre .1) _ (s11 .is-container .ensures) (s10 .if1 .left) _ _ (s7 .level .ensures)
-    (s6 .at-most .ensures ∙ rw (s9 .b .ensures)) (s5 .if2 .left) _ _ (c .before .before .before .vacant .ensures) (c .before .used .ensures)
-    (c .if3 .taken)
+    let s12 = s11 .before in
+    let s16 = s12 .before .before .before .before in
+    create-full _ _ _ _ (s16 .pre .0) (s16 .pre .1) _ (s12 .is-container .ensures) (s11 .if1 .left) _ _ (s8 .level .ensures)
+    (s7 .at-most .ensures ∙ rw (s10 .b .ensures)) (s6 .if2 .left) _ _ (s4 .vacant .ensures) (c .before .used .ensures) (c .if3 .taken)
 
 -- src/lib.rt:31:36
 a-requires : tie.Need-a-requires
@@ -88,16 +88,16 @@ a-requires c κs = search needs
 -- src/lib.rt:31:5
 bear-requires : tie.Need-bear-requires
 bear-requires c κs =
-    let s5 : _ → _ = λ _. c .before .before .before .before .before in
-    let s7 : _ → _ = λ _. s5 c .before .before in
-    let s8 : _ → _ = λ _. s7 c .before in
+    let s6 : _ → _ = λ _. c .before .before .before .before .before .before in
+    let s8 : _ → _ = λ _. s6 c .before .before in
     let s9 : _ → _ = λ _. s8 c .before in
-    let s11 : _ → _ = λ _. s9 c .before .before in
-    let s12 : _ → _ = λ _. s11 c .before in
+    let s10 : _ → _ = λ _. s9 c .before in
+    let s12 : _ → _ = λ _. s10 c .before .before in
     let s13 : _ → _ = λ _. s12 c .before in
-    let s17 : _ → _ = λ _. s13 c .before .before .before .before in
-    let r = new-in _ _ _ _ (s17 c .pre .0) (s17 c .pre .1) _ (s13 c .is-container .ensures) (s12 c .if1 .left) _ _ (s9 c .level .ensures)
-    (s8 c .at-most .ensures ∙ rw (s11 c .b .ensures)) (s7 c .if2 .left) _ _ (s5 c .vacant .ensures) (c .before .before .before .used .ensures)
+    let s14 : _ → _ = λ _. s13 c .before in
+    let s18 : _ → _ = λ _. s14 c .before .before .before .before in
+    let r = new-in _ _ _ _ (s18 c .pre .0) (s18 c .pre .1) _ (s14 c .is-container .ensures) (s13 c .if1 .left) _ _ (s10 c .level .ensures)
+    (s9 c .at-most .ensures ∙ rw (s12 c .b .ensures)) (s8 c .if2 .left) _ _ (s6 c .vacant .ensures) (c .before .before .before .used .ensures)
     (c .before .before .if3 .left) in
     search needs
 
@@ -107,22 +107,22 @@ put-last-requires c κs =
     let s4 : _ → _ = λ _. c .before .before .before .before in
     let s6 : _ → _ = λ _. s4 c .before .before in
     let s7 : _ → _ = λ _. s6 c .before in
-    let s9 : _ → _ = λ _. s7 c .before .before in
-    let s11 : _ → _ = λ _. s9 c .before .before in
-    let s12 : _ → _ = λ _. s11 c .before in
+    let s10 : _ → _ = λ _. s7 c .before .before .before in
+    let s12 : _ → _ = λ _. s10 c .before .before in
     let s13 : _ → _ = λ _. s12 c .before in
-    let s15 : _ → _ = λ _. s13 c .before .before in
-    let s16 : _ → _ = λ _. s15 c .before in
+    let s14 : _ → _ = λ _. s13 c .before in
+    let s16 : _ → _ = λ _. s14 c .before .before in
     let s17 : _ → _ = λ _. s16 c .before in
-    let s21 : _ → _ = λ _. s17 c .before .before .before .before in (
+    let s18 : _ → _ = λ _. s17 c .before in
+    let s22 : _ → _ = λ _. s18 c .before .before .before .before in (
       search needs,
-      create-room _ _ _ _ (s21 c .pre .0) (s21 c .pre .1) _ (s17 c .is-container .ensures) (s16 c .if1 .left) _ _ (s13 c .level .ensures)
-          (s12 c .at-most .ensures ∙ rw (s15 c .b .ensures)) (s11 c .if2 .left) _ _ (s9 c .vacant .ensures) (s7 c .used .ensures) (s6 c .if3 .left) _
-          (c .before .before .before .bear .ensures ∙ rw (s4 c .a .ensures, s15 c .b .ensures)),
-      create-unshown _ _ _ _ (s21 c .pre .0) (s21 c .pre .1) _
-          (s17 c .is-container .ensures) (s16 c .if1 .left) _ _ (s13 c .level .ensures) (s12 c .at-most .ensures ∙ rw (s15 c .b .ensures))
-          (s11 c .if2 .left) _ _ (s9 c .vacant .ensures) (s7 c .used .ensures) (s6 c .if3 .left) _
-          (c .before .before .before .bear .ensures ∙ rw (s4 c .a .ensures, s15 c .b .ensures)),
+      create-room _ _ _ _ (s22 c .pre .0) (s22 c .pre .1) _ (s18 c .is-container .ensures) (s17 c .if1 .left) _ _ (s14 c .level .ensures)
+          (s13 c .at-most .ensures ∙ rw (s16 c .b .ensures)) (s12 c .if2 .left) _ _ (s10 c .vacant .ensures) (s7 c .used .ensures) (s6 c .if3 .left) _
+          (c .before .before .before .bear .ensures ∙ rw (s4 c .a .ensures, s16 c .b .ensures)),
+      create-unshown _ _ _ _ (s22 c .pre .0) (s22 c .pre .1) _
+          (s18 c .is-container .ensures) (s17 c .if1 .left) _ _ (s14 c .level .ensures) (s13 c .at-most .ensures ∙ rw (s16 c .b .ensures))
+          (s12 c .if2 .left) _ _ (s10 c .vacant .ensures) (s7 c .used .ensures) (s6 c .if3 .left) _
+          (c .before .before .before .bear .ensures ∙ rw (s4 c .a .ensures, s16 c .b .ensures)),
     )
 
 -- src/lib.rt:16:1
@@ -136,17 +136,17 @@ returns-4 c =
     let s7 = s6 .before in
     let s9 = s7 .before .before in
     let s10 = s9 .before in
-    let s12 = s10 .before .before in
-    let s14 = s12 .before .before in
-    let s15 = s14 .before in
+    let s13 = s10 .before .before .before in
+    let s15 = s13 .before .before in
     let s16 = s15 .before in
-    let s18 = s16 .before .before in
-    let s19 = s18 .before in
+    let s17 = s16 .before in
+    let s19 = s17 .before .before in
     let s20 = s19 .before in
-    let s24 = s20 .before .before .before .before in
-    created _ _ _ _ (s24 .pre .0) (s24 .pre .1) _ (s20 .is-container .ensures) (s19 .if1 .left) _ _ (s16 .level .ensures)
-    (s15 .at-most .ensures ∙ rw (s18 .b .ensures)) (s14 .if2 .left) _ _ (s12 .vacant .ensures) (s10 .used .ensures) (s9 .if3 .left) _ _
-    (s6 .bear .ensures ∙ rw (s7 .a .ensures, s18 .b .ensures)) (c .before .before .put-last .ensures)
+    let s21 = s20 .before in
+    let s25 = s21 .before .before .before .before in
+    created _ _ _ _ (s25 .pre .0) (s25 .pre .1) _ (s21 .is-container .ensures) (s20 .if1 .left) _ _ (s17 .level .ensures)
+    (s16 .at-most .ensures ∙ rw (s19 .b .ensures)) (s15 .if2 .left) _ _ (s13 .vacant .ensures) (s10 .used .ensures) (s9 .if3 .left) _ _
+    (s6 .bear .ensures ∙ rw (s7 .a .ensures, s19 .b .ensures)) (c .before .before .put-last .ensures)
 
 pub create-spec : {M : Type 1} → statement M
 create-spec =

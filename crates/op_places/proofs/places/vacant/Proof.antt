@@ -27,8 +27,8 @@ add-t5 c = omega arith
 kind-requires : tie.Need-kind-requires Inv-loop μ-loop
 kind-requires c κs = search needs
 
-add-result : tie.Need-add-result Inv-loop μ-loop
-add-result c = omega arith
+add-t7 : tie.Need-add-t7 Inv-loop μ-loop
+add-t7 c = omega arith
 
 returns : tie.Need-returns Inv-loop μ-loop
 returns c =
@@ -62,7 +62,7 @@ vacant-spec =
     loop-holds
     add-t5
     kind-requires
-    add-result
+    add-t7
     returns
     add-i
     loop-less
