@@ -29,7 +29,6 @@ pub mod Changed
 pub mod Unchanged
 pub mod Notices
 pub mod Steps
-pub mod DoneLaws
 pub mod SequenceStep
 pub mod SequenceLaws
 pub mod SequenceUnique
