@@ -115,6 +115,6 @@ demandOne = record {
   writeUnchanged = λ x. write-unchanged (write-halves x);
   stepNotice = step-only-notice;
   noticeKept = λ m tables requests answers c p.
-      sequence-noticed m tables requests (λ i. noIn (answers i)) (step-sequence m tables requests answers c) (passes-check (tables 0) p);
+      sequence-noticed tables requests (λ i. noIn (answers i)) m (step-sequence m tables requests answers c) (passes-check (tables 0) p);
   noticeOfOthers = step-others;
 }

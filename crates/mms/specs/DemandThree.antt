@@ -40,7 +40,7 @@ module _ {t room r : List ℕ} {u : ℕ} (a : ℕ) (x : Lists t u room (noIn a) 
       → (noIn a ≡ refusal.accepted) × (r ≡ entries (x .list) ++ drop (entryWords * length (x .list)) room)
   list-fits e h =
       let z = answer-of e ∙ pick-true (leb (entryWords * length (x .list)) (length room)) refusal.accepted refusal.tooShort
-              (agrees-le (entryWords * length (x .list)) (length room) .from h) in (
+      (agrees-le (entryWords * length (x .list)) (length room) .from h) in (
         z,
         x .words ∙ pick-true (eqb (noIn a) refusal.accepted) (entries (x .list) ++ drop (length (entries (x .list))) room) room
             (agrees-eq (noIn a) refusal.accepted .from z) ∙ ap (λ (n : ℕ). entries (x .list) ++ drop n room) (entries-words (x .list)),
@@ -49,7 +49,7 @@ module _ {t room r : List ℕ} {u : ℕ} (a : ℕ) (x : Lists t u room (noIn a) 
   list-short : barred t u ≡ refusal.accepted → length room < entryWords * length (x .list) → (noIn a ≡ refusal.tooShort) × (r ≡ room)
   list-short e h =
       let z = answer-of e ∙ pick-false (leb (entryWords * length (x .list)) (length room)) refusal.accepted refusal.tooShort
-              (fails-le (entryWords * length (x .list)) (length room) .from h) in (
+      (fails-le (entryWords * length (x .list)) (length room) .from h) in (
         z,
         x .words ∙ pick-false (eqb (noIn a) refusal.accepted) (entries (x .list) ++ drop (length (entries (x .list))) room) room
             (fails-agreed (agrees-eq (noIn a) refusal.accepted) .from (λ y. omega (arith, z))),
@@ -97,8 +97,8 @@ module _ {t room r : List ℕ} {u : ℕ} (a : ℕ) (x : Lists t u room (noIn a) 
   list-refused f =
       let k : barred t u ≢ refusal.accepted = λ e. f (barred-admitted t u e) in
       let z = x .answer ∙ pick-false (eqb (barred t u) refusal.accepted)
-              (pick (leb (entryWords * length (x .list)) (length room)) refusal.accepted refusal.tooShort) (barred t u)
-              (fails-agreed (agrees-eq (barred t u) refusal.accepted) .from k) in
+      (pick (leb (entryWords * length (x .list)) (length room)) refusal.accepted refusal.tooShort) (barred t u)
+      (fails-agreed (agrees-eq (barred t u) refusal.accepted) .from k) in
       (omega (arith, z, k), omega (arith, z, barred-range t u))
 
 pub demandThree : DemandThree

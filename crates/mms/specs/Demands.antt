@@ -26,8 +26,7 @@ use Rattle.model.specs.Text.Given.{HasText, Small}
 use Rattle.model.specs.Text.Unfinished.{lineTotal}
 use Rattle.model.specs.Theorem.Beyond.{OnlyReleased, ReleasedStays, SameDevices, SameUsers}
 use Rattle.model.specs.Theorem.Definitions.{History, HistorySecure, Obeys, SystemSecure}
-use Rattle.model.specs.Theorem.Done.{Done}
-use Rattle.model.specs.Theorem.MayChange.{Frame}
+use Rattle.model.specs.Theorem.Done.{Outcome}
 use Rattle.model.specs.Theorem.Sequence.{Noticed}
 use Rattle.model.specs.Theorem.Statements.{SameNotice}
 use Rattle.model.specs.Request.Refusals as refusal
@@ -78,13 +77,16 @@ pub record DemandOne : Type 0 where
   -- No request changes the notice of anybody but the requester.
   pub noticeOfOthers : {t q : List ℕ} {a : ℕ} {r : List ℕ} → StepCall t q a r → (x : ℕ) → x ≢ requester q → SameNotice (tablesOf t) (tablesOf r) x
 
--- Rules 6 and 8.4: what an accepted request q has made of the tables t: the operation that it names was allowed, has been done, and nothing else has.
+-- Rules 6 and 8.4: what an accepted request q has made of the tables t.
 pub record Effected (t q r : List ℕ) : Type 0 where
+  -- nothing stood in the way of the operation that it names
   pub operation : Op
   pub accepted : Accepted operation (tablesOf t) (requestOf q)
+  -- the words of that operation's rule have the values that it names, and every other word is as before
   pub size : length r ≡ length t
-  pub done : Done operation (asked (tablesOf t) (requestOf q)) (tablesOf t) (tablesOf r)
-  pub framed : Frame operation (asked (tablesOf t) (requestOf q)) (tablesOf t) (tablesOf r)
+  pub outcome : Outcome operation (asked (tablesOf t) (requestOf q)) (tablesOf t) (tablesOf r)
+  -- and of no other words can that be said
+  pub only : (s : List ℕ) → length s ≡ length t → Outcome operation (asked (tablesOf t) (requestOf q)) (tablesOf t) (tablesOf s) → s ≡ r
 
 -- Rules 9.4, 9.13 and 9.14: calls that never end are a history of the papers' model, and it is secure, and so is the system that starts so.
 pub record SecureHistory (tables requests : ℕ → List ℕ) : Type 0 where
@@ -119,7 +121,7 @@ pub record DemandTwo : Type 0 where
   pub checkSound : (t : List ℕ) (a : ℕ) → CheckCall t a → (noIn a ≡ refusal.accepted) ↔ Sound t
   -- The step's answer is the lowest number whose refusal applies, and 0 where none does.
   pub stepLowest : {t q : List ℕ} {a : ℕ} {r : List ℕ} → StepCall t q a r → (n : ℕ) → (noIn a ≡ n) ↔ Lowest (AppliesTo t q) n
-  -- With 0 the tables are what the operation makes of them, and every other word is as before.
+  -- With 0 the tables are what the operation makes of them, and nothing else.
   pub stepEffect : {t q : List ℕ} {a : ℕ} {r : List ℕ} → StepCall t q a r → noIn a ≡ refusal.accepted → Effected t q r
   -- From tables that the check passes, the tables after each of any calls of the step are well-formed and secure,
   pub callsSound : (m : ℕ) (tables requests : ℕ → List ℕ) (answers : ℕ → ℕ) → StepCalls m tables requests answers → Passes (tables 0)

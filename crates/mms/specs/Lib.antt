@@ -9,3 +9,6 @@ pub mod AnswerLaws
 pub mod NoticeWords
 pub mod DemandOne
 pub mod DemandThree
+pub mod ScriptLaws
+pub mod CheckLaws
+pub mod DemandTwo

@@ -188,11 +188,11 @@ over-words P still join step t (q ∷ qs) e = join (tablesOf t) (tablesOf (after
     (over-words P still join step (afterOf t q) qs (check-kept t q e))
 
 -- What is released in well-formed tables is there, in those same tables.
-released-now : (d : Tables) → WellFormed d → ReleasedStays d d
+pub released-now : (d : Tables) → WellFormed d → ReleasedStays d d
 released-now d w x h = record { there = released-there d w (requestOf []) x h; released = h; releaser = refl }
 
 -- Once released, still released one request later and so two.
-released-joined : (d e f : Tables) → ReleasedStays d e → ReleasedStays e f → ReleasedStays d f
+pub released-joined : (d e f : Tables) → ReleasedStays d e → ReleasedStays e f → ReleasedStays d f
 released-joined d e f a b x h =
     let c = b x (a x h .released) in record { there = c .there; released = c .released; releaser = c .releaser ∙ a x h .releaser }
 
