@@ -24,32 +24,41 @@ containerSort = 2
 pub record HasCreated (s : Asked) (d d′ : Tables) : Type 0 where
   -- rule 6.1: the number of the new record
   pub new : ℕ
-  -- rule 2.1: it is a number of an entity
+  -- rule 2.1: entities are numbered from 1 on,
   pub low : 1 ≤ new
+  -- rule 2.1: and there are sixty-four
   pub high : new ≤ entityCount
-  -- rule 6.1: the number was absent, and every lower one was present
+  -- rule 6.1: nothing had the number before
   pub absent : kinds d new ≡ absentKind
+  -- rule 6.1: something had every lower number
   pub lowest : (x : ℕ) → 1 ≤ x → x < new → kinds d x ≢ absentKind
-  -- rule 6.1: sort 1 is an object, sort 2 a container of plain type, sort 3 a container that is a draft
+  -- rule 6.1: sort 1 is an object, of plain type
   pub object : s .a ≡ objectSort → (kinds d′ new ≡ objectKind) × (d′ .entity new type ≡ plainType)
+  -- rule 6.1: sort 2 is a container of plain type
   pub container : s .a ≡ containerSort → (kinds d′ new ≡ containerKind) × (d′ .entity new type ≡ plainType)
+  -- rule 6.1: sort 3 is a container that is a draft
   pub draft : s .a ≡ draftSort → (kinds d′ new ≡ containerKind) × (d′ .entity new type ≡ draftType)
   -- rule 6.1: its level is b
   pub levelled : d′ .entity new level ≡ s .b
   -- rule 6.1: its triples are those of the container, word for word
   pub access : (i : ℕ) → triples d′ new i ≡ triples d (s .first) i
-  -- rule 6.1: every other word of it is zero: mark, value, releaser, maximum,
+  -- rule 6.1: it has no mark, whatever the container has
   pub unmarked : d′ .entity new mark ≡ 0
+  -- rule 6.1: its value is zero
   pub valueless : d′ .entity new value ≡ 0
+  -- rule 6.1: it has no releaser
   pub unreleased : d′ .entity new releaser ≡ 0
+  -- rule 6.1: its maximum is zero
   pub unlimited : d′ .entity new maximum ≡ 0
-  -- used places, places and sums
+  -- rule 6.1: none of its places is used
   pub empty : usedPlaces d′ new ≡ 0
+  -- rule 6.1: every place of it is zero
   pub noPlace : (i : ℕ) → places d′ new i ≡ 0
+  -- rule 6.1: every sum of it is zero
   pub noSum : (i : ℕ) → sums d′ new i ≡ 0
   -- rule 6.1: it stands in the container behind all that stood there
   pub last : contents d′ (s .first) ≡ contents d (s .first) ++ (new ∷ [])
-  -- rule 3.12: and its sum there is 0, like those of the others
+  -- rule 3.12: its sum there is 0, like those of the others
   pub unshown : (i : ℕ) → sums d′ (s .first) i ≡ 0
 
 -- Rule 6.2: the entity is gone.
@@ -77,13 +86,13 @@ pub record HasGranted (s : Asked) (d d′ : Tables) : Type 0 where
 
 -- Rule 6.10: the requester's device shows the operand with the sum a.
 pub record HasShown (s : Asked) (d d′ : Tables) : Type 0 where
-  -- rule 6.10: where the device shows it already, it shows the same things in the same order,
+  -- rule 6.10: a device that shows it already shows the same things in the same order
   pub again : List·Memᴰ (s .first) (contents d (own d s)) → contents d′ (own d s) ≡ contents d (own d s)
-  -- and the sum at its place is a
+  -- rule 6.10: the sum at its place is a
   pub sum : (i : ℕ) → i < usedPlaces d (own d s) → places d (own d s) i ≡ s .first → sums d′ (own d s) i ≡ s .a
-  -- rule 6.10: where it does not, the entity comes behind all others,
+  -- rule 6.10: on a device that does not show it, the entity comes behind all others
   pub last : (List·Memᴰ (s .first) (contents d (own d s)) → ⊥) → contents d′ (own d s) ≡ contents d (own d s) ++ (s .first ∷ [])
-  -- and its sum behind all other sums
+  -- rule 6.10: its sum a then comes behind all other sums
   pub lastSum : (List·Memᴰ (s .first) (contents d (own d s)) → ⊥) → contentSums d′ (own d s) ≡ contentSums d (own d s) ++ (s .a ∷ [])
   -- rule 6.10: in both cases every other entity on the device keeps its sum
   pub others : (i : ℕ) → i < usedPlaces d (own d s) → places d (own d s) i ≢ s .first → sums d′ (own d s) i ≡ sums d (own d s) i
@@ -92,16 +101,18 @@ pub record HasShown (s : Asked) (d d′ : Tables) : Type 0 where
 pub record Emptied (v : ℕ) (d′ : Tables) : Type 0 where
   -- rule 6.11: no place is used
   pub none : usedPlaces d′ v ≡ 0
-  -- rule 6.11: every place is zero, and every sum
+  -- rule 6.11: every place is zero
   pub noPlace : (i : ℕ) → places d′ v i ≡ 0
+  -- rule 6.11: every sum is zero
   pub noSum : (i : ℕ) → sums d′ v i ≡ 0
 
 -- Rule 6.13: the requester is off.
 pub record HasLoggedOut (s : Asked) (d d′ : Tables) : Type 0 where
   -- rule 6.13: the device that the requester was on shows nothing
   pub screen : Emptied (own d s) d′
-  -- rule 6.13: the requester is on no device, and has no current roles
+  -- rule 6.13: the requester is on no device
   pub off : d′ .user (s .user) device ≡ 0
+  -- rule 6.13: the requester has no current roles
   pub noRoles : d′ .user (s .user) current ≡ 0
 
 -- Rule 6.19: the operand is released.
@@ -113,9 +124,11 @@ pub record HasReleased (s : Asked) (d′ : Tables) : Type 0 where
 
 -- Rule 6.20: the requester's notice is empty.
 pub record HasAcknowledged (s : Asked) (d′ : Tables) : Type 0 where
-  -- rule 6.20: no refusal is held, no operation of it, and none was missed
+  -- rule 6.20: no refusal is held
   pub noRefusal : d′ .user (s .user) held ≡ 0
+  -- rule 6.20: no operation is kept with it
   pub noOperation : d′ .user (s .user) heldOp ≡ 0
+  -- rule 6.20: no refusal is counted as missed
   pub noneMissed : d′ .user (s .user) missed ≡ 0
 
 -- What the operation o has done, of what was asked, from the tables d to the tables d′.
