@@ -16,8 +16,8 @@ use Rattle.model.specs.Tables.Words.{Tables, firstNoticed, held, lastNot
 module _ (d : Tables) (w : WellFormed d) (s : Secure d) (u r o : ℕ) (p : d .user u present ≢ 0) (hr : (firstNoticed ≤ r) × (r ≤ lastNoticed))
     (ho : o ≤ operationCount) where
   -- A notice goes on being one, whichever words it takes anew.
-  notice-ok : UserOk (d .user u) → UserOk (written (noticing u r o d) (d .user u))
-  notice-ok a = go (eqb (d .user u held) 0) (ltb (d .user u missed) missedMost) refl refl (same (d .user u held) 0) (below (d .user u missed) missedMost)
+  notice-next : UserOk (d .user u) → UserOk (written (noticing u r o d) (d .user u))
+  notice-next a = go (eqb (d .user u held) 0) (ltb (d .user u missed) missedMost) refl refl (same (d .user u held) 0) (below (d .user u missed) missedMost)
     where
       go : (x y : Bool) → eqb (d .user u held) 0 ≡ x → ltb (d .user u missed) missedMost ≡ y → Same (d .user u held) 0 x
           → Below (d .user u missed) missedMost y → UserOk (written (noticing u r o d) (d .user u))
@@ -27,7 +27,7 @@ module _ (d : Tables) (w : WellFormed d) (s : Secure d) (u r o : ℕ) (p : d .us
       go false false e f (other q) (over l) = rw (e, f) (search (arith, inr))
 
   pub notice-wellFormed : WellFormed (notice u r o d)
-  notice-wellFormed = let n = each UserOk (noticing u r o d) u (d .user) (w .users) (notice-ok (w .users u)) in search
+  notice-wellFormed = let n = each UserOk (noticing u r o d) u (d .user) (w .users) (notice-next (w .users u)) in search
 
   pub notice-secure : Secure (notice u r o d)
   notice-secure = search

@@ -1,5 +1,5 @@
--- What a user's notice says after any number of steps on words (rules 8.2 and 8.3), in words of its own: it holds the first refusal 5 to 16 of that
--- user since the last accepted acknowledgement, with its operation, and counts all of them. The laws are in Theorem/SequenceLaws.
+-- Document 01, "The refusal ladder"; rules 8.2 and 8.3: what a user's notice says after any number of steps on words. It holds the first refusal 5 to 16
+-- of that user since the last accepted acknowledgement, with its operation, and counts all of them. The laws are in Theorem/SequenceLaws.
 use mathlib.Core.Bool.{Bool, _&&_}
 use mathlib.Core.List.{List}
 use mathlib.Core.Logic.{_≢_, _⊎_}
