@@ -1,5 +1,5 @@
--- How a case is written: what was asked before, what is asked, the answer, and words that stand afterwards. An answer is written as its number,
--- here and in every table of cases, as document 01 writes it.
+-- How a case is written: what was asked before and was answered, what is asked, the answer, and words that stand afterwards. A request is written as
+-- its sixteen words. An answer is written as its number, here and in every table of cases, as document 01 writes it.
 use mathlib.Core.Bool.{Bool, _&&_, false, true}
 use mathlib.Core.List.{List, [], _++_, _∷_}
 use Prim.Native.Nat.{_*_, _+_, _-_, _^_, ℕ}
@@ -37,12 +37,9 @@ gone = []
 unfoldable pub asking : ℕ → ℕ → List ℕ → List ℕ → ℕ → ℕ → ℕ → List ℕ
 asking u o r s a b c = u ∷ o ∷ length r ∷ (padded nameCount r ++ (length s ∷ (padded nameCount s ++ (a ∷ b ∷ c ∷ 0 ∷ []))))
 
+-- the same as a request of the model
 unfoldable pub ask : ℕ → ℕ → List ℕ → List ℕ → ℕ → ℕ → ℕ → Request
 ask u o r s a b c = requestOf (asking u o r s a b c)
-
--- any sixteen words
-unfoldable pub raw : List ℕ → Request
-raw q = requestOf q
 
 -- a word that stands
 pub data Stands : Type 0 where
@@ -54,18 +51,32 @@ stand [] d = true
 stand (userIs u f v ∷ ws) d = elim (eqb (d .user u f) v) [ true ↦ stand ws d | false ↦ false ]
 stand (entityIs e f v ∷ ws) d = elim (eqb (d .entity e f) v) [ true ↦ stand ws d | false ↦ false ]
 
-pub data Case : Type 0 where
-  expect : List Request → Request → ℕ → List Stands → Case
+-- the words of a request, and the answer that they get
+infix 70 _gets_
+pub data Exchange : Type 0 where
+  _gets_ : List ℕ → ℕ → Exchange
+
+-- requests one after another with their answers, and the words that stand after the last of them
+pub record Case : Type 0 where
+  pub exchanges : List Exchange
+  pub standing : List Stands
+
+-- what was asked before and what it got; what is asked and what it gets; the words that then stand
+unfoldable pub expect : List Exchange → List ℕ → ℕ → List Stands → Case
+expect es q n ws = record { exchanges = es ++ (q gets n ∷ []); standing = ws }
 
 -- the requester's first refusal: the notice has its number and the operation, and counts one; then the words that stand besides
-unfoldable pub noted : Request → ℕ → List Stands → Case
-noted q n ws = expect [] q n (userIs (q .user) held n ∷ userIs (q .user) heldOp (q .operation) ∷ userIs (q .user) missed 1 ∷ ws)
+unfoldable pub noted : List ℕ → ℕ → List Stands → Case
+noted q n ws =
+    let u = requestOf q .user in
+    expect [] q n (userIs u held n ∷ userIs u heldOp (requestOf q .operation) ∷ userIs u missed 1 ∷ ws)
 
--- the state is handed on, so that what was computed of it is found again
-unfoldable pub passesAt : Tables → List Request → Request → ℕ → List Stands → Bool
-passesAt d [] q n ws = eqb (answer d q) n && stand ws (after d q)
-passesAt d (p ∷ ps) q n ws = passesAt (after d p) ps q n ws
+-- every request gets its answer, each on what the one before it left, and at the end the words stand; the state is handed on, so that what was
+-- computed of it is found again
+unfoldable pub passesAt : Tables → List Exchange → List Stands → Bool
+passesAt d [] ws = stand ws d
+passesAt d (q gets n ∷ es) ws = eqb (answer d (requestOf q)) n && passesAt (after d (requestOf q)) es ws
 
 unfoldable pub allPass : Tables → List Case → Bool
 allPass d [] = true
-allPass d (expect qs q n ws ∷ cs) = elim (passesAt d qs q n ws) [ true ↦ allPass d cs | false ↦ false ]
+allPass d (c ∷ cs) = elim (passesAt d (c .exchanges) (c .standing)) [ true ↦ allPass d cs | false ↦ false ]

@@ -1,6 +1,6 @@
 -- Names that open every definition that a case computes with, room by room: a case says `unfolding opened`.
 use Rattle.model.specs.Basics.Tests.{imp, every}
-use Rattle.cases.specs.Case.Cases.{item, gone, asking, ask, raw, noted, stand, passesAt, allPass}
+use Rattle.cases.specs.Case.Cases.{item, gone, asking, ask, expect, noted, stand, passesAt, allPass}
 use Rattle.cases.specs.Case.Forms.{all5, counting, forms, made, malformed, none5, reference, right, rightWords, oneWrong, strays}
 use Rattle.cases.specs.Case.Forms.{wellMade, words, wrong, wrongWords}
 use Rattle.model.specs.Level.{bit, subset, rank, atMostOver, atMost, lower}
@@ -60,7 +60,7 @@ unfolding effect noticedOp leaves after asked hasRole isAny isEntity isContainer
 openedRequest = tt
 
 unfoldable pub openedCase : Unit {0}
-unfolding item gone asking ask raw noted stand passesAt allPass
+unfolding item gone asking ask expect noted stand passesAt allPass
 openedCase = tt
 
 unfoldable pub opened : Unit {0}

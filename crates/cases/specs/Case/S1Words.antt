@@ -2,8 +2,9 @@
 use mathlib.Core.List.{List, [], _++_, _∷_}
 use mathlib.Core.Path.{_∙_, _≡_, ap, refl, subst, sym}
 use Prim.Native.Nat.{_*_, _-_, ℕ}
+use native.Mathlib.Omega.{arith}
 use lib.Dec.{eqb→eq}
-use lib.ListN.{length, replicate, take}
+use lib.ListN.{getD, length, replicate, take}
 use Rattle.cases.specs.Case.Cases.{asking, at, highest, item}
 use Rattle.cases.specs.Case.Opened.{opened}
 use Rattle.cases.specs.Case.S1.{s1, s1Sheet}
@@ -20,7 +21,7 @@ use Rattle.model.specs.Tables.Layout.{entityWidth, tablesOf, userWidth, wordCou
 use Rattle.model.specs.Tables.Sheet.{padded, paddedRecords, sheetWords}
 use Rattle.model.specs.Tables.SheetLaws.{sheet-tables, sheetWords-length}
 use Rattle.model.specs.Tables.Words.{Tables, entityCount, userCount}
-use Rattle.model.specs.Theorem.Steps.{afterOf-tables, answerOf-sized, sized-agrees}
+use Rattle.model.specs.Theorem.Steps.{afterOf-tables, answerOf-sized, low-refusal-words, sized-agrees}
 
 -- n words of zero
 abbrev zeros : ℕ → List ℕ
@@ -85,6 +86,18 @@ s1Words-answer q h = answerOf-sized s1Words q (sized-agrees s1Words q .from (s1W
 
 pub s1Words-after : (q : List ℕ) → length q ≡ requestWords → tablesOf (afterOf s1Words q) ≡ after s1 (requestOf q)
 s1Words-after q h = afterOf-tables s1Words q (sized-agrees s1Words q .from (s1Words-length, h)) ∙ ap (λ (d : Tables). after d (requestOf q)) s1Words-tables
+
+-- user 9 is answered 4, whatever is asked, and every word stays
+unknown-answer : (q : List ℕ) → getD q 0 0 ≡ 9 → answer s1 (requestOf q) ≡ refusal.unknownRequester
+unfolding opened s1 s1Sheet
+unknown-answer [] e = absurd (omega (arith, e))
+unknown-answer (u ∷ q) e = subst (λ (v : ℕ). answer s1 (requestOf (v ∷ q)) ≡ refusal.unknownRequester) (sym e) refl
+
+pub s1Words-unknown : (q : List ℕ) → length q ≡ requestWords → getD q 0 0 ≡ 9
+    → (answerOf s1Words q ≡ refusal.unknownRequester) × (afterOf s1Words q ≡ s1Words)
+s1Words-unknown q h e =
+    let a = s1Words-answer q h ∙ unknown-answer q e in
+    (a, low-refusal-words s1Words q (omega arith) (omega arith))
 
 -- a word too few or too many, of the tables or of a request, is answered 1
 pub s1Words-sizes :

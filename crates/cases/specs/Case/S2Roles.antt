@@ -3,7 +3,7 @@ use mathlib.Core.Bool.{true}
 use mathlib.Core.List.{List, [], _∷_}
 use mathlib.Core.Path.{_≡_, refl}
 use Prim.Native.Nat.{ℕ}
-use Rattle.cases.specs.Case.Cases.{Case, allPass, ask, at, entityIs, expect, highest, userIs}
+use Rattle.cases.specs.Case.Cases.{Case, allPass, asking, at, entityIs, expect, highest, userIs}
 use Rattle.cases.specs.Case.Opened.{opened}
 use Rattle.cases.specs.Case.S2.{s2, s2Sheet}
 use Rattle.model.specs.Tables.Edits.{onUser, userWord}
@@ -13,38 +13,42 @@ use Rattle.model.specs.Tables.Words.{Tables, authorised, clearance, current, dr
 unfoldable pub s2With : ℕ → Tables
 s2With r = onUser 1 (userWord current r) s2
 
--- role 1, the security officer: clearance, authorised roles, maximum, another's current roles; and nothing else
+-- Each role is tried on the same seven operations: 14 to 17, which ask for the security officer; 6 and 18, for the downgrader; 19, for the releaser.
+
+-- role 1, the security officer: another's current roles, clearance, authorised roles, maximum; and nothing else
 unfoldable pub officerCases : List Case
 officerCases =
-    expect [] (ask 1 15 [] [] 3 0 0) 0 (userIs 3 clearance 0 ∷ [])
-    ∷ expect [] (ask 1 16 [] [] 3 0 0) 0 (userIs 3 authorised 0 ∷ [])
-    ∷ expect [] (ask 1 17 (6 ∷ []) [] (at 2 1) 0 0) 0 (entityIs 6 maximum (at 2 1) ∷ [])
-    ∷ expect [] (ask 1 14 [] [] 3 0 0) 0 (userIs 3 current 0 ∷ [])
-    ∷ expect [] (ask 1 6 (13 ∷ []) [] 0 0 0) 12 (entityIs 13 level (at 1 0) ∷ [])
-    ∷ expect [] (ask 1 18 (6 ∷ []) [] (at 0 1) 0 0) 12 (entityIs 6 level (at 2 1) ∷ [])
-    ∷ expect [] (ask 1 19 (29 ∷ []) [] 0 0 0) 12 (entityIs 29 type draftType ∷ [])
+    expect [] (asking 1 14 [] [] 2 8 0) 0 (userIs 2 current 8 ∷ [])
+    ∷ expect [] (asking 1 15 [] [] 3 0 0) 0 (userIs 3 clearance 0 ∷ [])
+    ∷ expect [] (asking 1 16 [] [] 3 0 0) 0 (userIs 3 authorised 0 ∷ [])
+    ∷ expect [] (asking 1 17 (6 ∷ []) [] (at 2 1) 0 0) 0 (entityIs 6 maximum (at 2 1) ∷ [])
+    ∷ expect [] (asking 1 6 (13 ∷ []) [] 0 0 0) 12 (entityIs 13 level (at 1 0) ∷ [])
+    ∷ expect [] (asking 1 18 (6 ∷ []) [] (at 0 1) 0 0) 12 (entityIs 6 level (at 2 1) ∷ [])
+    ∷ expect [] (asking 1 19 (29 ∷ []) [] 0 0 0) 12 (entityIs 29 type draftType ∷ [])
     ∷ []
 
 -- role 2, the downgrader: a strictly lower level, also of a device that is not one's own
 unfoldable pub downgraderCases : List Case
 downgraderCases =
-    expect [] (ask 1 6 (13 ∷ []) [] 0 0 0) 0 (entityIs 13 level 0 ∷ [])
-    ∷ expect [] (ask 1 18 (6 ∷ []) [] (at 0 1) 0 0) 0 (entityIs 6 level (at 0 1) ∷ [])
-    ∷ expect [] (ask 1 15 [] [] 3 0 0) 12 (userIs 3 clearance (at 2 1) ∷ [])
-    ∷ expect [] (ask 1 16 [] [] 3 0 0) 12 (userIs 3 authorised 6 ∷ [])
-    ∷ expect [] (ask 1 17 (6 ∷ []) [] (at 2 1) 0 0) 12 (entityIs 6 maximum highest ∷ [])
-    ∷ expect [] (ask 1 14 [] [] 3 0 0) 12 []
-    ∷ expect [] (ask 1 19 (29 ∷ []) [] 0 0 0) 12 (entityIs 29 type draftType ∷ [])
+    expect [] (asking 1 14 [] [] 2 8 0) 12 (userIs 2 current 136 ∷ [])
+    ∷ expect [] (asking 1 15 [] [] 3 0 0) 12 (userIs 3 clearance (at 2 1) ∷ [])
+    ∷ expect [] (asking 1 16 [] [] 3 0 0) 12 (userIs 3 authorised 6 ∷ [])
+    ∷ expect [] (asking 1 17 (6 ∷ []) [] (at 2 1) 0 0) 12 (entityIs 6 maximum highest ∷ [])
+    ∷ expect [] (asking 1 6 (13 ∷ []) [] 0 0 0) 0 (entityIs 13 level 0 ∷ [])
+    ∷ expect [] (asking 1 18 (6 ∷ []) [] (at 0 1) 0 0) 0 (entityIs 6 level (at 0 1) ∷ [])
+    ∷ expect [] (asking 1 19 (29 ∷ []) [] 0 0 0) 12 (entityIs 29 type draftType ∷ [])
     ∷ []
 
 -- role 4, the releaser: a release
 unfoldable pub releaserCases : List Case
 releaserCases =
-    expect [] (ask 1 19 (29 ∷ []) [] 0 0 0) 0 (entityIs 29 type releasedType ∷ entityIs 29 releaser 1 ∷ [])
-    ∷ expect [] (ask 1 6 (13 ∷ []) [] 0 0 0) 12 (entityIs 13 level (at 1 0) ∷ [])
-    ∷ expect [] (ask 1 18 (6 ∷ []) [] (at 0 1) 0 0) 12 (entityIs 6 level (at 2 1) ∷ [])
-    ∷ expect [] (ask 1 15 [] [] 3 0 0) 12 (userIs 3 clearance (at 2 1) ∷ [])
-    ∷ expect [] (ask 1 17 (6 ∷ []) [] (at 2 1) 0 0) 12 (entityIs 6 maximum highest ∷ [])
+    expect [] (asking 1 14 [] [] 2 8 0) 12 (userIs 2 current 136 ∷ [])
+    ∷ expect [] (asking 1 15 [] [] 3 0 0) 12 (userIs 3 clearance (at 2 1) ∷ [])
+    ∷ expect [] (asking 1 16 [] [] 3 0 0) 12 (userIs 3 authorised 6 ∷ [])
+    ∷ expect [] (asking 1 17 (6 ∷ []) [] (at 2 1) 0 0) 12 (entityIs 6 maximum highest ∷ [])
+    ∷ expect [] (asking 1 6 (13 ∷ []) [] 0 0 0) 12 (entityIs 13 level (at 1 0) ∷ [])
+    ∷ expect [] (asking 1 18 (6 ∷ []) [] (at 0 1) 0 0) 12 (entityIs 6 level (at 2 1) ∷ [])
+    ∷ expect [] (asking 1 19 (29 ∷ []) [] 0 0 0) 0 (entityIs 29 type releasedType ∷ entityIs 29 releaser 1 ∷ [])
     ∷ []
 
 pub officer-holds : allPass (s2With 1) officerCases ≡ true

@@ -2,7 +2,7 @@
 use mathlib.Core.List.{List, [], _++_, _∷_}
 use Prim.Native.Nat.{_-_, ℕ}
 use lib.ListN.{replicate}
-use Rattle.cases.specs.Case.Cases.{Case, ask, at, entityIs, expect, highest, item, noted}
+use Rattle.cases.specs.Case.Cases.{Case, _gets_, asking, at, entityIs, expect, highest, item, noted}
 use Rattle.model.specs.Tables.Sheet.{Sheet, sheetTables}
 use Rattle.model.specs.Tables.Words.{Tables, containerKind, deviceKind, draftType, entityCount, kind, objectKind, place, plainType, triple}
 use Rattle.model.specs.Tables.Words.{tripleOf, type, used, value}
@@ -33,11 +33,11 @@ s3 = sheetTables s3Sheet
 unfoldable pub fullCases : List Case
 fullCases =
     -- 14: the container has room, and no number is free
-    noted (ask 1 1 (2 ∷ []) [] 1 0 0) 14 (entityIs 2 used 0 ∷ [])
+    noted (asking 1 1 (2 ∷ []) [] 1 0 0) 14 (entityIs 2 used 0 ∷ [])
     -- 13 before 14
-    ∷ noted (ask 1 1 (2 ∷ []) [] 1 (at 0 1) 0) 13 []
+    ∷ noted (asking 1 1 (2 ∷ []) [] 1 (at 0 1) 0) 13 []
     -- the number of one that was deleted is free again, and nothing of the old record is left in it
-    ∷ expect (ask 1 2 (40 ∷ []) [] 0 0 0 ∷ []) (ask 1 1 (2 ∷ []) [] 3 0 0) 0 (entityIs 40 kind containerKind ∷ entityIs 40 type draftType ∷
+    ∷ expect (asking 1 2 (40 ∷ []) [] 0 0 0 gets 0 ∷ []) (asking 1 1 (2 ∷ []) [] 3 0 0) 0 (entityIs 40 kind containerKind ∷ entityIs 40 type draftType ∷
     entityIs 40 value 0 ∷ entityIs 40 (triple 0) (tripleOf 1 1 1) ∷ entityIs 40 (triple 1) 0 ∷ entityIs 2 used 1 ∷ entityIs 2 (place 0) 40 ∷
     entityIs entityCount kind objectKind ∷ [])
     ∷ []
