@@ -1,7 +1,7 @@
 -- Rows as lists: what appending to a row, closing it up and packing it are, read as lists.
 use mathlib.Core.Bool.{Bool, false, true}
-use mathlib.Core.List.{List, List·Memᴰ, List·Memᴰ·cases-cons, List·Memᴰ·head, List·Memᴰ·not-nil, List·Memᴰ·tail, [], _++_, _∷_}
-use mathlib.Core.List.{Memᴰ·append-right, head-eq-of-cons-eq, nil≢cons, tail-eq-of-cons-eq}
+use mathlib.Core.List.{List, List·Memᴰ, List·Memᴰ·cases-cons, List·Memᴰ·head, List·Memᴰ·not-nil, List·Memᴰ·tail, Memᴰ·append-right, []}
+use mathlib.Core.List.{_++_, _∷_, head-eq-of-cons-eq, nil≢cons, tail-eq-of-cons-eq}
 use mathlib.Core.Logic.{_⊎_, inl, inr}
 use mathlib.Core.Path.{_∙_, _≡_, ap, ap₂, refl, subst, sym}
 use Prim.Native.Nat.{_+_, _<_, _≤_, pred, suc, zero, ℕ}

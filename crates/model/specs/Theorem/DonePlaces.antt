@@ -59,6 +59,7 @@ module _ (d : Tables) (w : WellFormed d) (s : Asked) where
   unshown : (c : ℕ) → kinds d c ≡ containerKind → (i : ℕ) → sums d c i ≡ 0
   unshown c box = w .entities c .filled .noSums (omega arith)
 
+  -- Create has done what is said of it.
   pub create-done : MayCreate s d → HasCreated s d (rowOf toCreate .effect s d)
   create-done a = record {
     new = e;
@@ -105,6 +106,7 @@ module _ (d : Tables) (w : WellFormed d) (s : Asked) where
       is f = ap (λ (v : EntityWord → ℕ). v f) (edited-away (putting c e 0 with-it) c (with-it .entity) e apart
           ∙ edited-here (bearing c (sortKind (s .a)) (sortType (s .a)) (s .b) d) e (d .entity))
 
+  -- So has delete.
   pub delete-done : MayDelete s d → HasDeleted s d (rowOf toDelete .effect s d)
   delete-done a = record {
     zeroed = λ f. zeroed-word f;
@@ -123,6 +125,7 @@ module _ (d : Tables) (w : WellFormed d) (s : Asked) where
       out x box false (other q) = subst (TakenOut e (contents d x)) (sym (ap recordContents (edited-away blank e (leave e d .entity) x q)))
           (leave-taken d w e x box)
 
+  -- So has move.
   pub move-done : MayMove s d → HasMoved s d (rowOf toMove .effect s d)
   move-done a = record {
     left = λ x box n. subst (TakenOut e (contents d x)) (sym (ap recordContents (edited-away (putting c e 0 (leave e d)) c (leave e d .entity) x n)))

@@ -81,7 +81,7 @@ module _ (t n : ℕ) (r : ℕ → ℕ) (p : Packed r n) (good : 1 ≤ t) where
       go false (over h) z = rw (close-beyond r n k p h, packed-list r n p) (none-taken r n t (λ m. before t r placeCount (m .0) (omega (arith, m .1)) (m .2)))
 
 module _ (d : Tables) (w : WellFormed d) (s : Asked) where
-  -- a good triple is not zero
+  -- Grant has done what is said of it: the triple stays, or comes last.
   pub grant-done : MayGrant s d → HasGranted s d (rowOf toGrant .effect s d)
   grant-done a = record {
     again = λ m. now ∙ granted-again t n r p good m;
@@ -100,12 +100,14 @@ module _ (d : Tables) (w : WellFormed d) (s : Asked) where
       p : Packed r n
       p = w .entities (s .first) .access .1 .packed
 
+      -- a triple with a position is not zero
       good : 1 ≤ t
       good = omega (arith, a .good .position)
 
       now : accessList (rowOf toGrant .effect s d) (s .first) ≡ rowList (granted t r)
       now = ap (λ (v : EntityWord → ℕ). rowList (λ i. v (triple i))) (edited-here (row triple (granted t r)) (s .first) (d .entity))
 
+  -- So has revoke: the triple is taken out.
   pub revoke-done : MayRevoke s d → Done toRevoke s d (rowOf toRevoke .effect s d)
   revoke-done a =
       subst (TakenOut t (rowList r)) (sym now) (revoked-taken t (w .entities (s .first) .access .0) r (w .entities (s .first) .access .1 .packed) good)
@@ -153,6 +155,7 @@ module _ (e n : ℕ) (at : ℕ → ℕ) (p : Packed at n) where
       go (inr y) = omega (arith, y .0)
 
 module _ (d : Tables) (w : WellFormed d) (s : Asked) where
+  -- So has show: the entity keeps its place, or comes last, with the sum that was asked.
   pub show-done : HasShown s d (rowOf toShow .effect s d)
   show-done = record {
     again = λ m.

@@ -71,14 +71,14 @@ single-user-index missed h = refl
 single-user-index (spare i) h = absurd (omega (arith, h))
 
 -- Two records are the same in every word of a tag, if they are in the one word that has it.
-pub word-same : (g : EntityWord) → tag g < tag (place 0) → (w v : EntityWord → ℕ) → w g ≡ v g → (f : EntityWord) → T (wordOrRow g f) → w f ≡ v f
-word-same g h w v e f t =
+pub same-word : (g : EntityWord) → tag g < tag (place 0) → (w v : EntityWord → ℕ) → w g ≡ v g → (f : EntityWord) → T (wordOrRow g f) → w f ≡ v f
+same-word g h w v e f t =
     let q : tag f ≡ tag g = eqb→eq (tag f) (tag g) t in
     let z : f ≡ g = entity-word-same f g q (single-index f (omega arith) ∙ sym (single-index g h)) in
     subst (λ (k : EntityWord). w k ≡ v k) (sym z) e
 
-pub user-word-same-in : (g : UserWord) → userTag g < userTag (spare 0) → (w v : UserWord → ℕ) → w g ≡ v g → (f : UserWord) → T (userWordIs g f) → w f ≡ v f
-user-word-same-in g h w v e f t =
+pub same-user-word : (g : UserWord) → userTag g < userTag (spare 0) → (w v : UserWord → ℕ) → w g ≡ v g → (f : UserWord) → T (userWordIs g f) → w f ≡ v f
+same-user-word g h w v e f t =
     let q : userTag f ≡ userTag g = eqb→eq (userTag f) (userTag g) t in
     let z : f ≡ g = user-word-same f g q (single-user-index f (omega arith) ∙ sym (single-user-index g h)) in
     subst (λ (k : UserWord). w k ≡ v k) (sym z) e
@@ -96,7 +96,7 @@ module _ (w v : EntityWord → ℕ) where
 
   -- The places and their number.
   pub content-same : (w used ≡ v used) × ((i : ℕ) → w (place i) ≡ v (place i)) → (f : EntityWord) → T (contentWord f) → w f ≡ v f
-  content-same e f t = cases (one-of (wordOrRow used f) (wordOrRow (place 0) f) t) (word-same used (omega arith) w v (e .0) f)
+  content-same e f t = cases (one-of (wordOrRow used f) (wordOrRow (place 0) f) t) (same-word used (omega arith) w v (e .0) f)
       (row-same place (λ i. (refl, refl)) w v (e .1) f)
 
   -- Also what is shown.
@@ -115,17 +115,19 @@ pub at-user : (a b : Tables) (u : ℕ) (words : UserWord → Bool) → ((f : Use
 at-user a b u words h x f t =
     subst (λ (y : ℕ). a .user y f ≡ b .user y f) (sym (eqb→eq x u (T-l (eqb x u) (words f) t))) (h f (T-r (eqb x u) (words f) t))
 
+-- Lists of first values that are the same have the same number of them.
+pub same-number : (n m : ℕ) (r q : ℕ → ℕ) → firstValues n r ≡ firstValues m q → n ≡ m
+same-number n m r q e = sym (values-length n r) ∙ ap (λ (l : List ℕ). length l) e ∙ values-length m q
+
 -- Two packed rows with one list are one row.
 pub packed-same : (n m : ℕ) (r q : ℕ → ℕ) → Packed r n → Packed q m → firstValues n r ≡ firstValues m q → (n ≡ m) × ((i : ℕ) → r i ≡ q i)
-packed-same n m r q x y e = (
-  number,
-  λ i. cases (lt-or-le i n)
-      (λ l. values-each n r q (e ∙ ap (λ (k : ℕ). firstValues k q) (sym number)) i l)
-      (λ l. x .rest i l ∙ sym (y .rest i (omega (arith, number)))),
-)
-  where
-    number : n ≡ m
-    number = sym (values-length n r) ∙ ap (λ (l : List ℕ). length l) e ∙ values-length m q
+packed-same n m r q x y e =
+    let number = same-number n m r q e in (
+      number,
+      λ i. cases (lt-or-le i n)
+          (λ l. values-each n r q (e ∙ ap (λ (k : ℕ). firstValues k q) (sym number)) i l)
+          (λ l. x .rest i l ∙ sym (y .rest i (omega (arith, number)))),
+    )
 
 module _ (a b : Tables) (p : WellFormed a) (q : WellFormed b) (x : ℕ) where
   -- So in well-formed tables a record is known by its list of contents,

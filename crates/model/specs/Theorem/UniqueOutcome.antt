@@ -1,13 +1,12 @@
 -- The rules leave no choice: no two tables are both the outcome of one allowed operation. So the effect of each is the only tables that
 -- section 3, its rule in section 6 and rule 8.4 allow, and a reader needs no definition of an effect.
 use mathlib.Core.Bool.{Bool, _&&_, _||_, false, true}
-use mathlib.Core.List.{List, List·Memᴰ}
+use mathlib.Core.List.{List·Memᴰ}
 use mathlib.Core.Logic.{_≢_, _⊎_, inl, inr}
 use mathlib.Core.Path.{_∙_, _≡_, ap, sym}
 use Prim.Native.Nat.{_<_, _≤_, ℕ}
 use native.Mathlib.Omega.{arith}
 use lib.Dec.{T, eqb}
-use lib.ListN.{length}
 use Rattle.model.specs.Basics.Cases.{cases, lt-or-le}
 use Rattle.model.specs.Basics.Choice.{Same, it, other, same}
 use Rattle.model.specs.Request.Allowed.{Allowed}
@@ -22,25 +21,23 @@ use Rattle.model.specs.Tables.Words.{EntityWord, Tables, UserWord, autho
 use Rattle.model.specs.Tables.Words.{maximum, missed, place, places, present, releaser, spare, sums, tag, triple, type, usedPlaces}
 use Rattle.model.specs.Tables.Words.{userTag, value}
 use Rattle.model.specs.Tables.WordsOf.{firstValues}
-use Rattle.model.specs.Tables.WordsOfLaws.{values-length}
 use Rattle.model.specs.Theorem.Done.{Emptied, Outcome}
 use Rattle.model.specs.Theorem.DoneLaws.{effect-done}
 use Rattle.model.specs.Theorem.Framed.{framed}
 use Rattle.model.specs.Theorem.Kept.{effect-good}
 use Rattle.model.specs.Theorem.MayChange.{screenWord, userWordIs, wordOrRow}
-use Rattle.model.specs.Theorem.SameWords.{access-same, at-entity, at-user, contents-same, frame-same, one-of, screen-same}
-use Rattle.model.specs.Theorem.SameWords.{triples-same, user-word-same-in, word-same}
+use Rattle.model.specs.Theorem.SameWords.{access-same, at-entity, at-user, contents-same, frame-same, one-of, same-number}
+use Rattle.model.specs.Theorem.SameWords.{same-user-word, same-word, screen-same, triples-same}
 use Rattle.model.specs.Theorem.UniquePlaces.{create-unique, delete-unique, move-unique}
-use Rattle.model.specs.Request.Refusals as refusal
 
 -- One word of an entity, or of a user, that both tables have the same.
 entity-word : (a b : Tables) (e : ℕ) (g : EntityWord) → tag g < tag (place 0) → a .entity e g ≡ b .entity e g → (x : ℕ) (f : EntityWord)
     → T (eqb x e && wordOrRow g f) → a .entity x f ≡ b .entity x f
-entity-word a b e g h q = at-entity a b e (wordOrRow g) (word-same g h (a .entity e) (b .entity e) q)
+entity-word a b e g h q = at-entity a b e (wordOrRow g) (same-word g h (a .entity e) (b .entity e) q)
 
 user-word : (a b : Tables) (u : ℕ) (g : UserWord) → userTag g < userTag (spare 0) → a .user u g ≡ b .user u g → (x : ℕ) (f : UserWord)
     → T (eqb x u && userWordIs g f) → a .user x f ≡ b .user x f
-user-word a b u g h q = at-user a b u (userWordIs g) (user-word-same-in g h (a .user u) (b .user u) q)
+user-word a b u g h q = at-user a b u (userWordIs g) (same-user-word g h (a .user u) (b .user u) q)
 
 -- a number is another or is not
 is-or-not : (x e : ℕ) → (x ≡ e) ⊎ (x ≢ e)
@@ -50,11 +47,8 @@ is-or-not x e = go (eqb x e) (same x e)
     go true (it q) = inl q
     go false (other q) = inr q
 
--- lists of first values that are the same are of the same number
-same-number : (n m : ℕ) (r q : ℕ → ℕ) → firstValues n r ≡ firstValues m q → n ≡ m
-same-number n m r q e = sym (values-length n r) ∙ ap (λ (l : List ℕ). length l) e ∙ values-length m q
-
 module _ (s : Asked) (d a b : Tables) where
+  -- the triples of both are one list
   grant-unique : Outcome toGrant s d a → Outcome toGrant s d b → a ≡ b
   grant-unique p q = frame-same toGrant s d a b (p .framed) (q .framed) (λ x f t. absurd t)
       (at-entity a b e (wordOrRow (triple 0))
@@ -122,8 +116,8 @@ module _ (s : Asked) (d a b : Tables) where
   logout-unique : Outcome toLogout s d a → Outcome toLogout s d b → a ≡ b
   logout-unique p q = frame-same toLogout s d a b (p .framed) (q .framed)
       (at-user a b u (λ f. userWordIs device f || userWordIs current f) (λ f t. cases (one-of (userWordIs device f) (userWordIs current f) t)
-      (user-word-same-in device (omega arith) (a .user u) (b .user u) (p .done .off ∙ sym (q .done .off)) f)
-      (user-word-same-in current (omega arith) (a .user u) (b .user u) (p .done .noRoles ∙ sym (q .done .noRoles)) f)))
+      (same-user-word device (omega arith) (a .user u) (b .user u) (p .done .off ∙ sym (q .done .off)) f)
+      (same-user-word current (omega arith) (a .user u) (b .user u) (p .done .noRoles ∙ sym (q .done .noRoles)) f)))
       (emptied-same (p .done .screen) (q .done .screen))
     where
       u : ℕ
@@ -132,8 +126,8 @@ module _ (s : Asked) (d a b : Tables) where
   release-unique : Outcome toRelease s d a → Outcome toRelease s d b → a ≡ b
   release-unique p q = frame-same toRelease s d a b (p .framed) (q .framed) (λ x f t. absurd t)
       (at-entity a b e (λ f. wordOrRow type f || wordOrRow releaser f) (λ f t. cases (one-of (wordOrRow type f) (wordOrRow releaser f) t)
-      (word-same type (omega arith) (a .entity e) (b .entity e) (p .done .released ∙ sym (q .done .released)) f)
-      (word-same releaser (omega arith) (a .entity e) (b .entity e) (p .done .by ∙ sym (q .done .by)) f)))
+      (same-word type (omega arith) (a .entity e) (b .entity e) (p .done .released ∙ sym (q .done .released)) f)
+      (same-word releaser (omega arith) (a .entity e) (b .entity e) (p .done .by ∙ sym (q .done .by)) f)))
     where
       e : ℕ
       e = s .first
@@ -142,10 +136,10 @@ module _ (s : Asked) (d a b : Tables) where
   acknowledge-unique p q = frame-same toAcknowledge s d a b (p .framed) (q .framed)
       (at-user a b u (λ f. userWordIs held f || (userWordIs heldOp f || userWordIs missed f)) (λ f t.
       cases (one-of (userWordIs held f) (userWordIs heldOp f || userWordIs missed f) t)
-      (user-word-same-in held (omega arith) (a .user u) (b .user u) (p .done .noRefusal ∙ sym (q .done .noRefusal)) f)
+      (same-user-word held (omega arith) (a .user u) (b .user u) (p .done .noRefusal ∙ sym (q .done .noRefusal)) f)
       (λ t₁. cases (one-of (userWordIs heldOp f) (userWordIs missed f) t₁)
-      (user-word-same-in heldOp (omega arith) (a .user u) (b .user u) (p .done .noOperation ∙ sym (q .done .noOperation)) f)
-      (user-word-same-in missed (omega arith) (a .user u) (b .user u) (p .done .noneMissed ∙ sym (q .done .noneMissed)) f))))
+      (same-user-word heldOp (omega arith) (a .user u) (b .user u) (p .done .noOperation ∙ sym (q .done .noOperation)) f)
+      (same-user-word missed (omega arith) (a .user u) (b .user u) (p .done .noneMissed ∙ sym (q .done .noneMissed)) f))))
       (λ x f t. absurd t)
     where
       u : ℕ

@@ -23,7 +23,7 @@ use Rattle.model.specs.Tables.Words.{plainType, triple, triples, type, u
 use Rattle.model.specs.Theorem.Done.{HasCreated, Outcome, containerSort}
 use Rattle.model.specs.Theorem.DonePlaces.{vacant-lowest}
 use Rattle.model.specs.Theorem.MayChange.{contentWord, holder, wordOrRow}
-use Rattle.model.specs.Theorem.SameWords.{at-entity, content-same, contents-same, frame-same, one-of, triples-same, word-same}
+use Rattle.model.specs.Theorem.SameWords.{at-entity, content-same, contents-same, frame-same, one-of, same-word, triples-same}
 
 -- Of the numbers from 1 on that are absent, one is the lowest.
 lowest-one : (d : Tables) (n m : ℕ) → 1 ≤ n → 1 ≤ m → kinds d n ≡ absentKind → kinds d m ≡ absentKind
@@ -44,7 +44,7 @@ module _ (s : Asked) (d : Tables) where
       (λ m. (containerKind, draftType, λ a c. c .draft (omega (arith, h)))))
 
   -- The new number is the one that the frame leaves open.
-  new-number : MayCreate s d → (a : Tables) (c : HasCreated s d a) → c .new ≡ vacant d
+  pub new-number : MayCreate s d → (a : Tables) (c : HasCreated s d a) → c .new ≡ vacant d
   new-number may a c = lowest-one d (c .new) (vacant d) (c .low) (omega arith) (c .absent) (vacant-absent d (may .number)) (c .lowest) (vacant-lowest d)
 
 module _ (s : Asked) (d a b : Tables) where
@@ -79,11 +79,11 @@ module _ (s : Asked) (d a b : Tables) where
       new-same f t =
           let z = sort-fixes s d (may .sort) in
           cases (one-of (wordOrRow kind f) (wordOrRow type f || (wordOrRow level f || wordOrRow (triple 0) f)) t)
-          (word-same kind (omega arith) (a .entity e) (b .entity e) (both kind (z .0) (z .2 a (p .done) .0) (z .2 b (q .done) .0)) f)
+          (same-word kind (omega arith) (a .entity e) (b .entity e) (both kind (z .0) (z .2 a (p .done) .0) (z .2 b (q .done) .0)) f)
           (λ t₁. cases (one-of (wordOrRow type f) (wordOrRow level f || wordOrRow (triple 0) f) t₁)
-          (word-same type (omega arith) (a .entity e) (b .entity e) (both type (z .1) (z .2 a (p .done) .1) (z .2 b (q .done) .1)) f)
+          (same-word type (omega arith) (a .entity e) (b .entity e) (both type (z .1) (z .2 a (p .done) .1) (z .2 b (q .done) .1)) f)
           (λ t₂. cases (one-of (wordOrRow level f) (wordOrRow (triple 0) f) t₂)
-          (word-same level (omega arith) (a .entity e) (b .entity e) (both level (s .b) (p .done .levelled) (q .done .levelled)) f)
+          (same-word level (omega arith) (a .entity e) (b .entity e) (both level (s .b) (p .done .levelled) (q .done .levelled)) f)
           (triples-same (a .entity e) (b .entity e) (λ i. both (triple i) (triples d c i) (p .done .access i) (q .done .access i)) f)))
 
   -- a container that e stood in
