@@ -1,2 +1,5 @@
 -- What the public calls answer on the case states.
+pub mod Called
+pub mod CalledLaws
+pub mod S1Called
 pub mod Listed
