@@ -1,5 +1,5 @@
--- The rows of a record read as lists: what stands in its used places, what is shown of each, and its access triples; and how such a list is
--- shortened by one entry. Nothing here says how a row is edited.
+-- Document 01, "The tables"; rule 2.3: the rows of a record read as lists: what stands in its used places, what is shown of each, and its access
+-- triples; and how such a list is shortened by one entry. Nothing here says how a row is edited.
 use mathlib.Core.List.{List, List·Memᴰ, [], _++_, _∷_}
 use mathlib.Core.Path.{_≡_}
 use Prim.Native.Nat.{suc, zero, ℕ}
