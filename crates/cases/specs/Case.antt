@@ -8,6 +8,7 @@ pub mod S1List
 pub mod S1Script
 pub mod Condemned
 pub mod CondemnedFlows
+pub mod Overreach
 pub mod CondemnedLists
 pub mod CondemnedRuns
 pub mod Damaged
