@@ -10,12 +10,13 @@ use lib.Dec.{T, eqb}
 use Rattle.ladder.specs.ClimbLaws.{passed-all, passed-hit, passed-more}
 use Rattle.ladder.specs.Contract.{First, Judged, Passed, Second, Taking}
 use Rattle.laws.specs.Bools.{either, joined}
+use Rattle.model.specs.Basics.Choice.{pick}
 use Rattle.model.specs.Basics.TestLaws.{T-l, T-r, only}
 use Rattle.model.specs.Basics.Tests.{every}
 use Rattle.model.specs.Request.AfterLaws.{effect-by}
 use Rattle.model.specs.Request.Asked.{Asked, asked, operand}
 use Rattle.model.specs.Request.Conditions.{Kind}
-use Rattle.model.specs.Request.Ladder.{answer, applies, ladder, never, ownRung, refused, rungAt, someOperand, wrongKind}
+use Rattle.model.specs.Request.Ladder.{answer, anyOf, applies, ladder, never, ofNumber, ownRung, refused, rungAt, someOperand, wrongKind}
 use Rattle.model.specs.Request.LadderLaws.{ofOp-some}
 use Rattle.model.specs.Request.Operations.{Op, Refusal, refuse, rowOf}
 use Rattle.model.specs.Request.Words.{Request, requestOf}
@@ -47,7 +48,7 @@ unfolding free refused
 free-refused n [] d s f = refl
 free-refused n (refuse k c ∷ cs) d s f = go (eqb k n) f (free-refused n cs d s)
   where
-    go : (b : Bool) → T (not b && free n cs) → (T (free n cs) → refused n cs d s ≡ false) → elim b [ true ↦ c d s | false ↦ refused n cs d s ] ≡ false
+    go : (b : Bool) → T (not b && free n cs) → (T (free n cs) → refused n cs d s ≡ false) → anyOf (pick b (c ∷ ofNumber n cs) (ofNumber n cs)) d s ≡ false
     go true f ih = absurd f
     go false f ih = ih f
 

@@ -1,6 +1,7 @@
 -- What is asked, what it is answered, and what it leaves.
 pub mod Words
 pub mod Refusals
+pub mod RefusedLaws
 pub mod Reference
 pub mod Asked
 pub mod Conditions
