@@ -1,7 +1,6 @@
 -- What is asked, what it is answered, and what it leaves.
 pub mod Words
 pub mod Refusals
-pub mod RefusedLaws
 pub mod Reference
 pub mod Asked
 pub mod Conditions
@@ -15,8 +14,13 @@ pub mod Applies
 pub mod ReferenceLaws
 pub mod OperationLaws
 pub mod LadderLaws
+pub mod RefusedLaws
 pub mod TestLaws
 pub mod ConditionLaws
 pub mod FitLaws
 pub mod AfterLaws
 pub mod RungLaws
+pub mod AppliesLaws
+pub mod RoomLaws
+pub mod OwnTestLaws
+pub mod OwnLaws

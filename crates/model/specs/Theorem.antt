@@ -24,3 +24,4 @@ pub mod Unchanged
 pub mod Notices
 pub mod Steps
 pub mod Unique
+pub mod Stated
