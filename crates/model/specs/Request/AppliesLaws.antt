@@ -26,7 +26,7 @@ use Rattle.model.specs.Request.OperationLaws.{wantsDevice-agrees}
 use Rattle.model.specs.Request.Operations.{Op, numberOf, openLoggedOff, rowOf, toAcknowledge, toAuthorised, toClear, toClearance}
 use Rattle.model.specs.Request.Operations.{toCopy, toCreate, toCurrent, toDelete, toDeviceLevel, toEdit, toGrant, toLevel, toLogin}
 use Rattle.model.specs.Request.Operations.{toLogout, toMark, toMaximum, toMove, toRelease, toRevoke, toShow}
-use Rattle.model.specs.Request.Reference.{Leads, resolve}
+use Rattle.model.specs.Request.Reference.{Leads, basis, resolve}
 use Rattle.model.specs.Request.ReferenceLaws.{leads-present, leads-resolve, resolve-leads}
 use Rattle.model.specs.Request.RungLaws.{notUnderstood-fails, wrongKind-fails}
 use Rattle.model.specs.Request.TestLaws.{permits-agrees}
@@ -40,6 +40,30 @@ nowhere-agrees d w ns = agrees-as (λ e way x l. omega (arith, leads-resolve l .
   where
     nowhere : ((way : List ℕ) (x : ℕ) → Leads d ns way x → ⊥) → resolve d ns ≡ 0
     nowhere f = let h : ¬ (1 ≤ resolve d ns) = λ l. f _ _ (resolve-leads d ns (λ e. omega arith)) in omega arith
+
+-- Rule 5.3: an operand and its way are where its reference leads and by which entities,
+pub operand-leads : (d : Tables) (q : Request) (k : ℕ) → operand (asked d q) k ≢ 0
+    → Leads d (names (reference q k)) (basisOf (asked d q) k) (operand (asked d q) k)
+unfolding asked
+operand-leads d q k = go (eqb k 1)
+  where
+    go : (b : Bool) → _≢_ {A = ℕ} (pick b (resolve d (names (q .first))) (resolve d (names (q .second)))) 0
+        → Leads d (names (pick b (q .first) (q .second))) (pick b (basis d (names (q .first))) (basis d (names (q .second))))
+        (pick b (resolve d (names (q .first))) (resolve d (names (q .second))))
+    go true h = resolve-leads d (names (q .first)) h
+    go false h = resolve-leads d (names (q .second)) h
+
+-- and a reference leads nowhere else, and by no other way.
+pub leads-operand : (d : Tables) (q : Request) (k x : ℕ) (way : List ℕ) → Leads d (names (reference q k)) way x
+    → (operand (asked d q) k ≡ x) × (basisOf (asked d q) k ≡ way)
+unfolding asked
+leads-operand d q k x way = go (eqb k 1)
+  where
+    go : (b : Bool) → Leads d (names (pick b (q .first) (q .second))) way x
+        → (pick b (resolve d (names (q .first))) (resolve d (names (q .second))) ≡ x)
+        × (pick b (basis d (names (q .first))) (basis d (names (q .second))) ≡ way)
+    go true l = leads-resolve l
+    go false l = leads-resolve l
 
 -- an entity of the way w is marked, and its level is not at most l
 Barred : Tables → ℕ → List ℕ → Type 0

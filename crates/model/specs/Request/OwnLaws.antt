@@ -70,34 +70,34 @@ module _ (d : Tables) (s : Asked) where
       (clearance-wellFormed d (h .wellFormed) (s .a) (s .b) (userAbsent-fails d s .to n) (h .arguments .1 .0)))
 
   -- Each refusal of each row is stated (rules 6.1 to 6.20).
-  stated : (o : Op) → Suited o s d → AllRefusals (rowOf o .conditions) (λ n c. Spoken n o s d → T (c d s) → Own s d o n)
+  refusal-stated : (o : Op) → Suited o s d → AllRefusals (rowOf o .conditions) (λ n c. Spoken n o s d → T (c d s) → Own s d o n)
   unfolding refused
-  stated toCreate h = (λ b t. createAbove (fails-agrees (createAbove-fails d s) .to t), (λ b t. room (createNoRoom-agrees d s (h .wellFormed) .to t), tt))
+  refusal-stated toCreate h = (λ b t. createAbove (fails-agrees (createAbove-fails d s) .to t), (λ b t. room (createNoRoom-agrees d s (h .wellFormed) .to t), tt))
     where
       room : ((e : ℕ) → 1 ≤ e → e ≤ entityCount → kinds d e ≢ absentKind) ⊎ Full (places d (s .first)) → Own s d toCreate refusal.noRoom
       room (inl f) = createNumber f
       room (inr f) = createPlace f
-  stated toDelete h = (λ b t. kept (deleteForbidden-agrees d s (h .wellFormed) .to t), tt)
+  refusal-stated toDelete h = (λ b t. kept (deleteForbidden-agrees d s (h .wellFormed) .to t), tt)
     where
       kept : ((c : ℕ) × Holds d (s .first) c) ⊎ (((v : ℕ) × Screen (kinds d v) × Holds d v (s .first)) ⊎ (d .entity (s .first) type ≡ releasedType))
           → Own s d toDelete refusal.arrangement
       kept (inl z) = deleteFilled (z .0) (z .1)
       kept (inr (inl z)) = deleteShown (z .0) (z .1) (z .2)
       kept (inr (inr e)) = deleteReleased e
-  stated toMove h = (
+  refusal-stated toMove h = (
     λ b t. moveAbove (fails-agrees (firstAbove-fails d s) .to t),
     (λ b t. moveFull (moveNoRoom-agrees d s (h .wellFormed) (second-box h) .to t), (λ b t. moveInside (moveInside-agrees d s (h .wellFormed) .to t), tt)),
   )
-  stated toEdit h = tt
-  stated toCopy h = (λ b t. copyAbove (fails-agrees (firstAbove-fails d s) .to t), tt)
-  stated toLevel h = (
+  refusal-stated toEdit h = tt
+  refusal-stated toCopy h = (λ b t. copyAbove (fails-agrees (firstAbove-fails d s) .to t), tt)
+  refusal-stated toLevel h = (
     λ b t. let z = levelLowered-agrees d s .to t in levelLowered (z .0) (z .1),
     (λ b t. levelInsecure (level-agrees h .to t), tt),
   )
-  stated toMark h = tt
-  stated toGrant h = (λ b t. grantFull (grantNoRoom-agrees d s .to t), tt)
-  stated toRevoke h = tt
-  stated toShow h = (
+  refusal-stated toMark h = tt
+  refusal-stated toGrant h = (λ b t. grantFull (grantNoRoom-agrees d s .to t), tt)
+  refusal-stated toRevoke h = tt
+  refusal-stated toShow h = (
     λ b t. above (showAbove-agrees d s .to t),
     (
       λ b t. showFull (showNoRoom-agrees d s (h .wellFormed) .to t),
@@ -109,14 +109,14 @@ module _ (d : Tables) (s : Asked) where
           → Own s d toShow refusal.levelOrRoles
       above (inl f) = showUncleared f
       above (inr f) = showAbove f
-  stated toClear h = tt
-  stated toLogin h = (λ b t. taken (loginTaken-agrees d s (h .wellFormed) (terminal h) .to t), tt)
+  refusal-stated toClear h = tt
+  refusal-stated toLogin h = (λ b t. taken (loginTaken-agrees d s (h .wellFormed) (terminal h) .to t), tt)
     where
       taken : (own d s ≢ 0) ⊎ ((u : ℕ) × (devices d u ≡ s .first)) → Own s d toLogin refusal.arrangement
       taken (inl n) = loginOn n
       taken (inr z) = loginTaken (z .0) (z .1)
-  stated toLogout h = tt
-  stated toCurrent h = (
+  refusal-stated toLogout h = tt
+  refusal-stated toCurrent h = (
     λ b t. off (rolesOff-agrees d s .to t),
     (
       λ b t. let z = rolesOfAnother-agrees d s .to t in currentAnothers (z .0) (z .1),
@@ -127,30 +127,30 @@ module _ (d : Tables) (s : Asked) where
       off : (d .user (s .a) present ≡ 0) ⊎ ((devices d (s .a) ≡ 0) × (s .b ≢ 0)) → Own s d toCurrent refusal.noSuchUser
       off (inl e) = currentAbsent e
       off (inr z) = currentOff (z .0) (z .1)
-  stated toClearance h = (
+  refusal-stated toClearance h = (
     λ b t. clearanceAbsent (userAbsent-agrees d s .to t),
     (
       λ b t. clearanceRole (lacks-agrees d s officer .to t),
       (λ b t. clearanceInsecure (clearance-agrees h (b (lit< tt)) .to t), tt),
     ),
   )
-  stated toAuthorised h = (
+  refusal-stated toAuthorised h = (
     λ b t. authorisedAbsent (userAbsent-agrees d s .to t),
     (
       λ b t. authorisedRole (lacks-agrees d s officer .to t),
       (λ b t. authorisedOutside (fails-agrees (currentOutside-fails d s) .to t), tt),
     ),
   )
-  stated toMaximum h = (
+  refusal-stated toMaximum h = (
     λ b t. maximumRole (lacks-agrees d s officer .to t),
     (λ b t. maximumAbove (fails-agrees (deviceAbove-fails d s) .to t), tt),
   )
-  stated toDeviceLevel h = (
+  refusal-stated toDeviceLevel h = (
     λ b t. let z = deviceLowered-agrees d s .to t in deviceLowered (z .0) (z .1 .0) (z .1 .1),
     (λ b t. deviceInsecure (device-level-agrees h .to t), tt),
   )
-  stated toRelease h = (λ b t. releaseRole (lacks-agrees d s releasing .to t), tt)
-  stated toAcknowledge h = (λ b t. missing (notAcknowledged-agrees d s .to t), tt)
+  refusal-stated toRelease h = (λ b t. releaseRole (lacks-agrees d s releasing .to t), tt)
+  refusal-stated toAcknowledge h = (λ b t. missing (notAcknowledged-agrees d s .to t), tt)
     where
       missing : (d .user (s .user) held ≡ 0) ⊎ ((s .a ≢ d .user (s .user) held) ⊎ (s .b ≢ d .user (s .user) missed))
           → Own s d toAcknowledge refusal.notAcknowledged
@@ -215,6 +215,6 @@ module _ (d : Tables) (s : Asked) where
   pub own-agrees : (o : Op) (n : ℕ) → Suited o s d → Spoken n o s d → Agrees (refused n (rowOf o .conditions) d s) (Own s d o n)
   unfolding Earned
   own-agrees o n h b = record {
-    to = λ t. let z = refused-of n (rowOf o .conditions) d s (λ n c. Spoken n o s d → T (c d s) → Own s d o n) (stated o h) t in z .1 b (z .2);
+    to = λ t. let z = refused-of n (rowOf o .conditions) d s (λ n c. Spoken n o s d → T (c d s) → Own s d o n) (refusal-stated o h) t in z .1 b (z .2);
     from = λ z. earned z .2 h b;
   }

@@ -81,9 +81,9 @@ module _ (d : Tables) (b : Bounded d) (q : Request) where
       ownRefusal (z .0) (z .1) (own-agrees d (asked d q) (z .0) n (suited n r h (z .0) (z .1)) (spoken n r (z .0) (z .1)) .to (z .2))
 
   -- Each rung that is reached and applies is stated,
-  each-stated : AllRungs 0 (never ∷ never ∷ ladder) (λ n rung. Reaches n d q → T (rung d q) → Applies d q n)
+  rung-stated : AllRungs 0 (never ∷ never ∷ ladder) (λ n rung. Reaches n d q → T (rung d q) → Applies d q n)
   unfolding applies rungAt ladder never
-  each-stated =
+  rung-stated =
       let Stated : ℕ → Type 0 = λ n. Reaches n d q → T (applies n d q) → Applies d q n in
       let s0 : Stated refusal.accepted = λ r t. absurd t in
       let s1 : Stated refusal.badLength = λ r t. absurd t in
@@ -106,36 +106,36 @@ module _ (d : Tables) (b : Bounded d) (q : Request) where
       let s16 = own-stated refusal.notAcknowledged (lit< tt) in
       (s0, (s1, (s2, (s3, (s4, (s5, (s6, (s7, (s8, (s9, (s10, (s11, (s12, (s13, (s14, (s15, (s16, tt)))))))))))))))))
 
-  stated : (n : ℕ) → Reaches n d q → T (applies n d q) → Applies d q n
+  applied-stated : (n : ℕ) → Reaches n d q → T (applies n d q) → Applies d q n
   unfolding applies
-  stated n r t =
+  applied-stated n r t =
       let e : 0 + n ≡ n = omega arith in
-      rw e at (rung-at 0 n (never ∷ never ∷ ladder) (λ n rung. Reaches n d q → T (rung d q) → Applies d q n) d q each-stated t) r t
+      rw e at (rung-at 0 n (never ∷ never ∷ ladder) (λ n rung. Reaches n d q → T (rung d q) → Applies d q n) d q rung-stated t) r t
 
-  own-applying : (n : ℕ) → Reaches n d q → (o : Op) → Names q o → Own (asked d q) d o n → T (applies n d q)
+  own-applied : (n : ℕ) → Reaches n d q → (o : Op) → Names q o → Own (asked d q) d o n → T (applies n d q)
   unfolding ownRung
-  own-applying n r o e z =
+  own-applied n r o e z =
       let i = own-number d (asked d q) z in
       let t = own-agrees d (asked d q) o n (suited n r (omega arith) o e) (spoken n r o e) .from z in
       subst T (sym (own-rung n (i .0) (i .1) d q)) (ofOp-agrees q (λ o. refused n (rowOf o .conditions) d (asked d q)) .from (o, e, t))
 
   -- and each that is reached and stated applies.
-  applying : {n : ℕ} → Reaches n d q → Applies d q n → T (applies n d q)
+  stated-applied : {n : ℕ} → Reaches n d q → Applies d q n → T (applies n d q)
   unfolding applies rungAt ladder
-  applying r (notWellFormed f) = fails-agrees (notWellFormed-fails d q b) .from f
-  applying r (notSecure f) = fails-agrees (notSecure-fails d q (well refusal.notSecure r (lit< tt))) .from f
-  applying r (unknownRequester f) = fails-agrees (unknownUser-fails d q) .from f
-  applying r (badRequest f) = notUnderstood-agrees d q .from f
-  applying r (notLoggedOn o e w z) = notLoggedOn-agrees d q .from (o, e, w, z)
-  applying r (noSuchName o k e i f) = leadsNowhere-agrees d q (well refusal.noSuchName r (lit< tt)) .from (o, k, e, i, f)
-  applying r (noAccess o k e i f) = noAccess-agrees d q .from (o, k, e, i, f)
-  applying r (marked o k y e i m n f) = notCleared-agrees d q .from (o, k, e, i, (y, m, n, f))
-  applying r (wrongKind o k e i f) = wrongKind-agrees d q .from (o, k, e, i, f)
-  applying {n} r (ownRefusal o e z) = own-applying n r o e z
+  stated-applied r (notWellFormed f) = fails-agrees (notWellFormed-fails d q b) .from f
+  stated-applied r (notSecure f) = fails-agrees (notSecure-fails d q (well refusal.notSecure r (lit< tt))) .from f
+  stated-applied r (unknownRequester f) = fails-agrees (unknownUser-fails d q) .from f
+  stated-applied r (badRequest f) = notUnderstood-agrees d q .from f
+  stated-applied r (notLoggedOn o e w z) = notLoggedOn-agrees d q .from (o, e, w, z)
+  stated-applied r (noSuchName o k e i f) = leadsNowhere-agrees d q (well refusal.noSuchName r (lit< tt)) .from (o, k, e, i, f)
+  stated-applied r (noAccess o k e i f) = noAccess-agrees d q .from (o, k, e, i, f)
+  stated-applied r (marked o k y e i m n f) = notCleared-agrees d q .from (o, k, e, i, (y, m, n, f))
+  stated-applied r (wrongKind o k e i f) = wrongKind-agrees d q .from (o, k, e, i, f)
+  stated-applied {n} r (ownRefusal o e z) = own-applied n r o e z
 
   -- Rules 7.2 to 7.16: a rung that is reached applies exactly where its refusal does.
   pub rung-agrees : (n : ℕ) → Reaches n d q → Agrees (applies n d q) (Applies d q n)
-  rung-agrees n r = record { to = stated n r; from = applying r }
+  rung-agrees n r = record { to = applied-stated n r; from = stated-applied r }
 
   -- Rule 7.0: the answer is the lowest refusal that applies.
   answer-lowest : Lowest (Applies d q) (answer d q)
@@ -149,7 +149,7 @@ module _ (d : Tables) (b : Bounded d) (q : Request) where
       go (suc n) i = lowest (rung-agrees (suc n) (i .below) .to (is-true _ (i .applied (λ e. omega arith))))
           (λ m l z. no m (λ k h. i .below k (omega arith)) (i .below m l) z)
 
--- There is one lowest number, or none.
+-- There is one such number at most.
 pub lowest-unique : {P : ℕ → Type 0} {m n : ℕ} → Lowest P m → Lowest P n → m ≡ n
 lowest-unique (lowest {n = m} p f) (lowest {n = n} q g) =
     let h : ¬ (m < n) = λ l. g m l p in
@@ -163,7 +163,8 @@ lowest-unique (none f) (none g) = refl
 lowest-exactly : {P : ℕ → Type 0} {m : ℕ} → Lowest P m → (n : ℕ) → (m ≡ n) ↔ Lowest P n
 lowest-exactly {P} z n = (λ e. subst (Lowest P) e z, λ y. lowest-unique z y)
 
--- Rule 7.0: of any tables and any request the answer is n exactly where n is the lowest number whose refusal applies, or 0 and none does.
+-- Rule 7.0: of tables with nothing outside their records, and of any request, the answer is n exactly where n is the lowest number whose refusal
+-- applies, or is 0 and none does.
 pub answer-stated : (d : Tables) → Bounded d → (q : Request) (n : ℕ) → (answer d q ≡ n) ↔ Lowest (Applies d q) n
 answer-stated d b q n = lowest-exactly (answer-lowest d b q) n
 
