@@ -12,7 +12,7 @@ use borrow.Author.Tests.{eq-eqb, eqb-true, not-false}
 use Rattle.ladder.specs.Path.{arityOf}
 use Rattle.laws.specs.Bools.{clash}
 use Rattle.model.specs.Basics.Choice.{Same, it, other, same}
-use Rattle.model.specs.Request.Allowed.{arity}
+use Rattle.model.specs.Request.Form.{taken}
 use Rattle.model.specs.Request.Ladder.{fits, ofOp}
 use Rattle.model.specs.Request.LadderLaws.{ofOp-some}
 use Rattle.model.specs.Request.OperationLaws.{number-opOf}
@@ -81,20 +81,20 @@ pub none-other : (p : Op → Bool) (q : Request) (o : Op) → opOf (q .operation
 unfolding opOf
 none-other p q o e r = none-chosen Unit p operations (q .operation) o e r
 
-pub one-over : (q : Request) → ofOp q (λ o. true) ≡ true → NoneOf (numbersOf (λ o. not (eqb (arity o) 1)) operations) (q .operation) → arityOf q ≡ 1
+pub one-over : (q : Request) → ofOp q (λ o. true) ≡ true → NoneOf (numbersOf (λ o. not (eqb (taken o) 1)) operations) (q .operation) → arityOf q ≡ 1
 unfolding ofOp arityOf
 one-over q h r = go (opOf (q .operation)) refl h
   where
     go : (m : Option Op) → opOf (q .operation) ≡ m → elim m [ none ↦ false | some o ↦ true ] ≡ true
-        → _≡_ {A = ℕ} (elim m [ none ↦ 0 | some o ↦ arity o ]) 1
+        → _≡_ {A = ℕ} (elim m [ none ↦ 0 | some o ↦ taken o ]) 1
     go none e z = clash false z refl
-    go (some o) e z = eqb-true (arity o) 1 (not-false _ (none-other (λ o. not (eqb (arity o) 1)) q o e r))
+    go (some o) e z = eqb-true (taken o) 1 (not-false _ (none-other (λ o. not (eqb (taken o) 1)) q o e r))
 
 -- a request of n operands is for an operation of n operands
-pub of-arity : (q : Request) (n : ℕ) → arityOf q ≡ suc n → ofOp q (λ o. eqb (arity o) (suc n)) ≡ true
+pub of-arity : (q : Request) (n : ℕ) → arityOf q ≡ suc n → ofOp q (λ o. eqb (taken o) (suc n)) ≡ true
 unfolding ofOp arityOf
 of-arity q n h = go (opOf (q .operation)) h
   where
-    go : (m : Option Op) → elim m [ none ↦ 0 | some o ↦ arity o ] ≡ suc n → elim m [ none ↦ false | some o ↦ eqb (arity o) (suc n) ] ≡ true
+    go : (m : Option Op) → elim m [ none ↦ 0 | some o ↦ taken o ] ≡ suc n → elim m [ none ↦ false | some o ↦ eqb (taken o) (suc n) ] ≡ true
     go none z = absurd (omega arith)
-    go (some o) z = eq-eqb (arity o) (suc n) z
+    go (some o) z = eq-eqb (taken o) (suc n) z

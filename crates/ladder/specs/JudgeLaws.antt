@@ -2,40 +2,26 @@
 -- the tables as they were; past the last the request is accepted, with its effect.
 use mathlib.Core.Bool.{Bool, _&&_, _||_, false, not, true}
 use mathlib.Core.List.{List, [], _∷_}
-use mathlib.Core.Option.{some}
 use mathlib.Core.Path.{_∙_, _≡_, ap, refl, sym}
-use Prim.Native.Nat.{_+_, _-_, _<_, _≤_, suc, zero, ℕ}
+use Prim.Native.Nat.{_+_, _<_, _≤_, suc, zero, ℕ}
 use native.Mathlib.Omega.{arith}
 use lib.Dec.{T, eqb}
 use Rattle.ladder.specs.ClimbLaws.{passed-all, passed-hit, passed-more}
 use Rattle.ladder.specs.Contract.{First, Judged, Passed, Second, Taking}
 use Rattle.laws.specs.Bools.{either, joined}
+use Rattle.model.specs.Basics.Choice.{pick}
 use Rattle.model.specs.Basics.TestLaws.{T-l, T-r, only}
 use Rattle.model.specs.Basics.Tests.{every}
 use Rattle.model.specs.Request.AfterLaws.{effect-by}
 use Rattle.model.specs.Request.Asked.{Asked, asked, operand}
 use Rattle.model.specs.Request.Conditions.{Kind}
-use Rattle.model.specs.Request.Ladder.{answer, applies, ladder, never, ownRung, refused, rungAt, someOperand, wrongKind}
-use Rattle.model.specs.Request.LadderLaws.{ofOp-some}
+use Rattle.model.specs.Request.Ladder.{answer, anyOf, applies, ladder, never, ofNumber, ownRung, refused, rungAt, someOperand, wrongKind}
+use Rattle.model.specs.Request.LadderLaws.{ofOp-some, own-rung}
 use Rattle.model.specs.Request.Operations.{Op, Refusal, refuse, rowOf}
-use Rattle.model.specs.Request.Words.{Request, requestOf}
+use Rattle.model.specs.Request.Words.{requestOf}
 use Rattle.model.specs.Tables.Layout.{tablesOf}
 use Rattle.model.specs.Request.Refusals as refusal
 use Rattle.model.specs.Tables.Words.{Tables}
-
--- the rungs of an operation's own conditions
-own-rung : (m : ℕ) → m < 6 → (d : Tables) (q : Request) → applies (refusal.noSuchUser + m) d q ≡ ownRung (refusal.noSuchUser + m) d q
-unfolding applies rungAt never ladder
-own-rung zero h d q = refl
-own-rung (suc zero) h d q = refl
-own-rung (suc (suc zero)) h d q = refl
-own-rung (suc (suc (suc zero))) h d q = refl
-own-rung (suc (suc (suc (suc zero)))) h d q = refl
-own-rung (suc (suc (suc (suc (suc zero))))) h d q = refl
-own-rung (suc (suc (suc (suc (suc (suc m)))))) h d q = absurd (omega arith)
-
-own-at : (n : ℕ) → refusal.wrongKind ≤ n → n < refusal.notAcknowledged → (d : Tables) (q : Request) → applies (suc n) d q ≡ ownRung (suc n) d q
-own-at n l h d q = let e : suc n ≡ refusal.noSuchUser + (n - refusal.wrongKind) = omega arith in rw e (own-rung (n - refusal.wrongKind) (omega arith) d q)
 
 -- no condition of a row has the number n
 unfoldable pub free : ℕ → List Refusal → Bool
@@ -47,7 +33,7 @@ unfolding free refused
 free-refused n [] d s f = refl
 free-refused n (refuse k c ∷ cs) d s f = go (eqb k n) f (free-refused n cs d s)
   where
-    go : (b : Bool) → T (not b && free n cs) → (T (free n cs) → refused n cs d s ≡ false) → elim b [ true ↦ c d s | false ↦ refused n cs d s ] ≡ false
+    go : (b : Bool) → T (not b && free n cs) → (T (free n cs) → refused n cs d s ≡ false) → anyOf (pick b (c ∷ ofNumber n cs) (ofNumber n cs)) d s ≡ false
     go true f ih = absurd f
     go false f ih = ih f
 
@@ -115,7 +101,7 @@ module _ {o : Op} {t q : List ℕ} {u : ℕ} (k : Taking o t q u) where
   own : (n : ℕ) → refusal.wrongKind ≤ n → n < refusal.notAcknowledged
       → applies (suc n) (tablesOf t) (requestOf q) ≡ refused (suc n) (rowOf o .conditions) (tablesOf t) (askedOf t q)
   unfolding ownRung
-  own n l h = own-at n l h (tablesOf t) (requestOf q)
+  own n l h = own-rung (suc n) (omega arith) (omega arith) (tablesOf t) (requestOf q)
       ∙ ofOp-some (requestOf q) o (k .named) (λ p. refused (suc n) (rowOf p .conditions) (tablesOf t) (askedOf t q))
 
   -- the next rung does not apply: it is passed

@@ -13,7 +13,8 @@ use Rattle.ladder.specs.Path.{arityOf}
 use Rattle.laws.specs.Bools.{not-no}
 use Rattle.model.specs.Basics.Agree.{agrees-and, agrees-le}
 use Rattle.model.specs.Basics.TestLaws.{T-l, T-r, is-true}
-use Rattle.model.specs.Request.Allowed.{arity}
+use Rattle.model.specs.Request.FitLaws.{operands-taken}
+use Rattle.model.specs.Request.Form.{taken}
 use Rattle.model.specs.Request.Conditions.{Kind}
 use Rattle.model.specs.Request.Ladder.{applies, fits, ladder, lengthFits, never, notUnderstood, ofOp, rungAt}
 use Rattle.model.specs.Request.OperationLaws.{number-range, opOf-number}
@@ -43,9 +44,9 @@ module _ (d : Tables) (q : Request) (p : Passed refusal.badRequest d q) where
       list [] z t = absurd (omega arith)
       list (x ∷ xs) z t = taken-length (q .first) x xs t
 
-      go : (m : Option Op) → opOf (q .operation) ≡ m → elim m [ none ↦ 0 | some o ↦ arity o ] ≡ suc n → (1 ≤ q .first .length) × (q .first .length ≤ nameCount)
+      go : (m : Option Op) → opOf (q .operation) ≡ m → elim m [ none ↦ 0 | some o ↦ taken o ] ≡ suc n → (1 ≤ q .first .length) × (q .first .length ≤ nameCount)
       go none e z = absurd (omega arith)
-      go (some o) e z = list (rowOf o .operands) z (T-l (lengthFits 0 (rowOf o .operands) (q .first)) _ (fitting d q o p e))
+      go (some o) e z = list (rowOf o .operands) (operands-taken o ∙ z) (T-l (lengthFits 0 (rowOf o .operands) (q .first)) _ (fitting d q o p e))
 
   pub second-length : (n : ℕ) → arityOf q ≡ suc (suc n) → (1 ≤ q .second .length) × (q .second .length ≤ nameCount)
   unfolding arityOf fits lengthFits
@@ -56,10 +57,10 @@ module _ (d : Tables) (q : Request) (p : Passed refusal.badRequest d q) where
       list (x ∷ []) z t = absurd (omega arith)
       list (x ∷ y ∷ xs) z t = taken-length (q .second) y xs t
 
-      go : (m : Option Op) → opOf (q .operation) ≡ m → elim m [ none ↦ 0 | some o ↦ arity o ] ≡ suc (suc n)
+      go : (m : Option Op) → opOf (q .operation) ≡ m → elim m [ none ↦ 0 | some o ↦ taken o ] ≡ suc (suc n)
           → (1 ≤ q .second .length) × (q .second .length ≤ nameCount)
       go none e z = absurd (omega arith)
-      go (some o) e z = list (rowOf o .operands) z (T-l (lengthFits 1 (rowOf o .operands) (q .second)) _
+      go (some o) e z = list (rowOf o .operands) (operands-taken o ∙ z) (T-l (lengthFits 1 (rowOf o .operands) (q .second)) _
           (T-r (lengthFits 0 (rowOf o .operands) (q .first)) _ (fitting d q o p e)))
 
 -- ---- over the words of a request that has passed rung 5
@@ -80,6 +81,6 @@ module _ (t q : List ℕ) (u m : ℕ) (k : Climbed m t q u) (l : refusal.badRequ
   unfolding arityOf
   operation-in n a = go (opOf (requestOf q .operation)) refl a
     where
-      go : (m : Option Op) → opOf (requestOf q .operation) ≡ m → elim m [ none ↦ 0 | some o ↦ arity o ] ≡ suc n → requestOf q .operation ≤ operationCount
+      go : (m : Option Op) → opOf (requestOf q .operation) ≡ m → elim m [ none ↦ 0 | some o ↦ taken o ] ≡ suc n → requestOf q .operation ≤ operationCount
       go none e z = absurd (omega arith)
       go (some o) e z = omega (arith, opOf-number (requestOf q .operation) o e, number-range o)

@@ -16,7 +16,8 @@ use Rattle.ladder.specs.declared.operands.Operand.the-variants.{Fine, No
 use Rattle.ladder.specs.declared.operands.Pair.the-variants.{Both, Neither}
 use Rattle.tables.specs.declared.Entity.{Entity}
 use Rattle.model.specs.Basics.TestLaws.{only}
-use Rattle.model.specs.Request.Allowed.{arity}
+use Rattle.model.specs.Request.FitLaws.{operands-taken}
+use Rattle.model.specs.Request.Form.{taken}
 use Rattle.model.specs.Request.Asked.{asked, basisOf, operand}
 use Rattle.model.specs.Request.Conditions.{Kind}
 use Rattle.model.specs.Request.Ladder.{bars, leadsNowhere, noAccess, notCleared, ofOp, permits, someOperand}
@@ -53,10 +54,10 @@ asked-of : (q : Request) (p : ℕ → ℕ → Bool) (n : ℕ) (r : ℕ → Bool)
 unfolding arityOf ofOp
 asked-of q p n r f h = go (opOf (q .operation)) refl h
   where
-    go : (m : Option Op) → opOf (q .operation) ≡ m → elim m [ none ↦ 0 | some o ↦ arity o ] ≡ suc n
+    go : (m : Option Op) → opOf (q .operation) ≡ m → elim m [ none ↦ 0 | some o ↦ taken o ] ≡ suc n
         → elim m [ none ↦ false | some o ↦ someOperand 1 (rowOf o .operands) (λ k x. p (numberOf o) k) ] ≡ r (q .operation)
     go none e z = absurd (omega arith)
-    go (some o) e z = f (numberOf o) (rowOf o .operands) z ∙ ap r (opOf-number (q .operation) o e)
+    go (some o) e z = f (numberOf o) (rowOf o .operands) (operands-taken o ∙ z) ∙ ap r (opOf-number (q .operation) o e)
 
 -- ---- the resolver's answer
 

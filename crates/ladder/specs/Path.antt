@@ -6,7 +6,7 @@ use Rattle.ladder.specs.declared.operands.Operand.{Operand}
 use Rattle.ladder.specs.declared.operands.Operand.the-variants.{Fine, No}
 use Rattle.ladder.specs.declared.operands.Pair.{Pair}
 use Rattle.ladder.specs.declared.operands.Pair.the-variants.{Both, Neither}
-use Rattle.model.specs.Request.Allowed.{arity}
+use Rattle.model.specs.Request.Form.{taken}
 use Rattle.model.specs.Request.Asked.{asked}
 use Rattle.model.specs.Request.Ladder.{leadsNowhere, lowest, noAccess, notCleared}
 use Rattle.model.specs.Request.Operations.{opOf}
@@ -16,7 +16,7 @@ use Rattle.model.specs.Tables.Words.{Tables}
 
 -- how many operands the request's operation takes
 unfoldable pub arityOf : Request → ℕ
-arityOf q = elim (opOf (q .operation)) [ none ↦ 0 | some o ↦ arity o ]
+arityOf q = elim (opOf (q .operation)) [ none ↦ 0 | some o ↦ taken o ]
 
 -- the lowest of rungs 7, 8 and 9 that applies, or 0
 unfoldable pub pathAnswer : Tables → Request → ℕ

@@ -14,8 +14,13 @@ pub mod Applies
 pub mod ReferenceLaws
 pub mod OperationLaws
 pub mod LadderLaws
+pub mod RefusedLaws
 pub mod TestLaws
 pub mod ConditionLaws
 pub mod FitLaws
 pub mod AfterLaws
 pub mod RungLaws
+pub mod AppliesLaws
+pub mod RoomLaws
+pub mod OwnTestLaws
+pub mod OwnLaws

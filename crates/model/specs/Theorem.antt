@@ -39,3 +39,4 @@ pub mod UniqueOutcome
 pub mod Outcomes
 pub mod Unique
 pub mod BeyondLaws
+pub mod Stated

@@ -16,7 +16,7 @@ use Rattle.ladder.specs.declared.operands.Operand.the-variants.{Fine, No}
 use Rattle.ladder.specs.declared.operands.Pair.the-variants.{Both, Neither}
 use Rattle.tables.specs.declared.Entity.{Entity}
 use Rattle.model.specs.Basics.TestLaws.{is-false}
-use Rattle.model.specs.Request.Allowed.{arity}
+use Rattle.model.specs.Request.Form.{taken}
 use Rattle.model.specs.Request.Asked.{asked, basisOf, operand}
 use Rattle.model.specs.Request.Ladder.{applies, bars, ladder, leadsNowhere, never, noAccess, notCleared, notUnderstood, ofOp, permits, rungAt}
 use Rattle.model.specs.Request.Ladder.{someOperand}
@@ -37,11 +37,11 @@ pub taking : (o : Op) (t q : List ℕ) (u op : ℕ) → PastMarks t q u → requ
 taking o t q u op k e z = record { climbed = k; named = named-as (requestOf q) o (e ∙ z) }
 
 -- how many operands the operation of a number takes
-arity-some : (q : Request) (o : Op) → opOf (q .operation) ≡ some o → arityOf q ≡ arity o
+arity-some : (q : Request) (o : Op) → opOf (q .operation) ≡ some o → arityOf q ≡ taken o
 unfolding arityOf
-arity-some q o e = subst (λ (m : Option Op). elim m [ none ↦ 0 | some p ↦ arity p ] ≡ arity o) (sym e) refl
+arity-some q o e = subst (λ (m : Option Op). elim m [ none ↦ 0 | some p ↦ taken p ] ≡ taken o) (sym e) refl
 
-pub arity-named : (q : Request) (o : Op) (op : ℕ) → q .operation ≡ op → op ≡ numberOf o → arityOf q ≡ arity o
+pub arity-named : (q : Request) (o : Op) (op : ℕ) → q .operation ≡ op → op ≡ numberOf o → arityOf q ≡ taken o
 arity-named q o op e z = arity-some q o (named-as q o (e ∙ z))
 
 -- a request that takes operands is for an operation
@@ -49,7 +49,7 @@ operated : (q : Request) (n : ℕ) → arityOf q ≡ suc n → (o : Op) × (opOf
 unfolding arityOf
 operated q n h = go (opOf (q .operation)) refl h
   where
-    go : (m : Option Op) → opOf (q .operation) ≡ m → elim m [ none ↦ 0 | some o ↦ arity o ] ≡ suc n → (o : Op) × (opOf (q .operation) ≡ some o)
+    go : (m : Option Op) → opOf (q .operation) ≡ m → elim m [ none ↦ 0 | some o ↦ taken o ] ≡ suc n → (o : Op) × (opOf (q .operation) ≡ some o)
     go none e z = absurd (omega arith)
     go (some o) e z = (o, e)
 
@@ -60,7 +60,7 @@ understood d q p = let z = notUnderstood-fails d q .to (is-false (notUnderstood 
 
 -- a number that none of the arms for two operands or none has takes one
 pub served-one : (d : Tables) (q : Request) → Passed refusal.badRequest d q
-    → NoneOf (numbersOf (λ o. not (eqb (arity o) 1)) operations) (q .operation) → arityOf q ≡ 1
+    → NoneOf (numbersOf (λ o. not (eqb (taken o) 1)) operations) (q .operation) → arityOf q ≡ 1
 unfolding ofOp
 served-one d q p r = let z = understood d q p in one-over q (ofOp-some q (z .0) (z .1) (λ o. true)) r
 

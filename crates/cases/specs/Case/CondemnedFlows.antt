@@ -13,7 +13,8 @@ use Rattle.cases.specs.Case.Condemned.{differ, kept}
 use Rattle.cases.specs.Case.Opened.{opened}
 use Rattle.cases.specs.Case.S1.{s1, s1Sheet}
 use Rattle.model.specs.Level.{bit}
-use Rattle.model.specs.Request.Allowed.{Meant, Open, Operand, Permitted, arity}
+use Rattle.model.specs.Request.Allowed.{Meant, Open, Operand, Permitted}
+use Rattle.model.specs.Request.Form.{taken}
 use Rattle.model.specs.Request.Asked.{asked, basisOf, operand}
 use Rattle.model.specs.Request.FitLaws.{fits-agrees}
 use Rattle.model.specs.Request.Ladder.{fits, permits}
@@ -148,12 +149,12 @@ nowhere-condemned o m =
     subst (λ (p : Op). (k : ℕ) → Operand p k → operand (asked s1 q) k ≢ 0) (only refl m) (m .leading) 1 (lit≤ tt, lit≤ tt) refl
 
 -- Nothing is named by a request without operands; by one with one operand, that is named.
-named-none : {d : Tables} {q : Request} {x : ℕ} (p : Op) → opOf (q .operation) ≡ some p → arity p ≡ 0 → NamedOpenly d q x → ⊥
+named-none : {d : Tables} {q : Request} {x : ℕ} (p : Op) → opOf (q .operation) ≡ some p → taken p ≡ 0 → NamedOpenly d q x → ⊥
 named-none p e a z =
     let i : Operand p (z .2 .0) = subst (λ (o : Op). Operand o (z .2 .0)) (only e (z .1)) (z .2 .1) in
     omega (arith, i .0, i .1)
 
-named-one : {d : Tables} {q : Request} {x : ℕ} (p : Op) → opOf (q .operation) ≡ some p → arity p ≡ 1 → NamedOpenly d q x
+named-one : {d : Tables} {q : Request} {x : ℕ} (p : Op) → opOf (q .operation) ≡ some p → taken p ≡ 1 → NamedOpenly d q x
     → (asked d q .first ≡ x) × Open d (q .user) (asked d q .firstBasis)
 named-one {d} {q} {x} p e a z =
     let i : Operand p (z .2 .0) = subst (λ (o : Op). Operand o (z .2 .0)) (only e (z .1)) (z .2 .1) in

@@ -66,6 +66,15 @@ agrees-imp {a} {b} p q = record { to = λ t x. q .to (go a b t (p .from x)); fro
     back true b f = f tt
     back false b f = tt
 
+-- an implication does not hold where its first part does and its second does not
+pub agrees-but : {a : Bool} {P Q : Type 0} (b : Bool) → Agrees a P → Agrees (not b) Q → Agrees (not (imp a b)) (P × Q)
+unfolding imp
+agrees-but {a} b p q = go a p q
+  where
+    go : {P Q : Type 0} (a : Bool) → Agrees a P → Agrees (not b) Q → Agrees (not (pick a b true)) (P × Q)
+    go true p q = record { to = λ t. (p .to tt, q .to t); from = λ z. q .from (z .1) }
+    go false p q = record { to = λ t. absurd t; from = λ z. absurd (p .from (z .0)) }
+
 pub agrees-as : {b : Bool} {P Q : Type 0} → (P → Q) → (Q → P) → Agrees b P → Agrees b Q
 agrees-as f g a = record { to = λ t. f (a .to t); from = λ q. a .from (g q) }
 
@@ -105,16 +114,15 @@ agrees-range n p P a z out =
         go true (under h) = f i h
         go false (over h) = out (suc i) (omega arith)
 
--- some number below n passes
-pub agrees-some : (n : ℕ) (p : ℕ → Bool) (P : ℕ → Type 0) → ((i : ℕ) → Agrees (p i) (P i))
-    → Agrees (not (every n (λ i. not (p i)))) ((i : ℕ) × (i < n) × P i)
+-- some number below n does not pass
+pub agrees-exception : (n : ℕ) (p : ℕ → Bool) (P : ℕ → Type 0) → ((i : ℕ) → Agrees (not (p i)) (P i)) → Agrees (not (every n p)) ((i : ℕ) × (i < n) × P i)
 unfolding every
-agrees-some zero p P a = record { to = λ t. absurd t; from = λ z. absurd (omega (arith, z .1)) }
-agrees-some (suc n) p P a = go (p n) (every n (λ i. not (p i))) (a n) (agrees-some n p P a)
+agrees-exception zero p P a = record { to = λ t. absurd t; from = λ z. absurd (omega (arith, z .1)) }
+agrees-exception (suc n) p P a = go (p n) (every n p) (a n) (agrees-exception n p P a)
   where
-    go : (b c : Bool) → Agrees b (P n) → Agrees (not c) ((i : ℕ) × (i < n) × P i) → Agrees (not (not b && c)) ((i : ℕ) × (i < suc n) × P i)
-    go true c x y = record { to = λ t. (n, omega arith, x .to tt); from = λ z. tt }
-    go false c x y = record {
+    go : (b c : Bool) → Agrees (not b) (P n) → Agrees (not c) ((i : ℕ) × (i < n) × P i) → Agrees (not (b && c)) ((i : ℕ) × (i < suc n) × P i)
+    go false c x y = record { to = λ t. (n, omega arith, x .to tt); from = λ z. tt }
+    go true c x y = record {
       to = λ t. let z = y .to t in (z .0, omega (arith, z .1), z .2);
       from = λ z. y .from (lower-one z (eq-or-lt-of-le (le-of-suc-le-suc (z .1))));
     }
@@ -122,6 +130,11 @@ agrees-some (suc n) p P a = go (p n) (every n (λ i. not (p i))) (a n) (agrees-s
         lower-one : (z : (i : ℕ) × (i < suc n) × P i) → (z .0 ≡ n) ⊎ (z .0 < n) → (i : ℕ) × (i < n) × P i
         lower-one z (inl e) = absurd (x .from (subst P e (z .2)))
         lower-one z (inr l) = (z .0, l, z .2)
+
+-- some number below n passes
+pub agrees-some : (n : ℕ) (p : ℕ → Bool) (P : ℕ → Type 0) → ((i : ℕ) → Agrees (p i) (P i))
+    → Agrees (not (every n (λ i. not (p i)))) ((i : ℕ) × (i < n) × P i)
+agrees-some n p P a = agrees-exception n (λ i. not (p i)) P (λ i. agrees-twice (a i))
 
 -- a test that is its own statement
 pub agrees-T : (b : Bool) → Agrees b (T b)

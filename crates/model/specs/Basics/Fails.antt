@@ -4,8 +4,8 @@ use mathlib.Core.Path.{_≡_, refl}
 use Prim.Native.Nat.{_<_, ℕ}
 use native.Mathlib.Omega.{arith}
 use lib.Dec.{T, leb}
-use Rattle.model.specs.Basics.Agree.{Agrees, agrees-le, agrees-not, agrees-twice}
-use Rattle.model.specs.Basics.TestLaws.{fails-false}
+use Rattle.model.specs.Basics.Agree.{Agrees, agrees-T, agrees-le, agrees-not, agrees-twice}
+use Rattle.model.specs.Basics.TestLaws.{fails-false, is-true}
 
 -- the test b fails where P holds, and nowhere else
 pub record Fails (b : Bool) (P : Type 0) : Type 0 where
@@ -20,6 +20,10 @@ fails-holds false f n = absurd (n (f .to tt))
 -- and does not where P does
 pub fails-no : (b : Bool) {P : Type 0} → Fails b P → P → b ≡ false
 fails-no b f p = fails-false b (f .from p)
+
+-- a test that fails where P holds, and nowhere else, says that P does not hold
+pub fails-agrees : {b : Bool} {P : Type 0} → Fails b P → Agrees b (P → ⊥)
+fails-agrees {b} f = record { to = λ t p. agrees-not (agrees-T b) .to (f .from p) t; from = λ n. is-true b (fails-holds b f n) }
 
 -- a test whose negation agrees with a statement
 pub fails-where : (b : Bool) {P : Type 0} → Agrees (not b) P → Fails b P

@@ -6,14 +6,13 @@ use mathlib.Core.Option.{some}
 use mathlib.Core.Path.{_≡_}
 use Prim.Native.Nat.{_<_, _≤_, ℕ}
 use lib.Dec.{T}
-use lib.ListN.{length}
 use Rattle.model.specs.Effect.Places.{draftSort, leave, objectSort, vacant}
 use Rattle.model.specs.Effect.Screens.{spot}
 use Rattle.model.specs.Level.{AtMost, Lower, Subset, downgrader, levelCount, officer, releasing, roleCount, roleSets}
 use Rattle.model.specs.Request.Asked.{Asked, HasRole, asked, basisOf, namedTriple, operand, own}
 use Rattle.model.specs.Request.Conditions.{levelOf}
-use Rattle.model.specs.Request.Form.{Between, Fits}
-use Rattle.model.specs.Request.Operations.{Op, clearanceEffect, levelEffect, numberOf, opOf, rowOf, toAcknowledge, toAuthorised}
+use Rattle.model.specs.Request.Form.{Between, Fits, taken}
+use Rattle.model.specs.Request.Operations.{Op, clearanceEffect, levelEffect, numberOf, opOf, toAcknowledge, toAuthorised}
 use Rattle.model.specs.Request.Operations.{toClear, toClearance, toCopy, toCreate, toCurrent, toDelete, toDeviceLevel, toEdit}
 use Rattle.model.specs.Request.Operations.{toGrant, toLevel, toLogin, toLogout, toMark, toMaximum, toMove, toRelease, toRevoke}
 use Rattle.model.specs.Request.Operations.{toShow}
@@ -33,12 +32,9 @@ pub record Known (d : Tables) (u : ℕ) : Type 0 where
   pub high : u ≤ userCount
   pub there : d .user u present ≢ 0
 
--- how many operands an operation has; k is the position of one of them
-abbrev pub arity : Op → ℕ
-arity o = length (rowOf o .operands)
-
+-- k is the position of an operand that the operation takes
 abbrev pub Operand : Op → ℕ → Type 0
-Operand o k = (1 ≤ k) × (k ≤ arity o)
+Operand o k = (1 ≤ k) × (k ≤ taken o)
 
 -- Rules 7.4, 7.5 and 7.7: a request that means something in these tables, by the operation o.
 pub record Meant (o : Op) (d : Tables) (q : Request) : Type 0 where

@@ -1,4 +1,4 @@
--- Rule 7 as statements: when each refusal applies, in the words of the rules. No test, no search and no table of operations is in it.
+-- Rule 7 as statements: when each refusal applies, in the words of the rules. No rung of the ladder, no condition and no row of the operations' table is in it.
 -- Theorem/Stated says that the answer is the lowest number whose refusal applies, and 0 where none does.
 use mathlib.Core.List.{List, List·Memᴰ}
 use mathlib.Core.Logic.{_≢_}

@@ -6,7 +6,6 @@ use Prim.Native.Nat.{_<_, _≤_, suc, zero, ℕ}
 use native.Mathlib.Omega.{arith}
 use lib.ListN.{length}
 use Rattle.model.specs.Basics.Agree.{Agrees, agreement, agrees-and, agrees-as, agrees-eq, agrees-le}
-use Rattle.model.specs.Request.Allowed.{arity}
 use Rattle.model.specs.Request.ConditionLaws.{between-agrees}
 use Rattle.model.specs.Request.Conditions.{Kind, aFlag, aLevel, aPosition, aSort, aSum, aUser, aWho, anOperation, free, someRoles}
 use Rattle.model.specs.Request.Conditions.{unused}
@@ -34,27 +33,27 @@ reference-agrees (suc k) (x ∷ xs) r = agrees-as (λ z. (λ h. z .0 (omega arit
     (λ z. (λ h. z .0 (omega arith), λ h. z .1 (omega arith))) (reference-agrees k xs r)
 
 -- The operations' table lists as many operands as each takes.
-arity-taken : (o : Op) → arity o ≡ taken o
-arity-taken toCreate = refl
-arity-taken toDelete = refl
-arity-taken toMove = refl
-arity-taken toEdit = refl
-arity-taken toCopy = refl
-arity-taken toLevel = refl
-arity-taken toMark = refl
-arity-taken toGrant = refl
-arity-taken toRevoke = refl
-arity-taken toShow = refl
-arity-taken toClear = refl
-arity-taken toLogin = refl
-arity-taken toLogout = refl
-arity-taken toCurrent = refl
-arity-taken toClearance = refl
-arity-taken toAuthorised = refl
-arity-taken toMaximum = refl
-arity-taken toDeviceLevel = refl
-arity-taken toRelease = refl
-arity-taken toAcknowledge = refl
+pub operands-taken : (o : Op) → length (rowOf o .operands) ≡ taken o
+operands-taken toCreate = refl
+operands-taken toDelete = refl
+operands-taken toMove = refl
+operands-taken toEdit = refl
+operands-taken toCopy = refl
+operands-taken toLevel = refl
+operands-taken toMark = refl
+operands-taken toGrant = refl
+operands-taken toRevoke = refl
+operands-taken toShow = refl
+operands-taken toClear = refl
+operands-taken toLogin = refl
+operands-taken toLogout = refl
+operands-taken toCurrent = refl
+operands-taken toClearance = refl
+operands-taken toAuthorised = refl
+operands-taken toMaximum = refl
+operands-taken toDeviceLevel = refl
+operands-taken toRelease = refl
+operands-taken toAcknowledge = refl
 
 -- The ranges in the operations' table are those that each asks (rules 6.1 to 6.20).
 ranges-agree : (o : Op) (a b c : ℕ)
@@ -102,7 +101,7 @@ fits-agrees o q = agrees-as (λ z. record { first = z .0; second = z .1 .0; argu
     (λ f. (f .first, (f .second, (f .arguments, f .last))))
     (agrees-across (lengthFits 0 (rowOf o .operands) (q .first)) (lengthFits 1 (rowOf o .operands) (q .second))
     (namesFit (q .first)) (namesFit (q .second))
-    (rw (arity-taken o) at (reference-agrees 0 (rowOf o .operands) (q .first)))
-    (rw (arity-taken o) at (reference-agrees 1 (rowOf o .operands) (q .second)))
+    (rw (operands-taken o) at (reference-agrees 0 (rowOf o .operands) (q .first)))
+    (rw (operands-taken o) at (reference-agrees 1 (rowOf o .operands) (q .second)))
     (agrees-after (rangeAt 0 (rowOf o .arguments) (q .a)) (rangeAt 1 (rowOf o .arguments) (q .b)) (rangeAt 2 (rowOf o .arguments) (q .c))
     (ranges-agree o (q .a) (q .b) (q .c)) (agrees-eq (q .last) 0)))

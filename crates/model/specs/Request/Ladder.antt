@@ -6,6 +6,7 @@ use mathlib.Core.Option.{none, some}
 use mathlib.Core.Path.{_≡_}
 use Prim.Native.Nat.{_<_, suc, zero, ℕ}
 use lib.Dec.{eqb, leb, ltb}
+use Rattle.model.specs.Basics.Choice.{pick}
 use Rattle.model.specs.Basics.Tests.{every, imp}
 use Rattle.model.specs.Level.{atMost, roleCount}
 use Rattle.model.specs.Request.Asked.{asked, basisOf, hasRole, operand}
@@ -95,10 +96,20 @@ notCleared d q = ofOp q (λ o. someOperand 1 (rowOf o .operands) (λ k x. bars d
 unfoldable pub wrongKind : Rung
 wrongKind d q = ofOp q (λ o. someOperand 1 (rowOf o .operands) (λ k x. not (x d (operand (asked d q) k))))
 
--- Rules 7.11 to 7.16: the operation's own condition of that number.
+-- the conditions of a row that have the number n
+abbrev pub ofNumber : ℕ → List Refusal → List Condition
+ofNumber n [] = []
+ofNumber n (refuse k c ∷ cs) = pick (eqb k n) (c ∷ ofNumber n cs) (ofNumber n cs)
+
+-- whether one of them applies
+abbrev pub anyOf : List Condition → Condition
+anyOf [] d s = false
+anyOf (c ∷ []) d s = c d s
+anyOf (c ∷ c′ ∷ cs) d s = c d s || anyOf (c′ ∷ cs) d s
+
+-- Rules 7.11 to 7.16: a condition of that number, among the operation's own, applies.
 unfoldable pub refused : ℕ → List Refusal → Condition
-refused n [] d s = false
-refused n (refuse k c ∷ cs) d s = elim (eqb k n) [ true ↦ c d s | false ↦ refused n cs d s ]
+refused n cs d s = anyOf (ofNumber n cs) d s
 
 unfoldable pub ownRung : ℕ → Rung
 ownRung n d q = ofOp q (λ o. refused n (rowOf o .conditions) d (asked d q))

@@ -4,7 +4,7 @@ use mathlib.Core.List.{List, [], _∷_}
 use mathlib.Core.Logic.{_≢_, _⊎_, inl, inr}
 use mathlib.Core.Option.{Option, none, some}
 use mathlib.Core.Path.{_∙_, _≡_, ap, refl, subst, sym}
-use Prim.Native.Nat.{_+_, _<_, _≤_, suc, zero, ℕ}
+use Prim.Native.Nat.{_+_, _-_, _<_, _≤_, suc, zero, ℕ}
 use native.Mathlib.Omega.{arith}
 use lib.Dec.{T, eqb}
 use lib.ListN.{length}
@@ -13,8 +13,8 @@ use Rattle.model.specs.Basics.Choice.{Same, it, other, pick, same}
 use Rattle.model.specs.Basics.Fails.{Fails, fails-as, fails-or}
 use Rattle.model.specs.Basics.TestLaws.{fails-false}
 use Rattle.model.specs.Request.Conditions.{Kind}
-use Rattle.model.specs.Request.Ladder.{IsAnswer, Rung, answer, applies, ladder, lowest, never, notSecure, notWellFormed, ofOp, rungAt}
-use Rattle.model.specs.Request.Ladder.{someOperand}
+use Rattle.model.specs.Request.Ladder.{IsAnswer, Rung, answer, applies, ladder, lowest, never, notSecure, notWellFormed, ofOp}
+use Rattle.model.specs.Request.Ladder.{ownRung, rungAt, someOperand}
 use Rattle.model.specs.Request.Operations.{Op, opOf}
 use Rattle.model.specs.Request.Words.{Request}
 use Rattle.model.specs.State.Check.{judge, secureTest, wellFormedTest}
@@ -140,7 +140,7 @@ someOperand-fails k (x ∷ xs) p P f = go (p k x) (f k x) (someOperand-fails (su
     go false a ih = fails-or a ih
 
 -- What holds of every operand holds at each position,
-operands-at : (k : ℕ) (xs : List Kind) (P : ℕ → Type 0) → AllOperands k xs (λ j x. P j) → (j : ℕ) → k ≤ j → j < k + length xs → P j
+pub operands-at : (k : ℕ) (xs : List Kind) (P : ℕ → Type 0) → AllOperands k xs (λ j x. P j) → (j : ℕ) → k ≤ j → j < k + length xs → P j
 operands-at k [] P a j l h = absurd (omega arith)
 operands-at k (x ∷ xs) P a j l h = go (eqb j k) (same j k) (operands-at (suc k) xs P (a .1) j)
   where
@@ -157,6 +157,57 @@ operands-all k (x ∷ xs) P f = (f k (omega arith) (omega arith), operands-all (
 pub positions-fail : (k : ℕ) (xs : List Kind) (p : ℕ → Bool) (P : ℕ → Type 0) → ((j : ℕ) → Fails (p j) (P j))
     → Fails (someOperand k xs (λ j x. p j)) ((j : ℕ) → k ≤ j → j < k + length xs → P j)
 positions-fail k xs p P f = fails-as (operands-at k xs P) (operands-all k xs P) (someOperand-fails k xs (λ j x. p j) (λ j x. P j) (λ j x. f j))
+
+-- What holds of any position and kind holds of every operand,
+pub operands-each : (k : ℕ) (xs : List Kind) (P : ℕ → Kind → Type 0) → ((j : ℕ) (x : Kind) → P j x) → AllOperands k xs P
+operands-each k [] P f = tt
+operands-each k (x ∷ xs) P f = (f k x, operands-each (suc k) xs P f)
+
+-- what follows from what holds of every operand does,
+pub operands-map : (k : ℕ) (xs : List Kind) (P Q : ℕ → Kind → Type 0) → ((j : ℕ) (x : Kind) → P j x → Q j x) → AllOperands k xs P → AllOperands k xs Q
+operands-map k [] P Q f p = tt
+operands-map k (x ∷ xs) P Q f p = (f k x (p .0), operands-map (suc k) xs P Q f (p .1))
+
+-- and so does what follows from two such things.
+pub operands-both : (k : ℕ) (xs : List Kind) (P Q R : ℕ → Kind → Type 0) → ((j : ℕ) (x : Kind) → P j x → Q j x → R j x)
+    → AllOperands k xs P → AllOperands k xs Q → AllOperands k xs R
+operands-both k [] P Q R f p q = tt
+operands-both k (x ∷ xs) P Q R f p q = (f k x (p .0) (q .0), operands-both (suc k) xs P Q R f (p .1) (q .1))
+
+-- A question put to the operands is answered yes exactly where it is at some position.
+pub someOperand-agrees : (k : ℕ) (xs : List Kind) (p : ℕ → Kind → Bool) (P : ℕ → Type 0) → AllOperands k xs (λ j x. Agrees (p j x) (P j))
+    → Agrees (someOperand k xs p) ((j : ℕ) × (k ≤ j) × (j < k + length xs) × P j)
+unfolding someOperand
+someOperand-agrees k [] p P a = record { to = λ t. absurd t; from = λ z. absurd (omega (arith, z .1, z .2)) }
+someOperand-agrees k (x ∷ xs) p P a = go (p k x) (a .0) (someOperand-agrees (suc k) xs p P (a .1))
+  where
+    go : (b : Bool) → Agrees b (P k) → Agrees (someOperand (suc k) xs p) ((j : ℕ) × (suc k ≤ j) × (j < suc k + length xs) × P j)
+        → Agrees (elim b [ true ↦ true | false ↦ someOperand (suc k) xs p ]) ((j : ℕ) × (k ≤ j) × (j < k + length (x ∷ xs)) × P j)
+    go true a ih = record { to = λ t. (k, omega arith, omega arith, a .to tt); from = λ z. tt }
+    go false a ih = record {
+      to = λ t. let z = ih .to t in (z .0, omega (arith, z .1), omega (arith, z .2), z .3);
+      from = λ z. later z (eqb (z .0) k) (same (z .0) k);
+    }
+      where
+        later : (z : (j : ℕ) × (k ≤ j) × (j < k + length (x ∷ xs)) × P j) (b : Bool) → Same (z .0) k b → T (someOperand (suc k) xs p)
+        later z true (it e) = absurd (a .from (subst P e (z .3)))
+        later z false (other e) = ih .from (z .0, omega (arith, z .1), omega (arith, z .2), z .3)
+
+-- Rules 7.11 to 7.16: these rungs are the operation's own conditions.
+own-from : (m : ℕ) → m < 6 → (d : Tables) (q : Request) → applies (refusal.noSuchUser + m) d q ≡ ownRung (refusal.noSuchUser + m) d q
+unfolding applies rungAt never ladder
+own-from zero h d q = refl
+own-from (suc zero) h d q = refl
+own-from (suc (suc zero)) h d q = refl
+own-from (suc (suc (suc zero))) h d q = refl
+own-from (suc (suc (suc (suc zero)))) h d q = refl
+own-from (suc (suc (suc (suc (suc zero))))) h d q = refl
+own-from (suc (suc (suc (suc (suc (suc m)))))) h d q = absurd (omega arith)
+
+pub own-rung : (n : ℕ) → refusal.noSuchUser ≤ n → n ≤ refusal.notAcknowledged → (d : Tables) (q : Request) → applies n d q ≡ ownRung n d q
+own-rung n l h d q =
+    let e : n ≡ refusal.noSuchUser + (n - refusal.noSuchUser) = omega arith in
+    rw e (own-from (n - refusal.noSuchUser) (omega arith) d q)
 
 -- Rules 7.2 and 7.3: tables that fail the state check are answered with its number, whatever is asked.
 pub judge-answer : (d : Tables) (q : Request) → judge d ≢ refusal.accepted → answer d q ≡ judge d

@@ -10,7 +10,7 @@ use Rattle.model.specs.Basics.Agree.{agrees-T, agrees-and, agrees-eq, ag
 use Rattle.model.specs.Basics.Fails.{Fails, fails-T, fails-agreed, fails-and, fails-as, fails-not, fails-where}
 use Rattle.model.specs.Request.Allowed.{Known, On, Open, Operand, Permitted}
 use Rattle.model.specs.Request.Asked.{asked, basisOf, operand}
-use Rattle.model.specs.Request.FitLaws.{fits-agrees}
+use Rattle.model.specs.Request.FitLaws.{fits-agrees, operands-taken}
 use Rattle.model.specs.Request.Form.{Fits}
 use Rattle.model.specs.Request.Ladder.{bars, fits, leadsNowhere, noAccess, notCleared, notLoggedOn, notSecure, notUnderstood}
 use Rattle.model.specs.Request.Ladder.{notWellFormed, ofOp, ownRung, permits, refused, someOperand, unknownUser, wrongKind}
@@ -55,7 +55,8 @@ module _ (d : Tables) (q : Request) where
     operands-fail : (p : Op → ℕ → Bool) (P : ℕ → Type 0) → ((k : ℕ) → Fails (p o k) (P k))
         → Fails (ofOp q (λ o. someOperand 1 (rowOf o .operands) (λ k x. p o k))) ((k : ℕ) → Operand o k → P k)
     operands-fail p P f = ofOp-fails q o named (λ o. someOperand 1 (rowOf o .operands) (λ k x. p o k))
-        (fails-as (λ g k h. g k (h .0) (omega (arith, h .1))) (λ g k l h. g k (l, omega arith)) (positions-fail 1 (rowOf o .operands) (p o) P f))
+        (fails-as (λ g k h. g k (h .0) (omega (arith, h .1, operands-taken o))) (λ g k l h. g k (l, omega (arith, operands-taken o)))
+        (positions-fail 1 (rowOf o .operands) (p o) P f))
 
     -- Rule 7.6: the requester is logged on, where the operation wants that.
     pub notLoggedOn-fails : Fails (notLoggedOn d q) (On o d (q .user))

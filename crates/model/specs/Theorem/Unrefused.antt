@@ -1,9 +1,8 @@
 -- An operation that is allowed has operands of the right kinds, and none of its own conditions applies (rungs 10 to 16).
-use mathlib.Core.Bool.{Bool, false, not, true}
-use mathlib.Core.List.{List, [], _∷_}
+use mathlib.Core.Bool.{not}
 use Prim.Native.Nat.{ℕ}
 use native.Mathlib.Omega.{arith}
-use lib.Dec.{T, eqb}
+use lib.Dec.{T}
 use Rattle.model.specs.Effect.WordsLaws.{clearance-wellFormed, level-wellFormed}
 use Rattle.model.specs.Level.{officer, releasing}
 use Rattle.model.specs.Request.Allowed.{Allowed}
@@ -16,10 +15,11 @@ use Rattle.model.specs.Request.ConditionLaws.{notAcknowledged-fails, rol
 use Rattle.model.specs.Request.ConditionLaws.{showAbove-fails, showNoRoom-fails, showUnlabelled-fails, thing-agrees, userAbsent-fails}
 use Rattle.model.specs.Request.Ladder.{refused}
 use Rattle.model.specs.Request.LadderLaws.{AllOperands}
-use Rattle.model.specs.Request.Operations.{Op, Refusal, clearanceEffect, levelEffect, refuse, rowOf, toAcknowledge, toAuthorised}
+use Rattle.model.specs.Request.Operations.{Op, clearanceEffect, levelEffect, rowOf, toAcknowledge, toAuthorised}
 use Rattle.model.specs.Request.Operations.{toClear, toClearance, toCopy, toCreate, toCurrent, toDelete, toDeviceLevel, toEdit}
 use Rattle.model.specs.Request.Operations.{toGrant, toLevel, toLogin, toLogout, toMark, toMaximum, toMove, toRelease, toRevoke}
 use Rattle.model.specs.Request.Operations.{toShow}
+use Rattle.model.specs.Request.RefusedLaws.{AllRefusals, refused-none}
 use Rattle.model.specs.State.WellFormed.{WellFormed}
 use Rattle.model.specs.Tables.Words.{Tables}
 
@@ -28,24 +28,10 @@ pub record Unrefused (o : Op) (s : Asked) (d : Tables) : Type 0 where
   pub kinds : AllOperands 1 (rowOf o .operands) (λ k x. T (x d (operand s k)))
   pub own : (n : ℕ) → T (not (refused n (rowOf o .conditions) d s))
 
--- no condition of a list applies
-abbrev NoneOf : List Refusal → Tables → Asked → Type 0
-NoneOf [] d s = Unit {0}
-NoneOf (refuse k c ∷ cs) d s = T (not (c d s)) × NoneOf cs d s
-
--- where none applies, there is no refusal of any number
-refused-none : (n : ℕ) (cs : List Refusal) (d : Tables) (s : Asked) → NoneOf cs d s → T (not (refused n cs d s))
-unfolding refused
-refused-none n [] d s z = tt
-refused-none n (refuse k c ∷ cs) d s z = go (eqb k n) (refused-none n cs d s (z .1))
-  where
-    go : (b : Bool) → T (not (refused n cs d s)) → T (not (elim b [ true ↦ c d s | false ↦ refused n cs d s ]))
-    go true t = z .0
-    go false t = t
-
 module _ (d : Tables) (w : WellFormed d) (s : Asked) where
   -- Each of the twenty (rules 6.1 to 6.20): the kinds of its operands, and its own conditions in the order of the table.
-  parts : (o : Op) → Allowed o s d → AllOperands 1 (rowOf o .operands) (λ k x. T (x d (operand s k))) × NoneOf (rowOf o .conditions) d s
+  parts : (o : Op) → Allowed o s d
+      → AllOperands 1 (rowOf o .operands) (λ k x. T (x d (operand s k))) × AllRefusals (rowOf o .conditions) (λ k c. T (not (c d s)))
   parts toCreate h = (
     (container-agrees d (s .first) .from (h .box), tt),
     (createAbove-fails d s .from (h .low), (createNoRoom-fails d s .from (h .number, h .room), tt)),

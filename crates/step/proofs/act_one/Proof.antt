@@ -1,6 +1,6 @@
 use lib.Dec.{eqb}
 use Rattle.ladder.specs.DispatchLaws.{none-left, numbersOf, of-arity}
-use Rattle.model.specs.Request.Allowed.{arity}
+use Rattle.model.specs.Request.Form.{taken}
 use Rattle.step.specs.DispatchLaws.{taking}
 use Rattle.model.specs.Request.Operations.{
   operations,
@@ -170,7 +170,7 @@ returns-12 c = search needs
 returns-13 : tie.Need-returns-13
 unfolding numbersOf operations
 returns-13 c =
-    none-left (λ p. eqb (arity p) 1) _ (of-arity _ 0 (c .before .before .before .pre .2))
+    none-left (λ p. eqb (taken p) 1) _ (of-arity _ 0 (c .before .before .before .pre .2))
     (rw (← c .before .before .before .pre .1) at (c .match .rest))
 
 pub act-one-spec : {M : Type 1} → statement M

@@ -1,6 +1,6 @@
 use lib.Dec.{eqb}
 use Rattle.ladder.specs.DispatchLaws.{none-left, numbersOf, of-arity}
-use Rattle.model.specs.Request.Allowed.{arity}
+use Rattle.model.specs.Request.Form.{taken}
 use Rattle.step.specs.DispatchLaws.{taking}
 use Rattle.model.specs.Request.Operations.{operations, toCopy, toMove}
 use borrow.Author.Needs.{needs}
@@ -36,7 +36,7 @@ returns-2 c = search needs
 returns-3 : tie.Need-returns-3
 unfolding numbersOf operations
 returns-3 c =
-    none-left (λ p. eqb (arity p) 2) _ (of-arity _ 1 (c .before .before .before .pre .2))
+    none-left (λ p. eqb (taken p) 2) _ (of-arity _ 1 (c .before .before .before .pre .2))
     (rw (← c .before .before .before .pre .1) at (c .match .rest))
 
 pub act-two-spec : {M : Type 1} → statement M
