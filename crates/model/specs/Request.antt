@@ -22,5 +22,6 @@ pub mod AfterLaws
 pub mod RungLaws
 pub mod AppliesLaws
 pub mod RoomLaws
+pub mod OneWordLaws
 pub mod OwnTestLaws
 pub mod OwnLaws

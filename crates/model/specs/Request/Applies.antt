@@ -1,8 +1,8 @@
--- Rule 7 as statements: when each refusal applies, in the words of the rules. No rung of the ladder, no condition and no row of the operations' table is in it.
--- Theorem/Stated says that the answer is the lowest number whose refusal applies, and 0 where none does.
+-- Document 01, "The refusal ladder" and the last column of "The request and its operations"; rule 7 as statements: when each refusal applies, in the
+-- words of the rules. No rung, no condition and no row of the table of operations is in it. Theorem/Stated proves that the answer is the lowest
+-- number whose refusal applies, and 0 where none does.
 use mathlib.Core.List.{List, List·Memᴰ}
 use mathlib.Core.Logic.{_≢_}
-use mathlib.Core.Option.{some}
 use mathlib.Core.Path.{_≡_}
 use Prim.Native.Nat.{_<_, _≤_, ℕ}
 use lib.Dec.{eqb}
@@ -10,12 +10,12 @@ use lib.ListN.{length}
 use Rattle.model.specs.Basics.Choice.{pick}
 use Rattle.model.specs.Level.{AtMost, Bit, Lower, Subset, downgrader, officer, releasing, roleCount}
 use Rattle.model.specs.Request.Allowed.{Known, Operand, Permitted, WantsDevice}
-use Rattle.model.specs.Request.Asked.{Asked, HasRole, asked, basisOf, namedTriple, operand, own}
+use Rattle.model.specs.Request.Asked.{Asked, HasRole, asked, namedTriple, own}
 use Rattle.model.specs.Request.Conditions.{levelOf}
 use Rattle.model.specs.Request.Form.{Fits}
-use Rattle.model.specs.Request.Operations.{Op, clearanceEffect, levelEffect, numberOf, opOf, toAcknowledge, toAuthorised, toClear}
-use Rattle.model.specs.Request.Operations.{toClearance, toCopy, toCreate, toCurrent, toDelete, toDeviceLevel, toEdit, toGrant}
-use Rattle.model.specs.Request.Operations.{toLevel, toLogin, toLogout, toMark, toMaximum, toMove, toRelease, toRevoke, toShow}
+use Rattle.model.specs.Request.Operations.{Op, numberOf, toAcknowledge, toAuthorised, toClear, toClearance, toCopy, toCreate, toCurrent}
+use Rattle.model.specs.Request.Operations.{toDelete, toDeviceLevel, toEdit, toGrant, toLevel, toLogin, toLogout, toMark, toMaximum}
+use Rattle.model.specs.Request.Operations.{toMove, toRelease, toRevoke, toShow}
 use Rattle.model.specs.Request.Reference.{Leads}
 use Rattle.model.specs.Request.Words.{Reference, Request, names, requestOf, requestWords}
 use Rattle.model.specs.State.Depth.{Within}
@@ -23,18 +23,24 @@ use Rattle.model.specs.State.Secure.{Secure}
 use Rattle.model.specs.State.WellFormed.{Holds, InTables, Thing, WellFormed}
 use Rattle.model.specs.Tables.Kinds.{Screen, Terminal}
 use Rattle.model.specs.Tables.Layout.{tablesOf, wordCount}
-use Rattle.model.specs.Tables.Words.{Tables, absentKind, authorised, clearance, containerKind, current, devices, draftType}
-use Rattle.model.specs.Tables.Words.{entityCount, held, kinds, labelBit, level, mark, missed, objectKind, placeCount, places, present}
+use Rattle.model.specs.Tables.Words.{EntityWord, Tables, UserWord, absentKind, authorised, clearance, containerKind, current, devices}
+use Rattle.model.specs.Tables.Words.{draftType, entityCount, held, kinds, labelBit, level, mark, missed, objectKind, placeCount, places, present}
 use Rattle.model.specs.Tables.Words.{releasedType, triples, type, valueBit}
 use Rattle.model.specs.Request.Refusals as refusal
 
--- the request names the operation o
+-- Rule 5.1: the request names the operation o by its number.
 abbrev pub Names : Request → Op → Type 0
-Names q o = opOf (q .operation) ≡ some o
+Names q o = q .operation ≡ numberOf o
 
 -- the reference at position 1 or 2
 abbrev pub reference : Request → ℕ → Reference
 reference q k = pick (eqb k 1) (q .first) (q .second)
+
+-- Rule 5.3: the reference at position k, which the operation o takes, leads by the entities of the way to x.
+pub record Refers (o : Op) (k : ℕ) (d : Tables) (q : Request) (way : List ℕ) (x : ℕ) : Type 0 where
+  pub named : Names q o
+  pub taken : Operand o k
+  pub leads : Leads d (names (reference q k)) way x
 
 -- Rule 7.7: a name of the reference is out of range, absent or past the used places; so no way leads by its names to anything.
 abbrev pub Nowhere : Tables → Reference → Type 0
@@ -71,6 +77,18 @@ Full row = (i : ℕ) → i < placeCount → row i ≢ 0
 abbrev pub EightOthers : (ℕ → ℕ) → ℕ → Type 0
 EightOthers row x = (i : ℕ) → i < placeCount → (row i ≢ 0) × (row i ≢ x)
 
+-- The tables d′ are d with the word f of the entity e set to v,
+pub record WithEntity (e : ℕ) (f : EntityWord) (v : ℕ) (d d′ : Tables) : Type 0 where
+  pub set : d′ .entity e f ≡ v
+  pub others : (x : ℕ) (g : EntityWord) → (x ≡ e → g ≡ f → ⊥) → d′ .entity x g ≡ d .entity x g
+  pub users : (x : ℕ) (g : UserWord) → d′ .user x g ≡ d .user x g
+
+-- or with the word f of the user u.
+pub record WithUser (u : ℕ) (f : UserWord) (v : ℕ) (d d′ : Tables) : Type 0 where
+  pub set : d′ .user u f ≡ v
+  pub others : (x : ℕ) (g : UserWord) → (x ≡ u → g ≡ f → ⊥) → d′ .user x g ≡ d .user x g
+  pub entities : (x : ℕ) (g : EntityWord) → d′ .entity x g ≡ d .entity x g
+
 -- Rules 6.1 to 6.20: the operations' own refusals 11 to 16, one line for each way in which one is earned.
 pub data Own (s : Asked) (d : Tables) : Op → ℕ → Type 0 where
   -- create: the new level is not at most the container's; every number is taken, or every place of the container
@@ -89,7 +107,7 @@ pub data Own (s : Asked) (d : Tables) : Op → ℕ → Type 0 where
   copyAbove : (AtMost (levelOf d (s .first)) (levelOf d (s .second)) → ⊥) → Own s d toCopy refusal.levelOrRoles
   -- level: strictly lower by no downgrader; the tables with that level are not secure
   levelLowered : Lower (s .a) (levelOf d (s .first)) → (HasRole d (s .user) downgrader → ⊥) → Own s d toLevel refusal.roleMissing
-  levelInsecure : (Secure (levelEffect s d) → ⊥) → Own s d toLevel refusal.levelOrRoles
+  levelInsecure : ((d′ : Tables) → WithEntity (s .first) level (s .a) d d′ → Secure d′ → ⊥) → Own s d toLevel refusal.levelOrRoles
   -- grant: eight other triples are held
   grantFull : EightOthers (triples d (s .first)) (namedTriple s) → Own s d toGrant refusal.noRoom
   -- show: its level is not at most the requester's clearance, or not at most the device's level; eight others are shown; a value without its label
@@ -108,7 +126,7 @@ pub data Own (s : Asked) (d : Tables) : Op → ℕ → Type 0 where
   -- clearance: user a is absent; no officer; the tables with that clearance are not secure
   clearanceAbsent : d .user (s .a) present ≡ 0 → Own s d toClearance refusal.noSuchUser
   clearanceRole : (HasRole d (s .user) officer → ⊥) → Own s d toClearance refusal.roleMissing
-  clearanceInsecure : (Secure (clearanceEffect s d) → ⊥) → Own s d toClearance refusal.levelOrRoles
+  clearanceInsecure : ((d′ : Tables) → WithUser (s .a) clearance (s .b) d d′ → Secure d′ → ⊥) → Own s d toClearance refusal.levelOrRoles
   -- authorised roles: user a is absent; no officer; a acts with a role that b leaves out
   authorisedAbsent : d .user (s .a) present ≡ 0 → Own s d toAuthorised refusal.noSuchUser
   authorisedRole : (HasRole d (s .user) officer → ⊥) → Own s d toAuthorised refusal.roleMissing
@@ -119,7 +137,7 @@ pub data Own (s : Asked) (d : Tables) : Op → ℕ → Type 0 where
   -- device level: strictly lower, on a device that is not the requester's own, by no downgrader; the tables with that level are not secure
   deviceLowered : Lower (s .a) (levelOf d (s .first)) → s .first ≢ own d s → (HasRole d (s .user) downgrader → ⊥)
       → Own s d toDeviceLevel refusal.roleMissing
-  deviceInsecure : (Secure (levelEffect s d) → ⊥) → Own s d toDeviceLevel refusal.levelOrRoles
+  deviceInsecure : ((d′ : Tables) → WithEntity (s .first) level (s .a) d d′ → Secure d′ → ⊥) → Own s d toDeviceLevel refusal.levelOrRoles
   -- release: no releaser
   releaseRole : (HasRole d (s .user) releasing → ⊥) → Own s d toRelease refusal.roleMissing
   -- acknowledge: nothing is held, or a is not what is held, or b is not the number missed
@@ -141,14 +159,13 @@ pub data Applies (d : Tables) (q : Request) : ℕ → Type 0 where
   -- 7: an operand's reference leads nowhere
   noSuchName : (o : Op) (k : ℕ) → Names q o → Operand o k → Nowhere d (reference q k) → Applies d q refusal.noSuchName
   -- 8: an operand's triples hold neither the requester nor a current role, for this operation and position
-  noAccess : (o : Op) (k : ℕ) → Names q o → Operand o k → (Permitted d (q .user) (numberOf o) k (operand (asked d q) k) → ⊥)
-      → Applies d q refusal.noAccess
-  -- 9: a container on an operand's way is marked, and its level is not at most the requester's clearance
-  marked : (o : Op) (k y : ℕ) → Names q o → Operand o k → List·Memᴰ y (basisOf (asked d q) k) → d .entity y mark ≢ 0
+  noAccess : (o : Op) (k x : ℕ) (way : List ℕ) → Refers o k d q way x → (Permitted d (q .user) (numberOf o) k x → ⊥) → Applies d q refusal.noAccess
+  -- 9: a container on the way to an operand is marked, and its level is not at most the requester's clearance
+  marked : (o : Op) (k x y : ℕ) (way : List ℕ) → Refers o k d q way x → List·Memᴰ y way → d .entity y mark ≢ 0
       → (AtMost (d .entity y level) (d .user (q .user) clearance) → ⊥) → Applies d q refusal.marked
   -- 10: an operand is not what it must be
-  wrongKind : (o : Op) (k : ℕ) → Names q o → Operand o k → (Suits o k d (operand (asked d q) k) → ⊥) → Applies d q refusal.wrongKind
-  -- 11 to 16: the operation's own
+  wrongKind : (o : Op) (k x : ℕ) (way : List ℕ) → Refers o k d q way x → (Suits o k d x → ⊥) → Applies d q refusal.wrongKind
+  -- 11 to 16: the operation's own, of the entities that its references lead to (Request/Asked)
   ownRefusal : {n : ℕ} (o : Op) → Names q o → Own (asked d q) d o n → Applies d q n
 
 -- Rule 7.1 too: refusal n applies to any words q of a request on any words t of tables.

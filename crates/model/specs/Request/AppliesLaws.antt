@@ -2,7 +2,8 @@
 use mathlib.Core.Bool.{Bool, _&&_, false, not, true}
 use mathlib.Core.List.{List, List·Memᴰ, List·Memᴰ·cases-cons, List·Memᴰ·head, List·Memᴰ·not-nil, List·Memᴰ·tail, [], _∷_}
 use mathlib.Core.Logic.{_≢_, _⊎_, inl, inr}
-use mathlib.Core.Path.{_≡_, refl}
+use mathlib.Core.Option.{some}
+use mathlib.Core.Path.{_∙_, _≡_, ap, refl, sym}
 use Prim.Native.Nat.{_+_, _<_, _≤_, ℕ}
 use native.Mathlib.Omega.{arith}
 use lib.Dec.{T, eqb}
@@ -22,8 +23,8 @@ use Rattle.model.specs.Request.Ladder.{bars, leadsNowhere, noAccess, not
 use Rattle.model.specs.Request.Ladder.{wrongKind}
 use Rattle.model.specs.Request.LadderLaws.{AllOperands, ofOp-agrees, operands-at, operands-both, operands-each, operands-map}
 use Rattle.model.specs.Request.LadderLaws.{someOperand-agrees}
-use Rattle.model.specs.Request.OperationLaws.{wantsDevice-agrees}
-use Rattle.model.specs.Request.Operations.{Op, numberOf, openLoggedOff, rowOf, toAcknowledge, toAuthorised, toClear, toClearance}
+use Rattle.model.specs.Request.OperationLaws.{number-opOf, opOf-number, wantsDevice-agrees}
+use Rattle.model.specs.Request.Operations.{Op, numberOf, opOf, openLoggedOff, rowOf, toAcknowledge, toAuthorised, toClear, toClearance}
 use Rattle.model.specs.Request.Operations.{toCopy, toCreate, toCurrent, toDelete, toDeviceLevel, toEdit, toGrant, toLevel, toLogin}
 use Rattle.model.specs.Request.Operations.{toLogout, toMark, toMaximum, toMove, toRelease, toRevoke, toShow}
 use Rattle.model.specs.Request.Reference.{Leads, basis, resolve}
@@ -33,6 +34,17 @@ use Rattle.model.specs.Request.TestLaws.{permits-agrees}
 use Rattle.model.specs.Request.Words.{Request, names}
 use Rattle.model.specs.State.WellFormed.{Thing, WellFormed}
 use Rattle.model.specs.Tables.Words.{Tables, clearance, containerKind, devices, kinds, level, mark}
+
+-- the operation that is found by the number of a request
+abbrev pub Found : Request → Op → Type 0
+Found q o = opOf (q .operation) ≡ some o
+
+-- is the one that the request names.
+pub found-names : (q : Request) (o : Op) → Found q o → Names q o
+found-names q o e = sym (opOf-number (q .operation) o e)
+
+pub names-found : (q : Request) (o : Op) → Names q o → Found q o
+names-found q o e = ap opOf e ∙ number-opOf o
 
 -- Rule 7.7: a reference is read as 0 exactly where it leads nowhere.
 nowhere-agrees : (d : Tables) → WellFormed d → (ns : List ℕ) → Agrees (eqb (resolve d ns) 0) ((way : List ℕ) (x : ℕ) → Leads d ns way x → ⊥)
@@ -127,11 +139,11 @@ suits-agree toAcknowledge = tt
 
 module _ (d : Tables) (q : Request) where
   -- Rule 7.5: no operation is named that the request fits.
-  pub notUnderstood-agrees : Agrees (notUnderstood d q) ((o : Op) → Names q o → Fits o q → ⊥)
+  pub notUnderstood-agrees : Agrees (notUnderstood d q) ((o : Op) → Found q o → Fits o q → ⊥)
   notUnderstood-agrees = agrees-as (λ f o n g. f (o, n, g)) (λ f z. f (z .0) (z .1) (z .2)) (fails-agrees (notUnderstood-fails d q))
 
   -- Rule 7.6: the operation wants a device, and the requester is on none.
-  pub notLoggedOn-agrees : Agrees (notLoggedOn d q) ((o : Op) × Names q o × WantsDevice o × (devices d (q .user) ≡ 0))
+  pub notLoggedOn-agrees : Agrees (notLoggedOn d q) ((o : Op) × Found q o × WantsDevice o × (devices d (q .user) ≡ 0))
   unfolding notLoggedOn
   notLoggedOn-agrees = agrees-as (λ z. let a = both (z .0) .to (z .2) in (z .0, z .1, a .0, a .1)) (λ z. (z .0, z .1, both (z .0) .from (z .2, z .3)))
       (ofOp-agrees q (λ o. not (openLoggedOff o) && eqb (devices d (q .user)) 0))
@@ -141,7 +153,7 @@ module _ (d : Tables) (q : Request) where
 
   -- a question put to each operand of the operation that is named
   operands-agree : (p : Op → ℕ → Kind → Bool) (P : Op → ℕ → Type 0) → ((o : Op) → AllOperands 1 (rowOf o .operands) (λ k x. Agrees (p o k x) (P o k)))
-      → Agrees (ofOp q (λ o. someOperand 1 (rowOf o .operands) (p o))) ((o : Op) × (k : ℕ) × Names q o × Operand o k × P o k)
+      → Agrees (ofOp q (λ o. someOperand 1 (rowOf o .operands) (p o))) ((o : Op) × (k : ℕ) × Found q o × Operand o k × P o k)
   operands-agree p P a = agrees-as
       (λ z. let y = each (z .0) .to (z .2) in (z .0, y .0, z .1, (y .1, omega (arith, y .2, operands-taken (z .0))), y .3))
       (λ z. (z .0, z .2, each (z .0) .from (z .1, z .3 .0, omega (arith, z .3 .1, operands-taken (z .0)), z .4)))
@@ -152,12 +164,12 @@ module _ (d : Tables) (q : Request) where
 
   -- the same, where the kind is not asked for
   positions-agree : (p : Op → ℕ → Bool) (P : Op → ℕ → Type 0) → ((o : Op) (k : ℕ) → Agrees (p o k) (P o k))
-      → Agrees (ofOp q (λ o. someOperand 1 (rowOf o .operands) (λ k x. p o k))) ((o : Op) × (k : ℕ) × Names q o × Operand o k × P o k)
+      → Agrees (ofOp q (λ o. someOperand 1 (rowOf o .operands) (λ k x. p o k))) ((o : Op) × (k : ℕ) × Found q o × Operand o k × P o k)
   positions-agree p P a =
       operands-agree (λ o k x. p o k) P (λ o. operands-each 1 (rowOf o .operands) (λ k x. Agrees (p o k) (P o k)) (λ k x. a o k))
 
   -- Rule 7.7: an operand's reference leads nowhere.
-  pub leadsNowhere-agrees : WellFormed d → Agrees (leadsNowhere d q) ((o : Op) × (k : ℕ) × Names q o × Operand o k × Nowhere d (reference q k))
+  pub leadsNowhere-agrees : WellFormed d → Agrees (leadsNowhere d q) ((o : Op) × (k : ℕ) × Found q o × Operand o k × Nowhere d (reference q k))
   unfolding leadsNowhere asked
   leadsNowhere-agrees w = positions-agree (λ o k. eqb (operand (asked d q) k) 0) (λ o k. Nowhere d (reference q k)) (λ o k. go (eqb k 1))
     where
@@ -167,21 +179,21 @@ module _ (d : Tables) (q : Request) where
 
   -- Rule 7.8: an operand does not permit it.
   pub noAccess-agrees : Agrees (noAccess d q)
-      ((o : Op) × (k : ℕ) × Names q o × Operand o k × (Permitted d (q .user) (numberOf o) k (operand (asked d q) k) → ⊥))
+      ((o : Op) × (k : ℕ) × Found q o × Operand o k × (Permitted d (q .user) (numberOf o) k (operand (asked d q) k) → ⊥))
   unfolding noAccess
   noAccess-agrees = positions-agree (λ o k. not (permits d (q .user) (numberOf o) k (operand (asked d q) k)))
       (λ o k. Permitted d (q .user) (numberOf o) k (operand (asked d q) k) → ⊥)
       (λ o k. agrees-not (permits-agrees d (q .user) (numberOf o) k (operand (asked d q) k)))
 
   -- Rule 7.9: a container on an operand's way is marked and too high.
-  pub notCleared-agrees : Agrees (notCleared d q) ((o : Op) × (k : ℕ) × Names q o × Operand o k × ((y : ℕ) × List·Memᴰ y (basisOf (asked d q) k)
+  pub notCleared-agrees : Agrees (notCleared d q) ((o : Op) × (k : ℕ) × Found q o × Operand o k × ((y : ℕ) × List·Memᴰ y (basisOf (asked d q) k)
       × (d .entity y mark ≢ 0) × (AtMost (d .entity y level) (d .user (q .user) clearance) → ⊥)))
   unfolding notCleared Barred
   notCleared-agrees = positions-agree (λ o k. bars d (d .user (q .user) clearance) (basisOf (asked d q) k))
       (λ o k. Barred d (d .user (q .user) clearance) (basisOf (asked d q) k)) (λ o k. bars-agrees d (d .user (q .user) clearance) (basisOf (asked d q) k))
 
   -- Rule 7.10: an operand is not what it must be.
-  pub wrongKind-agrees : Agrees (wrongKind d q) ((o : Op) × (k : ℕ) × Names q o × Operand o k × (Suits o k d (operand (asked d q) k) → ⊥))
+  pub wrongKind-agrees : Agrees (wrongKind d q) ((o : Op) × (k : ℕ) × Found q o × Operand o k × (Suits o k d (operand (asked d q) k) → ⊥))
   unfolding wrongKind
   wrongKind-agrees = operands-agree (λ o k x. not (x d (operand (asked d q) k))) (λ o k. Suits o k d (operand (asked d q) k) → ⊥) (λ o. other o)
     where
@@ -191,7 +203,7 @@ module _ (d : Tables) (q : Request) where
           (λ k x a. agrees-not (a d (operand (asked d q) k))) (suits-agree o)
 
   -- Where it does not apply, each operand is.
-  pub kinds-suit : (o : Op) → Names q o → T (not (wrongKind d q)) → (k : ℕ) → Operand o k → Suits o k d (operand (asked d q) k)
+  pub kinds-suit : (o : Op) → Found q o → T (not (wrongKind d q)) → (k : ℕ) → Operand o k → Suits o k d (operand (asked d q) k)
   kinds-suit o n t k h = operands-at 1 (rowOf o .operands) (λ k. Suits o k d (operand (asked d q) k)) suited k (h .0) (omega (arith, h .1, operands-taken o))
     where
       suited : AllOperands 1 (rowOf o .operands) (λ k x. Suits o k d (operand (asked d q) k))

@@ -5,13 +5,13 @@ use mathlib.Core.Path.{_≡_, refl}
 use Prim.Native.Nat.{_<_, _≤_, ℕ}
 use native.Mathlib.Omega.{arith}
 use lib.Dec.{T, leb, lit<, lit≤}
-use Rattle.model.specs.Basics.Agree.{Agrees, agrees-and, agrees-le}
+use Rattle.model.specs.Basics.Agree.{Agrees, agrees-and, agrees-as, agrees-le}
 use Rattle.model.specs.Basics.Fails.{fails-agrees}
 use Rattle.model.specs.Effect.WordsLaws.{clearance-wellFormed, level-wellFormed}
 use Rattle.model.specs.Level.{AtMost, officer, releasing}
 use Rattle.model.specs.Request.Allowed.{Operand}
-use Rattle.model.specs.Request.Applies.{Full, Own, Suits, acknowledgeNothing, acknowledgeNumber, acknowledgeOther, authorisedAbsent}
-use Rattle.model.specs.Request.Applies.{authorisedOutside, authorisedRole, clearanceAbsent, clearanceInsecure, clearanceRole, copyAbove}
+use Rattle.model.specs.Request.Applies.{Full, Own, Suits, WithEntity, WithUser, acknowledgeNothing, acknowledgeNumber, acknowledgeOther}
+use Rattle.model.specs.Request.Applies.{authorisedAbsent, authorisedOutside, authorisedRole, clearanceAbsent, clearanceInsecure, clearanceRole, copyAbove}
 use Rattle.model.specs.Request.Applies.{createAbove, createNumber, createPlace, currentAbsent, currentAnothers, currentOff, currentUnauthorised}
 use Rattle.model.specs.Request.Applies.{deleteFilled, deleteReleased, deleteShown, deviceInsecure, deviceLowered, grantFull, levelInsecure}
 use Rattle.model.specs.Request.Applies.{levelLowered, loginOn, loginTaken, maximumAbove, maximumRole, moveAbove, moveFull, moveInside}
@@ -22,6 +22,7 @@ use Rattle.model.specs.Request.ConditionLaws.{rolesUnauthorised-fails, u
 use Rattle.model.specs.Request.Conditions.{insecure, levelOf, userAbsent}
 use Rattle.model.specs.Request.Form.{InRange}
 use Rattle.model.specs.Request.Ladder.{refused}
+use Rattle.model.specs.Request.OneWordLaws.{entity-insecure, insecure-entity, insecure-user, user-insecure}
 use Rattle.model.specs.Request.Operations.{Op, clearanceEffect, levelEffect, rowOf, toAcknowledge, toAuthorised, toClear, toClearance, toCopy}
 use Rattle.model.specs.Request.Operations.{toCreate, toCurrent, toDelete, toDeviceLevel, toEdit, toGrant, toLevel, toLogin, toLogout, toMark}
 use Rattle.model.specs.Request.Operations.{toMaximum, toMove, toRelease, toRevoke, toShow}
@@ -33,8 +34,8 @@ use Rattle.model.specs.Request.RefusedLaws.{AllRefusals, refused-of}
 use Rattle.model.specs.State.Secure.{Secure}
 use Rattle.model.specs.State.WellFormed.{Holds, WellFormed}
 use Rattle.model.specs.Tables.Kinds.{Screen, Terminal}
-use Rattle.model.specs.Tables.Words.{Tables, absentKind, clearance, containerKind, devices, entityCount, held, kinds, missed, places, present}
-use Rattle.model.specs.Tables.Words.{releasedType, type}
+use Rattle.model.specs.Tables.Words.{Tables, absentKind, clearance, containerKind, devices, entityCount, held, kinds, level, missed, places}
+use Rattle.model.specs.Tables.Words.{present, releasedType, type}
 use Rattle.model.specs.Request.Refusals as refusal
 
 -- What rungs 2, 5 and 10 leave when they do not apply.
@@ -56,18 +57,23 @@ module _ (d : Tables) (s : Asked) where
   terminal h = h .operands 1 (lit≤ tt, lit≤ tt)
 
   -- Rules 6.6, 6.15 and 6.18, 13: the tables as they would be are well-formed, so that the test of rule 4 says what it should of them.
-  level-agrees : Suited toLevel s d → Agrees (insecure levelEffect d s) (Secure (levelEffect s d) → ⊥)
-  level-agrees h = fails-agrees (insecure-fails d s levelEffect
-      (level-wellFormed d (h .wellFormed) (s .first) (s .a) (h .operands 1 (lit≤ tt, lit≤ tt) .0) (h .arguments .0)))
+  level-agrees : Suited toLevel s d → Agrees (insecure levelEffect d s) ((d′ : Tables) → WithEntity (s .first) level (s .a) d d′ → Secure d′ → ⊥)
+  level-agrees h = agrees-as (entity-insecure (s .first) level (s .a) d) (insecure-entity (s .first) level (s .a) d)
+      (fails-agrees (insecure-fails d s levelEffect
+      (level-wellFormed d (h .wellFormed) (s .first) (s .a) (h .operands 1 (lit≤ tt, lit≤ tt) .0) (h .arguments .0))))
 
-  device-level-agrees : Suited toDeviceLevel s d → Agrees (insecure levelEffect d s) (Secure (levelEffect s d) → ⊥)
+  device-level-agrees : Suited toDeviceLevel s d
+      → Agrees (insecure levelEffect d s) ((d′ : Tables) → WithEntity (s .first) level (s .a) d d′ → Secure d′ → ⊥)
   device-level-agrees h =
       let k : Screen (kinds d (s .first)) = h .operands 1 (lit≤ tt, lit≤ tt) in
-      fails-agrees (insecure-fails d s levelEffect (level-wellFormed d (h .wellFormed) (s .first) (s .a) (omega arith) (h .arguments .0)))
+      agrees-as (entity-insecure (s .first) level (s .a) d) (insecure-entity (s .first) level (s .a) d)
+      (fails-agrees (insecure-fails d s levelEffect (level-wellFormed d (h .wellFormed) (s .first) (s .a) (omega arith) (h .arguments .0))))
 
-  clearance-agrees : Suited toClearance s d → T (not (userAbsent d s)) → Agrees (insecure clearanceEffect d s) (Secure (clearanceEffect s d) → ⊥)
-  clearance-agrees h n = fails-agrees (insecure-fails d s clearanceEffect
-      (clearance-wellFormed d (h .wellFormed) (s .a) (s .b) (userAbsent-fails d s .to n) (h .arguments .1 .0)))
+  clearance-agrees : Suited toClearance s d → T (not (userAbsent d s))
+      → Agrees (insecure clearanceEffect d s) ((d′ : Tables) → WithUser (s .a) clearance (s .b) d d′ → Secure d′ → ⊥)
+  clearance-agrees h n = agrees-as (user-insecure (s .a) clearance (s .b) d) (insecure-user (s .a) clearance (s .b) d)
+      (fails-agrees (insecure-fails d s clearanceEffect
+      (clearance-wellFormed d (h .wellFormed) (s .a) (s .b) (userAbsent-fails d s .to n) (h .arguments .1 .0))))
 
   -- Each refusal of each row is stated (rules 6.1 to 6.20).
   refusal-stated : (o : Op) → Suited o s d → AllRefusals (rowOf o .conditions) (λ n c. Spoken n o s d → T (c d s) → Own s d o n)

@@ -1,6 +1,6 @@
 -- The answer is the lowest number whose refusal applies, and 0 where none does: the ladder is what `Request/Applies` states (rules 7.0 to 7.16).
 use mathlib.Core.Bool.{Bool, false, true}
-use mathlib.Core.List.{List, [], _∷_}
+use mathlib.Core.List.{List, List·Memᴰ, [], _∷_}
 use mathlib.Core.Logic.{_↔_}
 use mathlib.Core.Path.{_≡_, refl, subst, sym}
 use Prim.Native.Nat.{_+_, _<_, suc, zero, ℕ}
@@ -9,17 +9,20 @@ use lib.Dec.{T, lit<}
 use Rattle.model.specs.Basics.Agree.{Agrees, agrees-not}
 use Rattle.model.specs.Basics.Fails.{fails-agrees}
 use Rattle.model.specs.Basics.TestLaws.{is-false, is-true}
-use Rattle.model.specs.Request.Applies.{Applies, AppliesTo, Lowest, Names, Own, badLength, badRequest, lowest, marked, noAccess, noSuchName}
+use Rattle.model.specs.Request.Applies.{Applies, AppliesTo, Lowest, Own, Refers, Suits, badLength, badRequest, lowest, marked, noAccess, noSuchName}
 use Rattle.model.specs.Request.Applies.{none, notLoggedOn, notSecure, notWellFormed, onTables, ownRefusal, unknownRequester, wrongKind}
-use Rattle.model.specs.Request.AppliesLaws.{kinds-suit, leadsNowhere-agrees, noAccess-agrees, notCleared-agrees, notLoggedOn-agrees}
-use Rattle.model.specs.Request.AppliesLaws.{notUnderstood-agrees, wrongKind-agrees}
-use Rattle.model.specs.Request.Asked.{asked}
+use Rattle.model.specs.Request.AppliesLaws.{Found, found-names, kinds-suit, leads-operand, leadsNowhere-agrees, names-found}
+use Rattle.model.specs.Request.AppliesLaws.{noAccess-agrees, notCleared-agrees, notLoggedOn-agrees, notUnderstood-agrees, operand-leads}
+use Rattle.model.specs.Request.AppliesLaws.{wrongKind-agrees}
+use Rattle.model.specs.Request.Allowed.{Operand, Permitted}
+use Rattle.model.specs.Request.Asked.{asked, basisOf, operand}
 use Rattle.model.specs.Request.Form.{Fits}
 use Rattle.model.specs.Request.Ladder.{IsAnswer, Rung, answer, applies, ladder, never, ownRung, refused, rungAt}
 use Rattle.model.specs.Request.LadderLaws.{answer-is, ofOp-agrees, own-rung}
-use Rattle.model.specs.Request.Operations.{Op, rowOf}
+use Rattle.model.specs.Request.Operations.{Op, numberOf, rowOf}
 use Rattle.model.specs.Request.OwnLaws.{Spoken, Suited, own-agrees, own-number}
-use Rattle.model.specs.Request.RungLaws.{notSecure-fails, notUnderstood-fails, notWellFormed-fails, ownRung-fails, unknownUser-fails}
+use Rattle.model.specs.Request.RungLaws.{leadsNowhere-fails, notSecure-fails, notUnderstood-fails, notWellFormed-fails, ownRung-fails}
+use Rattle.model.specs.Request.RungLaws.{unknownUser-fails}
 use Rattle.model.specs.Request.Step.{answerOf, sized}
 use Rattle.model.specs.Request.Words.{Request, requestOf}
 use Rattle.model.specs.State.WellFormed.{WellFormed}
@@ -53,14 +56,23 @@ module _ (d : Tables) (b : Bounded d) (q : Request) where
     well h = notWellFormed-fails d q b .to (is-false _ (r refusal.notWellFormed h))
 
     -- past rung 5 the request fits the operation that it names,
-    form : refusal.badRequest < n → (o : Op) → Names q o → Fits o q
+    form : refusal.badRequest < n → (o : Op) → Found q o → Fits o q
     unfolding applies rungAt ladder
     form h o e =
         let z = notUnderstood-fails d q .to (is-false _ (r refusal.badRequest h)) in
         subst (λ (p : Op). Fits p q) (let i : z .0 ≡ o = cc in i) (z .2)
 
+    -- past rung 7 each of its references leads to an operand,
+    referring : refusal.noSuchName < n → (o : Op) (k : ℕ) → Found q o → Operand o k → Refers o k d q (basisOf (asked d q) k) (operand (asked d q) k)
+    unfolding applies rungAt ladder
+    referring h o k e i = record {
+      named = found-names q o e;
+      taken = i;
+      leads = operand-leads d q k (leadsNowhere-fails d q o e .to (is-false _ (r refusal.noSuchName h)) k i);
+    }
+
     -- past rung 10 its operands suit it,
-    suited : refusal.wrongKind < n → (o : Op) → Names q o → Suited o (asked d q) d
+    suited : refusal.wrongKind < n → (o : Op) → Found q o → Suited o (asked d q) d
     unfolding applies rungAt ladder asked
     suited h o e = record {
       wellFormed = well (omega arith);
@@ -69,7 +81,7 @@ module _ (d : Tables) (b : Bounded d) (q : Request) where
     }
 
     -- and past rung 11 the user spoken of is there.
-    spoken : (o : Op) → Names q o → Spoken n o (asked d q) d
+    spoken : (o : Op) → Found q o → Spoken n o (asked d q) d
     unfolding applies rungAt ladder
     spoken o e h = ownRung-fails d q o e refusal.noSuchUser .to (is-false _ (r refusal.noSuchUser h))
 
@@ -78,7 +90,7 @@ module _ (d : Tables) (b : Bounded d) (q : Request) where
   unfolding ownRung
   own-stated n h r t =
       let z = ofOp-agrees q (λ o. refused n (rowOf o .conditions) d (asked d q)) .to t in
-      ownRefusal (z .0) (z .1) (own-agrees d (asked d q) (z .0) n (suited n r h (z .0) (z .1)) (spoken n r (z .0) (z .1)) .to (z .2))
+      ownRefusal (z .0) (found-names q (z .0) (z .1)) (own-agrees d (asked d q) (z .0) n (suited n r h (z .0) (z .1)) (spoken n r (z .0) (z .1)) .to (z .2))
 
   -- Each rung that is reached and applies is stated,
   rung-stated : AllRungs 0 (never ∷ never ∷ ladder) (λ n rung. Reaches n d q → T (rung d q) → Applies d q n)
@@ -90,14 +102,16 @@ module _ (d : Tables) (b : Bounded d) (q : Request) where
       let s2 : Stated refusal.notWellFormed = λ r t. notWellFormed (fails-agrees (notWellFormed-fails d q b) .to t) in
       let s3 : Stated refusal.notSecure = λ r t. notSecure (fails-agrees (notSecure-fails d q (well refusal.notSecure r (lit< tt))) .to t) in
       let s4 : Stated refusal.unknownRequester = λ r t. unknownRequester (fails-agrees (unknownUser-fails d q) .to t) in
-      let s5 : Stated refusal.badRequest = λ r t. badRequest (notUnderstood-agrees d q .to t) in
-      let s6 : Stated refusal.notLoggedOn = λ r t. let z = notLoggedOn-agrees d q .to t in notLoggedOn (z .0) (z .1) (z .2) (z .3) in
+      let s5 : Stated refusal.badRequest = λ r t. badRequest (λ o e. notUnderstood-agrees d q .to t o (names-found q o e)) in
+      let s6 : Stated refusal.notLoggedOn = λ r t. let z = notLoggedOn-agrees d q .to t in notLoggedOn (z .0) (found-names q (z .0) (z .1)) (z .2) (z .3) in
       let s7 : Stated refusal.noSuchName =
-      λ r t. let z = leadsNowhere-agrees d q (well refusal.noSuchName r (lit< tt)) .to t in noSuchName (z .0) (z .1) (z .2) (z .3) (z .4) in
-      let s8 : Stated refusal.noAccess = λ r t. let z = noAccess-agrees d q .to t in noAccess (z .0) (z .1) (z .2) (z .3) (z .4) in
-      let s9 : Stated refusal.marked =
-      λ r t. let z = notCleared-agrees d q .to t in marked (z .0) (z .1) (z .4 .0) (z .2) (z .3) (z .4 .1) (z .4 .2) (z .4 .3) in
-      let s10 : Stated refusal.wrongKind = λ r t. let z = wrongKind-agrees d q .to t in wrongKind (z .0) (z .1) (z .2) (z .3) (z .4) in
+      λ r t. let z = leadsNowhere-agrees d q (well refusal.noSuchName r (lit< tt)) .to t in noSuchName (z .0) (z .1) (found-names q (z .0) (z .2)) (z .3) (z .4) in
+      let s8 : Stated refusal.noAccess = λ r t. let z = noAccess-agrees d q .to t in
+          noAccess (z .0) (z .1) _ _ (referring refusal.noAccess r (lit< tt) (z .0) (z .1) (z .2) (z .3)) (z .4) in
+      let s9 : Stated refusal.marked = λ r t. let z = notCleared-agrees d q .to t in
+          marked (z .0) (z .1) _ (z .4 .0) _ (referring refusal.marked r (lit< tt) (z .0) (z .1) (z .2) (z .3)) (z .4 .1) (z .4 .2) (z .4 .3) in
+      let s10 : Stated refusal.wrongKind = λ r t. let z = wrongKind-agrees d q .to t in
+          wrongKind (z .0) (z .1) _ _ (referring refusal.wrongKind r (lit< tt) (z .0) (z .1) (z .2) (z .3)) (z .4) in
       let s11 = own-stated refusal.noSuchUser (lit< tt) in
       let s12 = own-stated refusal.roleMissing (lit< tt) in
       let s13 = own-stated refusal.levelOrRoles (lit< tt) in
@@ -112,7 +126,7 @@ module _ (d : Tables) (b : Bounded d) (q : Request) where
       let e : 0 + n ≡ n = omega arith in
       rw e at (rung-at 0 n (never ∷ never ∷ ladder) (λ n rung. Reaches n d q → T (rung d q) → Applies d q n) d q rung-stated t) r t
 
-  own-applied : (n : ℕ) → Reaches n d q → (o : Op) → Names q o → Own (asked d q) d o n → T (applies n d q)
+  own-applied : (n : ℕ) → Reaches n d q → (o : Op) → Found q o → Own (asked d q) d o n → T (applies n d q)
   unfolding ownRung
   own-applied n r o e z =
       let i = own-number d (asked d q) z in
@@ -125,13 +139,19 @@ module _ (d : Tables) (b : Bounded d) (q : Request) where
   stated-applied r (notWellFormed f) = fails-agrees (notWellFormed-fails d q b) .from f
   stated-applied r (notSecure f) = fails-agrees (notSecure-fails d q (well refusal.notSecure r (lit< tt))) .from f
   stated-applied r (unknownRequester f) = fails-agrees (unknownUser-fails d q) .from f
-  stated-applied r (badRequest f) = notUnderstood-agrees d q .from f
-  stated-applied r (notLoggedOn o e w z) = notLoggedOn-agrees d q .from (o, e, w, z)
-  stated-applied r (noSuchName o k e i f) = leadsNowhere-agrees d q (well refusal.noSuchName r (lit< tt)) .from (o, k, e, i, f)
-  stated-applied r (noAccess o k e i f) = noAccess-agrees d q .from (o, k, e, i, f)
-  stated-applied r (marked o k y e i m n f) = notCleared-agrees d q .from (o, k, e, i, (y, m, n, f))
-  stated-applied r (wrongKind o k e i f) = wrongKind-agrees d q .from (o, k, e, i, f)
-  stated-applied {n} r (ownRefusal o e z) = own-applied n r o e z
+  stated-applied r (badRequest f) = notUnderstood-agrees d q .from (λ o e. f o (found-names q o e))
+  stated-applied r (notLoggedOn o e w z) = notLoggedOn-agrees d q .from (o, names-found q o e, w, z)
+  stated-applied r (noSuchName o k e i f) = leadsNowhere-agrees d q (well refusal.noSuchName r (lit< tt)) .from (o, k, names-found q o e, i, f)
+  stated-applied r (noAccess o k x way h f) =
+      let l = leads-operand d q k x way (h .leads) in
+      noAccess-agrees d q .from (o, k, names-found q o (h .named), h .taken, λ p. f (subst (Permitted d (q .user) (numberOf o) k) (l .0) p))
+  stated-applied r (marked o k x y way h m n f) =
+      let l = leads-operand d q k x way (h .leads) in
+      notCleared-agrees d q .from (o, k, names-found q o (h .named), h .taken, (y, subst (List·Memᴰ y) (sym (l .1)) m, n, f))
+  stated-applied r (wrongKind o k x way h f) =
+      let l = leads-operand d q k x way (h .leads) in
+      wrongKind-agrees d q .from (o, k, names-found q o (h .named), h .taken, λ p. f (subst (Suits o k d) (l .0) p))
+  stated-applied {n} r (ownRefusal o e z) = own-applied n r o (names-found q o e) z
 
   -- Rules 7.2 to 7.16: a rung that is reached applies exactly where its refusal does.
   pub rung-agrees : (n : ℕ) → Reaches n d q → Agrees (applies n d q) (Applies d q n)
