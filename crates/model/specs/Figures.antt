@@ -15,11 +15,13 @@ use Rattle.model.specs.Request.Operations.{toMove, toRelease, toRevoke, 
 use Rattle.model.specs.Request.Words.{nameCount, requestWords}
 use Rattle.model.specs.Script.State.{byteValues, fileBytes, fourthWeight, secondWeight, thirdWeight, wordBytes}
 use Rattle.model.specs.Script.Windows.{reportBytes}
-use Rattle.model.specs.Tables.Layout.{entitiesFrom, entityWidth, userWidth, wordCount}
-use Rattle.model.specs.Tables.Words.{absentKind, containerKind, deviceKind, draftType, entityCount, firstNoticed, idBit, labelBit}
-use Rattle.model.specs.Tables.Words.{lastNoticed, missedMost, objectKind, operationCount, operationIn, operationWeight, placeCount}
-use Rattle.model.specs.Tables.Words.{plainType, positionCount, positionOf, releasedType, spareCount, sumMost, tripleOf, userCount}
-use Rattle.model.specs.Tables.Words.{valueBit, whoMost, whoOf, whoRole, whoWeight}
+use Rattle.model.specs.Tables.Layout.{entitiesFrom, entityWidth, offset, userOffset, userWidth, wordCount}
+use Rattle.model.specs.Tables.Words.{absentKind, authorised, clearance, containerKind, current, device, deviceKind, draftType}
+use Rattle.model.specs.Tables.Words.{entityCount, firstNoticed, held, heldOp, idBit, kind, labelBit, lastNoticed, level, mark}
+use Rattle.model.specs.Tables.Words.{maximum, missed, missedMost, objectKind, operationCount, operationIn, operationWeight, place}
+use Rattle.model.specs.Tables.Words.{placeCount, plainType, positionCount, positionOf, present, releasedType, releaser, shown, spare}
+use Rattle.model.specs.Tables.Words.{spareCount, sumMost, triple, tripleOf, type, used, userCount, value, valueBit, whoMost, whoOf}
+use Rattle.model.specs.Tables.Words.{whoRole, whoWeight}
 use Rattle.model.specs.Text.Lines.{lineEnd}
 use Rattle.model.specs.Text.Numbers.{base, digitCount, digitsEnd, most, nineByte, zeroByte}
 use Rattle.model.specs.Text.References.{dotByte}
@@ -52,6 +54,16 @@ sizes-are = (refl, refl, refl, refl, refl, refl, refl, refl)
 -- Rule 2.1: the entities' records start at word 256, and eight words of a user are spare.
 pub places-are : (entitiesFrom ≡ 256) × (spareCount ≡ 8)
 places-are = (refl, refl)
+
+-- Rule 2.2: where each word of a user stands in the record.
+pub user-offsets-are : (userOffset present ≡ 0) × (userOffset clearance ≡ 1) × (userOffset authorised ≡ 2) × (userOffset current ≡ 3)
+    × (userOffset device ≡ 4) × (userOffset held ≡ 5) × (userOffset heldOp ≡ 6) × (userOffset missed ≡ 7) × (userOffset (spare 0) ≡ 8)
+user-offsets-are = (refl, refl, refl, refl, refl, refl, refl, refl, refl)
+
+-- Rule 2.3: where each word of an entity stands, the rows by their first.
+pub entity-offsets-are : (offset kind ≡ 0) × (offset type ≡ 1) × (offset level ≡ 2) × (offset mark ≡ 3) × (offset value ≡ 4) × (offset releaser ≡ 5)
+    × (offset maximum ≡ 6) × (offset used ≡ 7) × (offset (place 0) ≡ 8) × (offset (shown 0) ≡ 16) × (offset (triple 0) ≡ 24)
+entity-offsets-are = (refl, refl, refl, refl, refl, refl, refl, refl, refl, refl, refl)
 
 -- Rule 2.3: kinds and types.
 pub kinds-are : (absentKind ≡ 0) × (objectKind ≡ 1) × (containerKind ≡ 2) × (deviceKind ≡ 3)

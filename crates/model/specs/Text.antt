@@ -4,8 +4,9 @@ pub mod NumberLaws
 pub mod Lines
 pub mod LineLaws
 pub mod References
-pub mod ReferenceLaws
 pub mod Wording
+pub mod Textual
+pub mod ReferenceLaws
 pub mod WordingLaws
 pub mod Unfinished
 pub mod WeightLaws

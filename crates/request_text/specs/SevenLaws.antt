@@ -6,8 +6,9 @@ use native.Mathlib.Omega.{arith}
 use lib.ListN.{drop, length, length-append, length-drop}
 use lib.Seq.{drop-at, drop-drop}
 use Rattle.model.specs.Text.Reading.{wordsIn}
+use Rattle.model.specs.Text.Textual.{Written}
 use Rattle.model.specs.Text.Wording.{Lines, Wording, badLine, lines, readSeven, sixteen, textOf}
-use Rattle.model.specs.Text.WordingLaws.{Written, text-back, text-some}
+use Rattle.model.specs.Text.WordingLaws.{text-back, text-some}
 use Rattle.request_text.specs.Seven.{SevenAt, sevenOf}
 use Rattle.request_text.specs.declared.reading.Seven.the-variants.{BadLine, Next}
 

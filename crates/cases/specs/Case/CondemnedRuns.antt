@@ -22,9 +22,8 @@ use Rattle.model.specs.Tables.Layout.{tablesOf, wordCount}
 use Rattle.model.specs.Tables.Words.{Tables, held, missed}
 use Rattle.model.specs.Text.Lines.{readLine}
 use Rattle.model.specs.Text.Numbers.{most}
-use Rattle.model.specs.Text.ReferenceLaws.{AllFit}
+use Rattle.model.specs.Text.Textual.{AllFit, Written}
 use Rattle.model.specs.Text.Wording.{Wording, badLine, readSeven, sixteen}
-use Rattle.model.specs.Text.WordingLaws.{Written}
 use Rattle.model.specs.Text.WordsLaws.{sixteen-length}
 use Rattle.model.specs.Theorem.Steps.{afterOf-length, afterOf-tables, sized-agrees}
 

@@ -41,8 +41,11 @@ value-obeys d q o a d′ h x v = record {
   translation = h .translation;
   setting = record { maximum = h .setting .maximum; clearance = h .setting .clearance; authorised = h .setting .authorised; current = h .setting .current };
   downgrade = h .downgrade;
-  release = record { stays = h .release .stays; becomes = λ y b n z. let r = h .release .becomes y b n z in
-      record { releaser = r .releaser; asks = r .asks; operand = r .operand; role = r .role; draft = r .draft } };
+  release = record {
+    stays = h .release .stays;
+    becomes = λ y b n z. let r = h .release .becomes y b n z in
+        record { releaser = r .releaser; asks = r .asks; operand = r .operand; role = r .role; draft = r .draft };
+  };
 }
 
 copies-accepted : answer s1 copies ≡ refusal.accepted

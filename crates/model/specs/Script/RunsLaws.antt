@@ -10,8 +10,9 @@ use Rattle.model.specs.Script.Reports.{Report, output, report, unread}
 use Rattle.model.specs.Script.Runs.{Answered, Outputs, Reported, Runs, cut, requests, stay, texts, turn, whole}
 use Rattle.model.specs.Text.Lines.{readLine}
 use Rattle.model.specs.Text.NearLaws.{read-longer, read-shorter}
+use Rattle.model.specs.Text.Textual.{Written}
 use Rattle.model.specs.Text.Wording.{Lines, Wording, badLine, lines, readSeven, sixteen, textOf}
-use Rattle.model.specs.Text.WordingLaws.{Written, text-back, text-there}
+use Rattle.model.specs.Text.WordingLaws.{text-back, text-there}
 use Rattle.model.specs.Theorem.Statements.{afterWords}
 
 -- one run after another is a run

@@ -22,11 +22,12 @@ use Rattle.model.specs.Text.NumberLaws.{length-most}
 use Rattle.model.specs.Text.Numbers.{digitCount, digits, most, number}
 use Rattle.model.specs.Text.Reading.{Reads, lineIn, readNumber}
 use Rattle.model.specs.Text.References.{dotted, joined}
+use Rattle.model.specs.Text.Textual.{Textual}
 use Rattle.model.specs.Text.Unfinished.{lineTotal, longest}
 use Rattle.model.specs.Text.Wording.{Lines, Wording, aKey, atEnd, bKey, badLine, cKey, lines, opKey, readSeven, readText, ref2Key}
 use Rattle.model.specs.Text.Wording.{refKey, textOf, userKey, wordingOf}
 use Rattle.model.specs.Text.WordingLaws.{text-length}
-use Rattle.model.specs.Text.WordsLaws.{Textual, hasText-says}
+use Rattle.model.specs.Text.WordsLaws.{hasText-says}
 use Rattle.model.specs.Text.Writing.{Writes, bytesAfter, hasText, textOfWords, writeNumber}
 use Rattle.model.specs.Request.Refusals as refusal
 
@@ -135,7 +136,7 @@ write-number-small w =
   where
     fits : Textual (requestOf w) → length (textOfWords w) ≤ longest
     fits t =
-        text-longest (wordingOf (requestOf w)) (names-few (requestOf w .first) (t .first-few)) (names-few (requestOf w .second) (t .second-few))
+        text-longest (wordingOf (requestOf w)) (names-few (requestOf w .first) (t .firstFew)) (names-few (requestOf w .second) (t .secondFew))
 
 -- the line of seven at which reading stops
 seven-most : (s : List ℕ) (r : Lines) → readSeven s ≡ r → lineIn r ≤ lineTotal

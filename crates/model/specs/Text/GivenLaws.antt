@@ -12,10 +12,10 @@ use Rattle.model.specs.List.Listing.{entry}
 use Rattle.model.specs.Request.Words.{Reference, nameCount, names, referenceAt, requestOf, requestWords}
 use Rattle.model.specs.Text.Given.{Gives, HasText, Small}
 use Rattle.model.specs.Text.Numbers.{most}
-use Rattle.model.specs.Text.ReferenceLaws.{AllFit}
+use Rattle.model.specs.Text.Textual.{AllFit, Textual, Written}
 use Rattle.model.specs.Text.Wording.{Wording, lines, sixteen, textOf, wordingOf}
-use Rattle.model.specs.Text.WordingLaws.{Written, whole-back, whole-there}
-use Rattle.model.specs.Text.WordsLaws.{Textual, hasText-says, sixteen-hasText, sixteen-length, sixteen-wording, wording-sixteen}
+use Rattle.model.specs.Text.WordingLaws.{whole-back, whole-there}
+use Rattle.model.specs.Text.WordsLaws.{hasText-says, sixteen-hasText, sixteen-length, sixteen-wording, wording-sixteen}
 use Rattle.model.specs.Text.Writing.{hasText, textOfWords}
 
 -- ---- words of 32 bits
@@ -70,8 +70,8 @@ small-written w s h =
     record {
       user = s 0;
       operation = s 1;
-      first = (names-few (referenceAt w 2) (t .first-few), names-fit (referenceAt w 2) (s 3) (s 4) (s 5) (s 6));
-      second = (names-few (referenceAt w 7) (t .second-few), names-fit (referenceAt w 7) (s 8) (s 9) (s 10) (s 11));
+      first = (names-few (referenceAt w 2) (t .firstFew), names-fit (referenceAt w 2) (s 3) (s 4) (s 5) (s 6));
+      second = (names-few (referenceAt w 7) (t .secondFew), names-fit (referenceAt w 7) (s 8) (s 9) (s 10) (s 11));
       a = s 12;
       b = s 13;
       c = s 14;

@@ -14,11 +14,12 @@ use Rattle.model.specs.Text.Lines.{lineEnd, readLine}
 use Rattle.model.specs.Text.NumberLaws.{digit-of}
 use Rattle.model.specs.Text.Numbers.{Read, bad, got, isDigit, number}
 use Rattle.model.specs.Text.References.{reference}
+use Rattle.model.specs.Text.Textual.{Written}
 use Rattle.model.specs.Text.Unfinished.{ends, lineTotal, longest, unfinished}
 use Rattle.model.specs.Text.WeightLaws.{extended, seven-near, weight}
 use Rattle.model.specs.Text.Wording.{Lines, Wording, aKey, bKey, badLine, cKey, lines, opKey, orLine, readSeven, ref2Key, refKey}
 use Rattle.model.specs.Text.Wording.{textOf, userKey}
-use Rattle.model.specs.Text.WordingLaws.{Written, text-back, text-some, text-there}
+use Rattle.model.specs.Text.WordingLaws.{text-back, text-some, text-there}
 use borrow.Author.Tests.{ltb-false, ne-eqb}
 
 -- a request that was read is read in front of any further bytes, too

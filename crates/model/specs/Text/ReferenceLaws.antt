@@ -14,11 +14,7 @@ use Rattle.model.specs.Text.NumberLaws.{Back, Stops, digits-first, numbe
 use Rattle.model.specs.Text.Numbers.{digits, got, isDigit, most, number}
 use Rattle.model.specs.Text.References.{dotByte, dotted, further, joined, nameAnd, reference}
 use borrow.Author.Tests.{eqb-true}
-
--- every number of a list is one of 32 bits
-abbrev pub AllFit : List ℕ → Type 0
-AllFit [] = Unit {0}
-AllFit (n ∷ ns) = (n ≤ most) × AllFit ns
+use Rattle.model.specs.Text.Textual.{AllFit}
 
 stops-dotted : (ns x : List ℕ) → Stops (dotted ns ++ (lineEnd ∷ x))
 stops-dotted [] x = refl

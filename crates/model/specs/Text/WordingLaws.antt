@@ -8,20 +8,11 @@ use Rattle.model.specs.Request.Words.{nameCount}
 use Rattle.model.specs.Text.LineLaws.{length-line, line-back, line-there, numbers}
 use Rattle.model.specs.Text.Lines.{line, readLine}
 use Rattle.model.specs.Text.Numbers.{Read, bad, digits, got, most, number}
-use Rattle.model.specs.Text.ReferenceLaws.{AllFit, references}
+use Rattle.model.specs.Text.ReferenceLaws.{references}
 use Rattle.model.specs.Text.References.{joined, reference}
+use Rattle.model.specs.Text.Textual.{AllFit, Written}
 use Rattle.model.specs.Text.Wording.{Lines, Wording, aKey, atEnd, bKey, badLine, cKey, lines, opKey, orLine, readSeven, readText}
 use Rattle.model.specs.Text.Wording.{ref2Key, refKey, textOf, userKey}
-
--- the requests that some text gives
-pub record Written (m : Wording) : Type 0 where
-  pub user : m .user ≤ most
-  pub operation : m .operation ≤ most
-  pub first : (length (m .first) ≤ nameCount) × AllFit (m .first)
-  pub second : (length (m .second) ≤ nameCount) × AllFit (m .second)
-  pub a : m .a ≤ most
-  pub b : m .b ≤ most
-  pub c : m .c ≤ most
 
 text-onto : (m : Wording) (x : List ℕ)
     → textOf m ++ x

@@ -11,6 +11,7 @@ use Rattle.model.specs.List.Listing.{entry}
 use Rattle.model.specs.Request.FitLaws.{names-agree}
 use Rattle.model.specs.Request.Words.{Reference, Request, nameCount, names, referenceAt, requestOf, requestWords}
 use Rattle.model.specs.Tables.WordsOf.{firstValues}
+use Rattle.model.specs.Text.Textual.{Textual}
 use Rattle.model.specs.Text.Wording.{Wording, sixteen, wordingOf}
 use Rattle.model.specs.Text.Writing.{hasText}
 
@@ -35,14 +36,6 @@ pub sixteen-length : (m : Wording) → length (sixteen m) ≡ requestWords
 unfolding sixteen
 sixteen-length m = refl
 
--- Rule 11.3: what the writer's test says of a request.
-pub record Textual (q : Request) : Type 0 where
-  pub first-few : q .first .length ≤ nameCount
-  pub second-few : q .second .length ≤ nameCount
-  pub first-zeros : (i : ℕ) → i < nameCount → q .first .length ≤ i → q .first .name i ≡ 0
-  pub second-zeros : (i : ℕ) → i < nameCount → q .second .length ≤ i → q .second .name i ≡ 0
-  pub last-zero : q .last ≡ 0
-
 hasText-all : (q : Request)
     → Agrees (hasText q)
     ((q .first .length ≤ nameCount) × ((q .second .length ≤ nameCount)
@@ -57,10 +50,10 @@ hasText-all q =
 pub hasText-says : (q : Request) → hasText q ≡ true → Textual q
 hasText-says q h =
     let z = hasText-all q .to (is-true (hasText q) h) in
-    record { first-few = z .0; second-few = z .1 .0; first-zeros = z .1 .1 .0; second-zeros = z .1 .1 .1 .0; last-zero = z .1 .1 .1 .1 }
+    record { firstFew = z .0; secondFew = z .1 .0; firstZeros = z .1 .1 .0; secondZeros = z .1 .1 .1 .0; lastZero = z .1 .1 .1 .1 }
 
 pub says-hasText : (q : Request) → Textual q → hasText q ≡ true
-says-hasText q t = holds-true (hasText q) (hasText-all q .from (t .first-few, (t .second-few, (t .first-zeros, (t .second-zeros, t .last-zero)))))
+says-hasText q t = holds-true (hasText q) (hasText-all q .from (t .firstFew, (t .secondFew, (t .firstZeros, (t .secondZeros, t .lastZero)))))
 
 -- name words that are those of a list of names are zero after it
 zeros-after : (r : List ℕ) (f : ℕ → ℕ) → f 0 ≡ getD r 0 0 → f 1 ≡ getD r 1 0 → f 2 ≡ getD r 2 0 → f 3 ≡ getD r 3 0
@@ -74,11 +67,11 @@ zeros-after r f a b c d (suc (suc (suc (suc i)))) h l = absurd (omega arith)
 sixteen-says : (m : Wording) → length (m .first) ≤ nameCount → length (m .second) ≤ nameCount → Textual (requestOf (sixteen m))
 unfolding sixteen requestOf referenceAt
 sixteen-says m h k = record {
-  first-few = h;
-  second-few = k;
-  first-zeros = zeros-after (m .first) (requestOf (sixteen m) .first .name) refl refl refl refl;
-  second-zeros = zeros-after (m .second) (requestOf (sixteen m) .second .name) refl refl refl refl;
-  last-zero = refl;
+  firstFew = h;
+  secondFew = k;
+  firstZeros = zeros-after (m .first) (requestOf (sixteen m) .first .name) refl refl refl refl;
+  secondZeros = zeros-after (m .second) (requestOf (sixteen m) .second .name) refl refl refl refl;
+  lastZero = refl;
 }
 
 -- and they have a text.
@@ -125,8 +118,8 @@ sixteen-ordered : (q : Request) → Textual q → sixteen (wordingOf q) ≡ orde
 unfolding sixteen
 sixteen-ordered q t =
     ap₂ (λ (x y : List ℕ). q .user ∷ q .operation ∷ (x ++ (y ++ (q .a ∷ q .b ∷ q .c ∷ 0 ∷ []))))
-    (entry-names (q .first) (t .first-few) (t .first-zeros)) (entry-names (q .second) (t .second-few) (t .second-zeros))
-    ∙ rw (t .last-zero)
+    (entry-names (q .first) (t .firstFew) (t .firstZeros)) (entry-names (q .second) (t .secondFew) (t .secondZeros))
+    ∙ rw (t .lastZero)
 
 -- The sixteen words of the wording of some words are those words, where they are sixteen and have a text.
 pub sixteen-wording : (w : List ℕ) → length w ≡ requestWords → hasText (requestOf w) ≡ true → sixteen (wordingOf (requestOf w)) ≡ w

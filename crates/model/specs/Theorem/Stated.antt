@@ -107,11 +107,11 @@ module _ (d : Tables) (b : Bounded d) (q : Request) where
       let s7 : Stated refusal.noSuchName =
       λ r t. let z = leadsNowhere-agrees d q (well refusal.noSuchName r (lit< tt)) .to t in noSuchName (z .0) (z .1) (found-names q (z .0) (z .2)) (z .3) (z .4) in
       let s8 : Stated refusal.noAccess = λ r t. let z = noAccess-agrees d q .to t in
-          noAccess (z .0) (z .1) _ _ (referring refusal.noAccess r (lit< tt) (z .0) (z .1) (z .2) (z .3)) (z .4) in
+      noAccess (z .0) (z .1) _ _ (referring refusal.noAccess r (lit< tt) (z .0) (z .1) (z .2) (z .3)) (z .4) in
       let s9 : Stated refusal.marked = λ r t. let z = notCleared-agrees d q .to t in
-          marked (z .0) (z .1) _ (z .4 .0) _ (referring refusal.marked r (lit< tt) (z .0) (z .1) (z .2) (z .3)) (z .4 .1) (z .4 .2) (z .4 .3) in
+      marked (z .0) (z .1) _ (z .4 .0) _ (referring refusal.marked r (lit< tt) (z .0) (z .1) (z .2) (z .3)) (z .4 .1) (z .4 .2) (z .4 .3) in
       let s10 : Stated refusal.wrongKind = λ r t. let z = wrongKind-agrees d q .to t in
-          wrongKind (z .0) (z .1) _ _ (referring refusal.wrongKind r (lit< tt) (z .0) (z .1) (z .2) (z .3)) (z .4) in
+      wrongKind (z .0) (z .1) _ _ (referring refusal.wrongKind r (lit< tt) (z .0) (z .1) (z .2) (z .3)) (z .4) in
       let s11 = own-stated refusal.noSuchUser (lit< tt) in
       let s12 = own-stated refusal.roleMissing (lit< tt) in
       let s13 = own-stated refusal.levelOrRoles (lit< tt) in
