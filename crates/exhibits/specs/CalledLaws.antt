@@ -5,7 +5,7 @@ use mathlib.Core.Path.{_∙_, _≡_, ap, subst, sym}
 use Prim.Native.Nat.{ℕ}
 use lib.Dec.{T, eqb, eqb→eq}
 use lib.ListN.{length}
-use Rattle.exhibits.specs.Called.{AllHold, Holds, allInSixteen, inSixteen}
+use Rattle.exhibits.specs.Called.{AllConfirmed, Confirmed, allInSixteen, inSixteen}
 use Rattle.mms.specs.Contract.{Exports, exported}
 use Rattle.mms.specs.RoundTrip.{answering}
 use Rattle.mms.specs.declared.Answer.{Answer}
@@ -21,7 +21,7 @@ use Rattle.model.specs.Theorem.Steps.{afterOf-length, afterOf-tables, answerOf-
 
 -- A case that passes on the tables d holds of calls on the words of d.
 pub case-called : (t : List ℕ) (d : Tables) (es : List Exchange) (ws : List Stands) → length t ≡ wordCount → tablesOf t ≡ d → T (inSixteen es)
-    → T (passesAt d es ws) → Holds t es ws
+    → T (passesAt d es ws) → Confirmed t es ws
 unfolding passesAt
 case-called t d [] ws l e s p = subst (λ (c : Tables). T (stand ws c)) (sym e) p
 case-called t d (q gets n ∷ es) ws l e s p =
@@ -33,7 +33,7 @@ case-called t d (q gets n ∷ es) ws l e s p =
     (T-r (eqb (answer d (requestOf q)) n) (passesAt (after d (requestOf q)) es ws) p) in
     λ a r x. (
       x .word ∙ ap (λ (c : Answer). exported c) (x .called .answer) ∙ ap (λ (k : ℕ). exported (answering k 0)) b,
-      subst (λ (u : List ℕ). Holds u es ws) (sym (x .called .words)) h,
+      subst (λ (u : List ℕ). Confirmed u es ws) (sym (x .called .words)) h,
     )
 
 -- the first case of a table passes, and so do the others
@@ -47,7 +47,7 @@ first-passes d c cs p = go (passesAt d (c .exchanges) (c .standing)) p
 
 -- So it is with a table of cases,
 pub cases-called : (t : List ℕ) (d : Tables) (cs : List Case) → length t ≡ wordCount → tablesOf t ≡ d → T (allInSixteen cs) → allPass d cs ≡ true
-    → AllHold t cs
+    → AllConfirmed t cs
 cases-called t d [] l e s p = tt
 cases-called t d (c ∷ cs) l e s p =
     let f = first-passes d c cs p in (
@@ -56,7 +56,7 @@ cases-called t d (c ∷ cs) l e s p =
     )
 
 -- and with two tables.
-pub both-called : (t : List ℕ) (cs ds : List Case) → AllHold t cs → AllHold t ds → AllHold t (cs ++ ds)
+pub both-called : (t : List ℕ) (cs ds : List Case) → AllConfirmed t cs → AllConfirmed t ds → AllConfirmed t (cs ++ ds)
 both-called t [] ds h k = k
 both-called t (c ∷ cs) ds h k = (h .0, both-called t cs ds (h .1) k)
 

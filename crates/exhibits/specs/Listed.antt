@@ -4,7 +4,8 @@ use mathlib.Core.Path.{_≡_}
 use Prim.Native.Nat.{_*_, _<_, _≤_, ℕ}
 use lib.ListN.{drop, length}
 use Rattle.exhibits.specs.CalledLaws.{called-word}
-use Rattle.mms.specs.Contract.{Exports, Listing, exported}
+use Rattle.mms.specs.Calls.{ListCall}
+use Rattle.mms.specs.Contract.{Listing, exported}
 use Rattle.mms.specs.RoundTrip.{answering}
 use Rattle.mms.specs.Unique.{list-unique}
 use Rattle.mms.specs.declared.Answer.{Answer}
@@ -36,20 +37,20 @@ module _ (room : List ℕ) (a : Answer) (r : List ℕ) where
 
 -- The same of the exported list: C gets the word of that answer.
 module _ (room : List ℕ) where
-  pub called-2 : entryWords ≤ length room → (a : ℕ) (r : List ℕ) → Exports (Listing s1Words 2 room) a r
+  pub called-2 : entryWords ≤ length room → (a : ℕ) (r : List ℕ) → ListCall s1Words 2 room a r
       → (a ≡ exported (answering refusal.accepted 1)) × (r ≡ (1 ∷ 5 ∷ 0 ∷ 0 ∷ 0 ∷ []) ++ drop entryWords room)
   called-2 h = called-word (Listing s1Words 2 room) (answering refusal.accepted 1) ((1 ∷ 5 ∷ 0 ∷ 0 ∷ 0 ∷ []) ++ drop entryWords room)
       (λ a r. listed-2 room a r h)
 
-  pub called-2-short : length room < entryWords → (a : ℕ) (r : List ℕ) → Exports (Listing s1Words 2 room) a r
+  pub called-2-short : length room < entryWords → (a : ℕ) (r : List ℕ) → ListCall s1Words 2 room a r
       → (a ≡ exported (answering refusal.tooShort 1)) × (r ≡ room)
   called-2-short h = called-word (Listing s1Words 2 room) (answering refusal.tooShort 1) room (λ a r. listed-2-short room a r h)
 
-  pub called-unmarked : 2 * entryWords ≤ length room → (a : ℕ) (r : List ℕ) → Exports (Listing s1Unmarked 2 room) a r
+  pub called-unmarked : 2 * entryWords ≤ length room → (a : ℕ) (r : List ℕ) → ListCall s1Unmarked 2 room a r
       → (a ≡ exported (answering refusal.accepted 2)) × (r ≡ (2 ∷ 4 ∷ 1 ∷ 0 ∷ 0 ∷ 1 ∷ 5 ∷ 0 ∷ 0 ∷ 0 ∷ []) ++ drop (2 * entryWords) room)
   called-unmarked h =
       called-word (Listing s1Unmarked 2 room) (answering refusal.accepted 2)
       ((2 ∷ 4 ∷ 1 ∷ 0 ∷ 0 ∷ 1 ∷ 5 ∷ 0 ∷ 0 ∷ 0 ∷ []) ++ drop (2 * entryWords) room) (λ a r. listed-unmarked room a r h)
 
-  pub called-1 : (a : ℕ) (r : List ℕ) → Exports (Listing s1Words 1 room) a r → (a ≡ exported (answering refusal.accepted 0)) × (r ≡ room)
+  pub called-1 : (a : ℕ) (r : List ℕ) → ListCall s1Words 1 room a r → (a ≡ exported (answering refusal.accepted 0)) × (r ≡ room)
   called-1 = called-word (Listing s1Words 1 room) (answering refusal.accepted 0) room (listed-1 room)

@@ -5,9 +5,10 @@ use Prim.Native.Nat.{_*_, ℕ}
 use native.Mathlib.Omega.{arith}
 use lib.Dec.{T}
 use lib.ListN.{getD, length}
-use Rattle.exhibits.specs.Called.{AllHold, allInSixteen}
+use Rattle.exhibits.specs.Called.{AllConfirmed, allInSixteen}
 use Rattle.exhibits.specs.CalledLaws.{both-called, called-word, cases-called}
-use Rattle.mms.specs.Contract.{Exports, Stepping, checking, exported, numbers}
+use Rattle.mms.specs.Calls.{StepCall}
+use Rattle.mms.specs.Contract.{Stepping, checking, exported, numbers}
 use Rattle.mms.specs.RoundTrip.{answering}
 use Rattle.cases.specs.Case.Cases.{asking, expect}
 use Rattle.cases.specs.Case.S1.{s1, starred, unstarred}
@@ -25,22 +26,22 @@ unstarred-sixteen : T (allInSixteen unstarred)
 unfolding unstarred expect asking padded
 unstarred-sixteen = tt
 
-starred-called : AllHold s1Words starred
+starred-called : AllConfirmed s1Words starred
 starred-called = cases-called s1Words s1 starred s1Words-length s1Words-tables starred-sixteen starred-hold
 
-unstarred-called : AllHold s1Words unstarred
+unstarred-called : AllConfirmed s1Words unstarred
 unstarred-called = cases-called s1Words s1 unstarred s1Words-length s1Words-tables unstarred-sixteen unstarred-hold
 
 -- Every case of a step, starred or not, holds of the calls.
-pub s1-called : AllHold s1Words (starred ++ unstarred)
+pub s1-called : AllConfirmed s1Words (starred ++ unstarred)
 s1-called = both-called s1Words starred unstarred starred-called unstarred-called
 
 -- The last of them written out: user 2 is refused 9, then 15; acknowledges 9 and 1, which is refused 16, and then 9 and 3.
 pub s1-acknowledged : (a b c d : ℕ) (r s t u : List ℕ)
-    → Exports (Stepping s1Words (asking 2 10 (4 ∷ 1 ∷ []) [] 3 0 0)) a r
-    → Exports (Stepping r (asking 2 10 (5 ∷ []) [] 1 0 0)) b s
-    → Exports (Stepping s (asking 2 20 [] [] 9 1 0)) c t
-    → Exports (Stepping t (asking 2 20 [] [] 9 3 0)) d u
+    → StepCall s1Words (asking 2 10 (4 ∷ 1 ∷ []) [] 3 0 0) a r
+    → StepCall r (asking 2 10 (5 ∷ []) [] 1 0 0) b s
+    → StepCall s (asking 2 20 [] [] 9 1 0) c t
+    → StepCall t (asking 2 20 [] [] 9 3 0) d u
     → (a ≡ 9 * numbers) × (b ≡ 15 * numbers) × (c ≡ 16 * numbers) × (d ≡ 0)
 unfolding unstarred expect
 s1-acknowledged a b c d r s t u w x y z =
@@ -50,7 +51,7 @@ s1-acknowledged a b c d r s t u w x y z =
     (h .0, i .0, j .0, j .1 d u z .0)
 
 -- User 9 is answered 4, whatever is asked, and every word stays.
-pub s1-unknown-called : (q : List ℕ) → length q ≡ requestWords → getD q 0 0 ≡ 9 → (a : ℕ) (r : List ℕ) → Exports (Stepping s1Words q) a r
+pub s1-unknown-called : (q : List ℕ) → length q ≡ requestWords → getD q 0 0 ≡ 9 → (a : ℕ) (r : List ℕ) → StepCall s1Words q a r
     → (a ≡ exported (answering refusal.unknownRequester 0)) × (r ≡ s1Words)
 s1-unknown-called q h e =
     let k = s1Words-unknown q h e in

@@ -13,7 +13,8 @@ use Rattle.model.specs.State.Secure.{Secure}
 use Rattle.model.specs.State.WellFormed.{WellFormed}
 use Rattle.model.specs.Tables.Layout.{tablesOf, userAt, wordCount}
 use Rattle.model.specs.Tables.Words.{firstNoticed, held, missed}
-use Rattle.model.specs.Text.Wording.{Wording}
+use Rattle.model.specs.Text.Textual.{Written}
+use Rattle.model.specs.Text.Wording.{Wording, textOf}
 use Rattle.model.specs.Request.Refusals as refusal
 
 -- `mms_check`, lent the words t, answers a.
@@ -72,6 +73,10 @@ pub record StepCalls (m : ℕ) (tables requests : ℕ → List ℕ) (answers : �
 pub record OnlyNotice (t : List ℕ) (u : ℕ) (r : List ℕ) : Type 0 where
   pub size : length r ≡ length t
   pub others : (i : ℕ) → (userAt u held ≤ i → i ≤ userAt u missed → ⊥) → getD r i 0 ≡ getD t i 0
+
+-- Rule 12.4: no text of a request stands at the front of the bytes s.
+abbrev pub NoRequest : List ℕ → Type 0
+NoRequest s = (m : Wording) (x : List ℕ) → Written m → s ≡ textOf m ++ x → ⊥
 
 -- Rule 12.3: the report p tells what `mms_step` answered to q and left: the answer, and the requester's words 5 and 7; with 1 to 4 nobody's.
 pub record Tells (p : Report) (q : List ℕ) (a : ℕ) (r : List ℕ) : Type 0 where

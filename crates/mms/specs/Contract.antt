@@ -1,4 +1,5 @@
--- What the public calls promise, for all words. Rule 8.6: every call answers a pair; the check and the step have no number to give.
+-- Document 01, "The refusal ladder" and "What a reader can rely on"; rules 8.6 and 14.1: what the public calls promise, for all words. Every call
+-- answers a pair; the check and the step have no number to give.
 use mathlib.Core.List.{List}
 use mathlib.Core.Path.{_≡_}
 use Prim.Native.Nat.{_*_, _+_, suc, ℕ}

@@ -12,7 +12,7 @@ use Rattle.mms.specs.AnswerLaws.{read-unchanged, write-answers, write-nu
 use Rattle.mms.specs.CallLaws.{check-no, check-number, list-halves, passes-check, read-halves, step-call, step-left, step-no, step-number}
 use Rattle.mms.specs.CallLaws.{step-sequence, write-halves}
 use Rattle.mms.specs.Calls.{ListCall, OnlyNotice, ReadCall, StepCall, WriteCall, noIn, requester}
-use Rattle.mms.specs.Contract.{Exports, Listing, Reading, Writing, exported}
+use Rattle.mms.specs.Contract.{Exports, Listing, Reading, Writing, checking, exported}
 use Rattle.mms.specs.Demands.{DemandOne, Settled}
 use Rattle.mms.specs.NoticeWords.{quiet-words}
 use Rattle.mms.specs.Unique.{exported-list-unique, exported-read-unique, exported-step-unique, exported-write-unique}
@@ -96,6 +96,7 @@ module _ {t q : List ℕ} {a : ℕ} {r : List ℕ} (x : StepCall t q a r) where
 
 pub demandOne : DemandOne
 demandOne = record {
+  checkSettled = λ t. (exported (checking t), refl, λ b e. e);
   stepSettled = step-settled;
   listSettled = list-settled;
   readSettled = read-settled;

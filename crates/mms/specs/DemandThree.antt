@@ -15,10 +15,10 @@ use Rattle.model.specs.Basics.Choice.{Same, it, other, pick, same}
 use Rattle.model.specs.Basics.Fails.{fails-agreed, fails-le}
 use Rattle.model.specs.Basics.TestLaws.{holds-true, is-true, pick-false, pick-true}
 use Rattle.model.specs.List.Admitted.{Admitted}
-use Rattle.model.specs.List.AdmittedLaws.{admitted-barred, barred-admitted, barred-range}
+use Rattle.model.specs.List.AdmittedLaws.{admitted-barred, barred-admitted}
 use Rattle.model.specs.List.CompleteLaws.{complete-once}
 use Rattle.model.specs.List.Listing.{Lists, barred, entries, entry, entryWords, listAnswer, opens, showing}
-use Rattle.model.specs.List.ShowLaws.{opens-agrees}
+use Rattle.model.specs.List.ShowLaws.{barred-answer, opens-agrees}
 use Rattle.model.specs.Request.Step.{answerOf}
 use Rattle.model.specs.Request.Words.{nameCount}
 use Rattle.model.specs.Request.Refusals as refusal
@@ -92,14 +92,15 @@ module _ {t room r : List ℕ} {u : ℕ} (a : ℕ) (x : Lists t u room (noIn a) 
         short = list-short e;
       }
 
-  -- nobody else is admitted, and so the list is barred
-  list-refused : (Admitted t u → ⊥) → (refusal.badLength ≤ noIn a) × (noIn a ≤ refusal.notLoggedOn)
-  list-refused f =
+  -- Nobody else is admitted. The list is barred then, and so is every show.
+  list-refused : (Admitted t u → ⊥) → (y : List ℕ) → 1 ≤ length y → length y ≤ nameCount → {b : ℕ} {s : List ℕ} → StepCall t (showing u y) b s
+      → (noIn a ≡ noIn b) × (noIn a ≢ refusal.accepted)
+  list-refused f y low high c =
       let k : barred t u ≢ refusal.accepted = λ e. f (barred-admitted t u e) in
       let z = x .answer ∙ pick-false (eqb (barred t u) refusal.accepted)
-      (pick (leb (entryWords * length (x .list)) (length room)) refusal.accepted refusal.tooShort) (barred t u)
-      (fails-agreed (agrees-eq (barred t u) refusal.accepted) .from k) in
-      (omega (arith, z, k), omega (arith, z, barred-range t u))
+              (pick (leb (entryWords * length (x .list)) (length room)) refusal.accepted refusal.tooShort) (barred t u)
+              (fails-agreed (agrees-eq (barred t u) refusal.accepted) .from k) in
+      (z ∙ sym (step-no c ∙ barred-answer t u y low high k), λ e. k (sym z ∙ e))
 
 pub demandThree : DemandThree
 demandThree = record { disclosed = λ {a = a} x. list-disclosed a (list-halves x); refused = λ {a = a} x. list-refused a (list-halves x) }

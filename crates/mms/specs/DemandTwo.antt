@@ -1,33 +1,32 @@
 -- Demand 2 is met.
 use mathlib.Core.List.{List, [], _++_, _∷_}
-use mathlib.Core.Bool.{Bool, false, true}
-use mathlib.Core.Logic.{Iff·rfl, Iff·trans, _↔_, _⊎_, inl, inr}
+use mathlib.Core.Logic.{Iff·rfl, Iff·trans, _↔_, _≢_, _⊎_, inl, inr}
 use mathlib.Core.Path.{_∙_, _≡_, ap, refl, subst, sym}
 use Prim.Native.Nat.{_<_, _≤_, suc, zero, ℕ}
 use native.Mathlib.Omega.{arith}
-use lib.ListN.{drop, getD, length, take}
-use Rattle.mms.specs.CallLaws.{check-no, check-passes, check-sound, passes-check, read-halves, sound-check, step-left, step-no, step-sequence}
-use Rattle.mms.specs.CallLaws.{write-halves}
-use Rattle.mms.specs.Calls.{CheckCall, Passes, ReadCall, ScriptCalls, Sound, StepCall, StepCalls, WriteCall, noIn, numberIn}
-use Rattle.mms.specs.Demands.{Effected, SecureHistory, SecureScript}
+use lib.ListN.{getD, length}
+use Rattle.mms.specs.CallLaws.{check-no, check-passes, check-sound, passes-check, sound-check, step-left, step-no, step-sequence}
+use Rattle.mms.specs.Calls.{NoRequest, Passes, Sound, StepCall, StepCalls, noIn}
+use Rattle.mms.specs.CheckLaws.{check-lowest}
+use Rattle.mms.specs.Demands.{DemandTwo, Effected, ScriptOutput, SecureHistory}
 use Rattle.mms.specs.ScriptLaws.{runs-calls}
-use Rattle.model.specs.Request.Allowed.{Accepted}
-use Rattle.model.specs.Request.Operations.{Op}
-use Rattle.model.specs.Request.Step.{afterOf, answerOf, sized}
+use Rattle.mms.specs.TextCalls.{read-length, read-names, read-only, read-refuses, read-text, read-then-write, write-length, write-refuses}
+use Rattle.mms.specs.TextCalls.{write-text, write-then-read}
 use Rattle.model.specs.Basics.Cases.{cases, true-or-false}
 use Rattle.model.specs.Basics.TestLaws.{is-false, is-true}
+use Rattle.model.specs.Request.Allowed.{Accepted}
+use Rattle.model.specs.Request.Applies.{Lowest}
+use Rattle.model.specs.Request.AppliesLaws.{leads-operand}
+use Rattle.model.specs.Request.Operations.{Op}
+use Rattle.model.specs.Request.Step.{afterOf, answerOf, sized}
 use Rattle.model.specs.Request.Words.{requestOf, requestWords}
 use Rattle.model.specs.Script.Reports.{Report, output, unread}
-use Rattle.model.specs.State.Check.{check}
 use Rattle.model.specs.Script.Runs.{Answered, Outputs, Runs, cut, requests, whole}
+use Rattle.model.specs.State.Check.{check}
 use Rattle.model.specs.Tables.Layout.{tablesOf, wordCount}
 use Rattle.model.specs.Tables.Words.{Tables}
-use Rattle.model.specs.Text.BothWays.{read-write, write-read, written-exactly}
-use Rattle.model.specs.Text.Broken.{FirstBad, sorts}
-use Rattle.model.specs.Text.BrokenLaws.{broken-reads, reads-broken}
-use Rattle.model.specs.Text.Given.{HasText, Small}
-use Rattle.model.specs.Text.Reading.{Reads}
-use Rattle.model.specs.Text.Writing.{Writes}
+use Rattle.model.specs.Text.Wording.{badLine, lines, readSeven}
+use Rattle.model.specs.Text.WordingLaws.{text-there}
 use Rattle.model.specs.Theorem.Beyond.{OnlyReleased, ReleasedStays, SameDevices, SameUsers}
 use Rattle.model.specs.Theorem.BeyondLaws.{released-joined, released-now, words-devices-stay, words-only-released, words-released-stay}
 use Rattle.model.specs.Theorem.BeyondLaws.{words-users-stay}
@@ -35,28 +34,9 @@ use Rattle.model.specs.Theorem.Definitions.{Obeys}
 use Rattle.model.specs.Theorem.Outcomes.{words-outcome}
 use Rattle.model.specs.Theorem.Sequence.{Steps}
 use Rattle.model.specs.Theorem.SequenceSecure.{checked-system, sequence-good, sequence-history, sequence-obeys, sequence-secure}
+use Rattle.model.specs.Theorem.Stated.{lowest-unique, words-stated}
 use Rattle.model.specs.Theorem.Steps.{afterOf-length, sized-agrees, unsized, words-accepted}
 use Rattle.model.specs.Request.Refusals as refusal
-
--- ---- text and words
-
-module _ {s v w room r : List ℕ} {a b : ℕ} where
-  pub read-then-write : ReadCall s v a w → noIn a ≡ refusal.accepted → WriteCall w room b r → length s ≤ length room
-      → (noIn b ≡ refusal.accepted) × (numberIn b ≡ length s) × (r ≡ s ++ drop (length s) room)
-  read-then-write x e y h = read-write (subst (λ (n : ℕ). Reads s v n (numberIn a) w) e (read-halves x)) (write-halves y) h
-
-pub write-then-read : {w room r v u : List ℕ} {a b : ℕ} → Small w → WriteCall w room b r → noIn b ≡ refusal.accepted → length v ≡ requestWords
-    → ReadCall (take (numberIn b) r) v a u → (noIn a ≡ refusal.accepted) × (u ≡ w)
-write-then-read {w} {room} {r} {b = b} s y e h x =
-    let z = write-read s (subst (λ (n : ℕ). Writes w room n (numberIn b) r) e (write-halves y)) h (read-halves x) in
-    (z .0, z .2)
-
-read-refuses : {s v w : List ℕ} {a : ℕ} → ReadCall s v a w → noIn a ≡ refusal.notARequest → FirstBad sorts s (numberIn a)
-read-refuses {s} {v} {w} {a} x e = reads-broken (subst (λ (n : ℕ). Reads s v n (numberIn a) w) e (read-halves x)) .0
-
-read-names : {s v w : List ℕ} {a k : ℕ} → FirstBad sorts s k → length v ≡ requestWords → ReadCall s v a w
-    → (noIn a ≡ refusal.notARequest) × (numberIn a ≡ k)
-read-names f h x = let z = broken-reads f h (read-halves x) in (z .0, z .1)
 
 -- ---- one step
 
@@ -139,26 +119,67 @@ module _ (tables requests : ℕ → List ℕ) (answers : ℕ → ℕ) (c : (m : 
 
 -- ---- a script
 
-module _ {t s o : List ℕ} (p : Passes t) where
+-- where the seven lines cannot be read no request stands
+stuck-none : (y : List ℕ) (k : ℕ) → readSeven y ≡ badLine k → NoRequest y
+stuck-none y k e m x h z =
+    let r : readSeven y ≡ lines m x = ap readSeven z ∙ text-there m x h in
+    let q : _≡_ {A = ℕ} 0 1 = cc in
+    omega arith
+
+module _ {t s o : List ℕ} where
   -- the reports of what was read, and then perhaps 18
-  script-of : (rs bs : List Report) → o ≡ output rs → (rs ≡ bs) ⊎ (rs ≡ bs ++ (unread ∷ [])) → (t′ s′ : List ℕ) → Runs t s bs t′ s′ → SecureScript t s o
-  script-of rs bs w l t′ s′ x =
-      let k = runs-calls x in
-      let q = subst Passes (sym (k .starts)) p in record {
+  script-of : (rs bs : List Report) → o ≡ output rs → (t′ s′ : List ℕ) → Runs t s bs t′ s′
+      → ((s′ ≡ []) × (rs ≡ bs)) ⊎ (NoRequest s′ × (s′ ≢ []) × (rs ≡ bs ++ (unread ∷ []))) → ScriptOutput t s o
+  script-of rs bs w t′ s′ x l =
+      let k = runs-calls x in record {
         reports = rs;
         written = w;
         before = bs;
-        last = l;
         left = t′;
         rest = s′;
         calls = k;
-        sound = λ i h. calls-sound (length bs) (k .tables) (λ i. getD (requests (k .wordings)) i []) (k .answers) (k .calls) q i h .1;
+        last = l;
+        sound = λ p i h.
+            calls-sound (length bs) (k .tables) (λ i. getD (requests (k .wordings)) i []) (k .answers) (k .calls) (subst Passes (sym (k .starts)) p) i h .1;
         obeys = calls-obey (length bs) (k .tables) (λ i. getD (requests (k .wordings)) i []) (k .answers) (k .calls);
       }
 
-  script-secure : Outputs t s o → SecureScript t s o
-  script-secure x = go (x .answered) (x .written)
+  script-calls : Outputs t s o → ScriptOutput t s o
+  script-calls x = go (x .answered) (x .written)
     where
-      go : {rs : List Report} → Answered t s rs → o ≡ output rs → SecureScript t s o
-      go (whole {t′ = t′} {rs = rs} r) w = script-of rs rs w (inl refl) t′ [] r
-      go (cut {t′ = t′} {x = y} {b = b} {rs = rs} r e) w = script-of (rs ++ (unread ∷ [])) rs w (inr refl) t′ (b ∷ y) r
+      go : {rs : List Report} → Answered t s rs → o ≡ output rs → ScriptOutput t s o
+      go (whole {t′ = t′} {rs = rs} r) w = script-of rs rs w t′ [] r (inl (refl, refl))
+      go (cut {t′ = t′} {x = y} {b = b} {k = k} {rs = rs} r e) w =
+          script-of (rs ++ (unread ∷ [])) rs w t′ (b ∷ y) r (inr (stuck-none (b ∷ y) k e, (λ z. let q = ap length z in omega arith), refl))
+
+-- ---- all of it
+
+-- where P holds of the lowest number n, a call's answer that is n is that number and no other
+exactly : {P : ℕ → Type 0} (a n : ℕ) → noIn a ≡ n → Lowest P n → (m : ℕ) → (noIn a ≡ m) ↔ Lowest P m
+exactly {P} a n e l m = (λ z. subst (Lowest P) (sym e ∙ z) l, λ z. e ∙ lowest-unique l z)
+
+pub demandTwo : DemandTwo
+demandTwo = record {
+  checkLowest = λ t a x. exactly a (check t) (check-no t a x) (check-lowest t);
+  checkSound = λ t a x. (λ e. check-sound t (sym (check-no t a x) ∙ e), λ s. check-no t a x ∙ sound-check t s);
+  stepLowest = λ {t} {q} {a} x. exactly a (answerOf t q) (step-no x) (words-stated t q (answerOf t q) .0 refl);
+  operandsLed = λ t q. leads-operand (tablesOf t) (requestOf q);
+  stepEffect = step-effect;
+  callsSound = calls-sound;
+  callsObey = calls-obey;
+  callsHistory = calls-history;
+  onlyReleased = step-released;
+  callsReleased = calls-released;
+  callsFixed = calls-fixed;
+  scriptCalls = script-calls;
+  readLength = read-length;
+  writeLength = write-length;
+  readText = read-text;
+  readOnly = read-only;
+  readRefuses = read-refuses;
+  readNames = read-names;
+  writeText = write-text;
+  writeRefuses = write-refuses;
+  readThenWrite = read-then-write;
+  writeThenRead = write-then-read;
+}

@@ -6,24 +6,27 @@ use mathlib.Core.Logic.{_↔_, _≢_, _⊎_}
 use mathlib.Core.Path.{_≡_}
 use Prim.Native.Nat.{_*_, _<_, _≤_, suc, ℕ}
 use lib.ListN.{drop, getD, length, take}
-use Rattle.mms.specs.Calls.{CheckCall, ListCall, OnlyNotice, Passes, ReadCall, ScriptCalls, Sound, StepCall, StepCalls, Unsound}
+use Rattle.mms.specs.Calls.{CheckCall, ListCall, NoRequest, OnlyNotice, Passes, ReadCall, ScriptCalls, Sound, StepCall, StepCalls, Unsound}
 use Rattle.mms.specs.Calls.{WriteCall, noIn, numberIn, requester}
 use Rattle.model.specs.List.Admitted.{Admitted}
 use Rattle.model.specs.List.Listing.{entries, entryWords, showing}
 use Rattle.model.specs.List.Order.{Sorted}
 use Rattle.model.specs.Request.After.{after}
 use Rattle.model.specs.Request.Allowed.{Accepted}
-use Rattle.model.specs.Request.Applies.{AppliesTo, Lowest}
-use Rattle.model.specs.Request.Asked.{asked}
+use Rattle.model.specs.Request.Applies.{AppliesTo, Lowest, reference}
+use Rattle.model.specs.Request.Asked.{asked, basisOf, operand}
 use Rattle.model.specs.Request.Operations.{Op}
-use Rattle.model.specs.Request.Words.{nameCount, requestOf, requestWords}
+use Rattle.model.specs.Request.Reference.{Leads}
+use Rattle.model.specs.Request.Words.{nameCount, names, requestOf, requestWords}
 use Rattle.model.specs.Script.Reports.{Report, output, unread}
 use Rattle.model.specs.Script.Runs.{Outputs, requests}
 use Rattle.model.specs.Tables.Layout.{tablesOf}
 use Rattle.model.specs.Tables.Words.{firstNoticed}
 use Rattle.model.specs.Text.Broken.{FirstBad, sorts}
-use Rattle.model.specs.Text.Given.{HasText, Small}
+use Rattle.model.specs.Text.Given.{Small}
+use Rattle.model.specs.Text.Textual.{Textual, Written}
 use Rattle.model.specs.Text.Unfinished.{lineTotal}
+use Rattle.model.specs.Text.Wording.{Wording, sixteen, textOf}
 use Rattle.model.specs.Theorem.Beyond.{OnlyReleased, ReleasedStays, SameDevices, SameUsers}
 use Rattle.model.specs.Theorem.Definitions.{History, HistorySecure, Obeys, SystemSecure}
 use Rattle.model.specs.Theorem.Done.{Outcome}
@@ -31,19 +34,20 @@ use Rattle.model.specs.Theorem.Sequence.{Noticed}
 use Rattle.model.specs.Theorem.Statements.{SameNotice}
 use Rattle.model.specs.Request.Refusals as refusal
 
--- Rule 14.1: a call, given what was lent, has an answer and leaves something; and both are settled.
+-- Rules 14.1 and 14.2: what a call promises can be met, and by one answer and one thing left only. That the code ends and meets it, the toolchain proves.
 pub record Settled (Call : ℕ → List ℕ → Type 0) : Type 0 where
   pub ends : (a : ℕ) × (r : List ℕ) × Call a r
   pub once : (a b : ℕ) (r s : List ℕ) → Call a r → Call b s → (a ≡ b) × (r ≡ s)
 
 -- Demand 1: every call ends with an answer, refusals change nothing but a notice, and a notice keeps the first unread refusal and a count.
 pub record DemandOne : Type 0 where
-  -- Every call, lent any words or bytes, ends with one answer, and leaves one thing in what it may write.
+  -- Every call, lent any words or bytes, has one answer, and leaves one thing in what it may write; what it only reads, its signature keeps.
+  pub checkSettled : (t : List ℕ) → (a : ℕ) × CheckCall t a × ((b : ℕ) → CheckCall t b → b ≡ a)
   pub stepSettled : (t q : List ℕ) → Settled (StepCall t q)
   pub listSettled : (t : List ℕ) (u : ℕ) (room : List ℕ) → Settled (ListCall t u room)
   pub readSettled : (s w : List ℕ) → Settled (ReadCall s w)
   pub writeSettled : (w room : List ℕ) → Settled (WriteCall w room)
-  -- The check answers 0 to 3 and writes nothing. No number goes with its answer.
+  -- The check answers 0 to 3. No number goes with its answer.
   pub checkAnswers : (t : List ℕ) (a : ℕ) → CheckCall t a → (noIn a ≤ refusal.notSecure) × (numberIn a ≡ 0)
   -- The step answers 0 to 16. No number goes with its answer.
   pub stepAnswers : {t q : List ℕ} {a : ℕ} {r : List ℕ} → StepCall t q a r → (noIn a ≤ refusal.notAcknowledged) × (numberIn a ≡ 0)
@@ -88,29 +92,36 @@ pub record Effected (t q r : List ℕ) : Type 0 where
   -- and of no other words can that be said
   pub only : (s : List ℕ) → length s ≡ length t → Outcome operation (asked (tablesOf t) (requestOf q)) (tablesOf t) (tablesOf s) → s ≡ r
 
--- Rules 9.4, 9.13 and 9.14: calls that never end are a history of the papers' model, and it is secure, and so is the system that starts so.
+-- Rules 9.4, 9.13 and 9.14: calls that never end are a history of the papers' model, of the transform `after`; the history is secure, and so is the
+-- system of that transform, from those tables on.
 pub record SecureHistory (tables requests : ℕ → List ℕ) : Type 0 where
   pub history : History after (tablesOf (tables 0)) (λ i. tablesOf (tables i)) (λ i. requestOf (requests i))
   pub secure : HistorySecure after (λ i. tablesOf (tables i))
   pub system : SystemSecure after (tablesOf (tables 0))
 
--- Rule 12: what the program writes of a script, as calls of the step on tables that are sound throughout.
-pub record SecureScript (t s o : List ℕ) : Type 0 where
-  -- the reports, and the bytes that they are written as
+-- Rule 12: the output o of the script s on the tables t, as calls of the step. `Outputs`, of which it is said, is the relation that the parts of the
+-- program are proved to meet.
+pub record ScriptOutput (t s o : List ℕ) : Type 0 where
+  -- the output is the text of reports, one of each request that was read,
   pub reports : List Report
   pub written : o ≡ output reports
-  -- the reports of requests that were read; where one was not, 18 is reported once more and is the last
   pub before : List Report
-  pub last : (reports ≡ before) ⊎ (reports ≡ before ++ (unread ∷ []))
-  -- they tell of calls, each given what the last one left
   pub left : List ℕ
   pub rest : List ℕ
   pub calls : ScriptCalls t s before left rest
-  -- the tables behind each report are sound,
-  pub sound : (i : ℕ) → i ≤ length before → Sound (calls .tables i)
-  -- and each pair of them obeys Definitions 5 to 11
+  -- up to the end of the script; or up to where no request stands, of which 18 is reported, and that is the last
+  pub last : ((rest ≡ []) × (reports ≡ before)) ⊎ (NoRequest rest × (rest ≢ []) × (reports ≡ before ++ (unread ∷ [])))
+  -- from tables that the check passes the tables behind each report are well-formed and secure,
+  pub sound : Passes t → (i : ℕ) → i ≤ length before → Sound (calls .tables i)
+  -- and whatever the tables were, each pair of them obeys Definitions 5 to 11
   pub obeys : (i : ℕ) → i < length before
       → Obeys (tablesOf (calls .tables i)) (requestOf (getD (requests (calls .wordings)) i [])) (tablesOf (calls .tables (suc i)))
+
+-- Rule 11.3: the writer, with the answer b and what stands in the room afterwards, has written the text s, or had too little room for it.
+pub record TextWritten (s room : List ℕ) (b : ℕ) (r : List ℕ) : Type 0 where
+  pub bytes : numberIn b ≡ length s
+  pub fits : length s ≤ length room → (noIn b ≡ refusal.accepted) × (r ≡ s ++ drop (length s) room)
+  pub short : length room < length s → (noIn b ≡ refusal.tooShort) × (r ≡ room)
 
 -- Demand 2: a request is refused exactly when a condition applies, with the lowest number; else it has its stated effect and no other; every history
 -- stays secure; and text and words convert both ways without loss.
@@ -121,6 +132,9 @@ pub record DemandTwo : Type 0 where
   pub checkSound : (t : List ℕ) (a : ℕ) → CheckCall t a → (noIn a ≡ refusal.accepted) ↔ Sound t
   -- The step's answer is the lowest number whose refusal applies, and 0 where none does.
   pub stepLowest : {t q : List ℕ} {a : ℕ} {r : List ℕ} → StepCall t q a r → (n : ℕ) → (noIn a ≡ n) ↔ Lowest (AppliesTo t q) n
+  -- What a request acts on, in this page and in what it cites, is what its references lead to, name by name, and by that way.
+  pub operandsLed : (t q : List ℕ) (k x : ℕ) (way : List ℕ) → Leads (tablesOf t) (names (reference (requestOf q) k)) way x
+      → (operand (asked (tablesOf t) (requestOf q)) k ≡ x) × (basisOf (asked (tablesOf t) (requestOf q)) k ≡ way)
   -- With 0 the tables are what the operation makes of them, and nothing else.
   pub stepEffect : {t q : List ℕ} {a : ℕ} {r : List ℕ} → StepCall t q a r → noIn a ≡ refusal.accepted → Effected t q r
   -- From tables that the check passes, the tables after each of any calls of the step are well-formed and secure,
@@ -140,20 +154,32 @@ pub record DemandTwo : Type 0 where
   -- and users and devices are those of the start.
   pub callsFixed : (m : ℕ) (tables requests : ℕ → List ℕ) (answers : ℕ → ℕ) → StepCalls m tables requests answers → Passes (tables 0)
       → SameUsers (tablesOf (tables 0)) (tablesOf (tables m)) × SameDevices (tablesOf (tables 0)) (tablesOf (tables m))
-  -- What the program writes of a script are reports of such calls.
-  pub scriptSecure : {t s o : List ℕ} → Outputs t s o → Passes t → SecureScript t s o
-  -- A text that is read is written again, byte for byte, from the words that were read, in any room that it fits.
-  pub readThenWrite : {s v w room r : List ℕ} {a b : ℕ} → ReadCall s v a w → noIn a ≡ refusal.accepted → WriteCall w room b r → length s ≤ length room
-      → (noIn b ≡ refusal.accepted) × (numberIn b ≡ length s) × (r ≡ s ++ drop (length s) room)
-  -- Words of 32 bits that are written are read again, word for word, from the bytes that were written.
-  pub writeThenRead : {w room r v u : List ℕ} {a b : ℕ} → Small w → WriteCall w room b r → noIn b ≡ refusal.accepted → length v ≡ requestWords
-      → ReadCall (take (numberIn b) r) v a u → (noIn a ≡ refusal.accepted) × (u ≡ w)
-  -- The writer answers 5 to sixteen words of 32 bits exactly where no text gives them,
-  pub writeRefuses : {w room r : List ℕ} {b : ℕ} → length w ≡ requestWords → Small w → WriteCall w room b r → (noIn b ≡ refusal.badRequest) ↔ (¬ HasText w)
-  -- and the reader answers 18 exactly where a line is bad or missing, and names the first such line.
+  -- The output of a script is that of such calls.
+  pub scriptCalls : {t s o : List ℕ} → Outputs t s o → ScriptOutput t s o
+  -- The reader and the writer answer 1 exactly where the request is not sixteen words.
+  pub readLength : {s v w : List ℕ} {a : ℕ} → ReadCall s v a w → (noIn a ≡ refusal.badLength) ↔ (length v ≢ requestWords)
+  pub writeLength : {w room r : List ℕ} {b : ℕ} → WriteCall w room b r → (noIn b ≡ refusal.badLength) ↔ (length w ≢ requestWords)
+  -- The text of a request is read, and gives the request's words;
+  pub readText : (m : Wording) → Written m → {v w : List ℕ} {a : ℕ} → length v ≡ requestWords → ReadCall (textOf m) v a w
+      → (noIn a ≡ refusal.accepted) × (w ≡ sixteen m)
+  -- whatever is read is the text of a request, and gives that request's words;
+  pub readOnly : {s v w : List ℕ} {a : ℕ} → ReadCall s v a w → noIn a ≡ refusal.accepted
+      → (m : Wording) × Written m × (s ≡ textOf m) × (w ≡ sixteen m)
+  -- and any other text is answered 18, with the first line that is bad or missing.
   pub readRefuses : {s v w : List ℕ} {a : ℕ} → ReadCall s v a w → noIn a ≡ refusal.notARequest → FirstBad sorts s (numberIn a)
   pub readNames : {s v w : List ℕ} {a k : ℕ} → FirstBad sorts s k → length v ≡ requestWords → ReadCall s v a w
       → (noIn a ≡ refusal.notARequest) × (numberIn a ≡ k)
+  -- A request's words are written as its text, where that fits; where it does not, the answer is 17. The number is that of its bytes either way.
+  pub writeText : (m : Wording) → Written m → {room r : List ℕ} {b : ℕ} → WriteCall (sixteen m) room b r → TextWritten (textOf m) room b r
+  -- Sixteen words are answered 5 exactly where they have no text.
+  pub writeRefuses : {w room r : List ℕ} {b : ℕ} → length w ≡ requestWords → WriteCall w room b r
+      → (noIn b ≡ refusal.badRequest) ↔ (Textual (requestOf w) → ⊥)
+  -- A text that is read is written again, byte for byte, from the words that were read, in any room that it fits.
+  pub readThenWrite : {s v w room r : List ℕ} {a b : ℕ} → ReadCall s v a w → noIn a ≡ refusal.accepted → WriteCall w room b r
+      → TextWritten s room b r
+  -- Words of 32 bits that are written are read again, word for word, from the bytes that were written.
+  pub writeThenRead : {w room r v u : List ℕ} {a b : ℕ} → Small w → WriteCall w room b r → noIn b ≡ refusal.accepted → length v ≡ requestWords
+      → ReadCall (take (numberIn b) r) v a u → (noIn a ≡ refusal.accepted) × (u ≡ w)
 
 -- Demand 3: the list of the user u on the tables t, in a room, with the answer a and what stands in the room afterwards.
 pub record Disclosed (t : List ℕ) (u : ℕ) (room : List ℕ) (a : ℕ) (r : List ℕ) : Type 0 where
@@ -178,6 +204,6 @@ pub record Disclosed (t : List ℕ) (u : ℕ) (room : List ℕ) (a : ℕ) (r : L
 pub record DemandThree : Type 0 where
   -- For a user who is there and logged on, on tables that the check passes, the list is what the record above says.
   pub disclosed : {t room r : List ℕ} {u a : ℕ} → ListCall t u room a r → Admitted t u → Disclosed t u room a r
-  -- For anybody else, or on other tables, it is refused with 1 to 4 or 6.
-  pub refused : {t room r : List ℕ} {u a : ℕ} → ListCall t u room a r → (Admitted t u → ⊥)
-      → (refusal.badLength ≤ noIn a) × (noIn a ≤ refusal.notLoggedOn)
+  -- For anybody else, or on other tables, it is refused, and with the number by which the step refuses to show anything at all.
+  pub refused : {t room r : List ℕ} {u a : ℕ} → ListCall t u room a r → (Admitted t u → ⊥) → (x : List ℕ) → 1 ≤ length x → length x ≤ nameCount
+      → {b : ℕ} {s : List ℕ} → StepCall t (showing u x) b s → (noIn a ≡ noIn b) × (noIn a ≢ refusal.accepted)

@@ -8,7 +8,8 @@ pub mod CallLaws
 pub mod AnswerLaws
 pub mod NoticeWords
 pub mod DemandOne
-pub mod DemandThree
 pub mod ScriptLaws
 pub mod CheckLaws
+pub mod TextCalls
 pub mod DemandTwo
+pub mod DemandThree

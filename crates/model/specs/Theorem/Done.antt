@@ -1,5 +1,5 @@
--- Rule 8.4, the other half: the values that an accepted operation leaves in the words of its rule, for each of the twenty. Said of the tables
--- before and after alone, with rows read as lists, and by none of the edits that the effects are made of.
+-- Document 01, "The request and its operations"; rules 6.1 to 6.20 and 8.4: the values that an accepted operation leaves in the words of its rule,
+-- for each of the twenty. Said of the tables before and after alone, with rows read as lists, and by none of the edits that the effects are made of.
 use mathlib.Core.List.{List, List·Memᴰ, [], _++_, _∷_}
 use mathlib.Core.Logic.{_≢_}
 use mathlib.Core.Path.{_≡_}
