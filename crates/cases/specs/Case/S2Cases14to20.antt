@@ -8,7 +8,7 @@ use Rattle.model.specs.Tables.Words.{level, maximum, missed, missedMost, operat
 use Rattle.model.specs.Tables.Words.{shown, spare, sumMost, type, used, userCount, value}
 use Rattle.model.specs.Text.Numbers.{most}
 
--- every case: what was asked before (from S2 on), what is asked, the answer, and words that stand afterwards
+-- every case: what was asked before and what it got (from S2 on), what is asked, the answer, and words that stand afterwards
 unfoldable pub currentCases : List Case
 currentCases =
     -- one's own, all from the authorised ones, without being an officer

@@ -8,7 +8,7 @@ use Rattle.model.specs.Tables.Words.{containerKind, deviceKind, draftType, enti
 use Rattle.model.specs.Tables.Words.{plainType, releasedType, releaser, triple, tripleOf, type, used, value, whoRole}
 use Rattle.model.specs.Text.Numbers.{most}
 
--- every case: what was asked before (from S2 on), what is asked, the answer, and words that stand afterwards
+-- every case: what was asked before and what it got (from S2 on), what is asked, the answer, and words that stand afterwards
 unfoldable pub createCases : List Case
 createCases =
     -- a draft under the container's level: the lowest free number, last in the container, its triples copied and all else zero

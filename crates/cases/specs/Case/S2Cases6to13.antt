@@ -7,7 +7,7 @@ use Rattle.model.specs.Tables.Words.{authorised, clearance, current, device, dr
 use Rattle.model.specs.Tables.Words.{missedMost, operationCount, place, placeCount, positionCount, shown, sumMost, triple, tripleOf, type}
 use Rattle.model.specs.Tables.Words.{used, value, whoMost, whoRole}
 
--- every case: what was asked before (from S2 on), what is asked, the answer, and words that stand afterwards
+-- every case: what was asked before and what it got (from S2 on), what is asked, the answer, and words that stand afterwards
 unfoldable pub levelCases : List Case
 levelCases =
     -- up to the level of what holds it

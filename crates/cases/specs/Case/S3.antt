@@ -29,7 +29,7 @@ s3Sheet = record {
 unfoldable pub s3 : Tables
 s3 = sheetTables s3Sheet
 
--- every case: what was asked before (from S3 on), what is asked, the answer, and words that stand afterwards
+-- every case: what was asked before and what it got (from S3 on), what is asked, the answer, and words that stand afterwards
 unfoldable pub fullCases : List Case
 fullCases =
     -- 14: the container has room, and no number is free
