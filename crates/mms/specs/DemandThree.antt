@@ -34,7 +34,8 @@ module _ {t room r : List ℕ} {u : ℕ} (a : ℕ) (x : Lists t u room (noIn a) 
   answer-of : barred t u ≡ refusal.accepted
       → noIn a ≡ pick (leb (entryWords * length (x .list)) (length room)) refusal.accepted refusal.tooShort
   answer-of e = x .answer ∙ pick-true (eqb (barred t u) refusal.accepted)
-      (pick (leb (entryWords * length (x .list)) (length room)) refusal.accepted refusal.tooShort) (barred t u) (agrees-eq (barred t u) refusal.accepted .from e)
+      (pick (leb (entryWords * length (x .list)) (length room)) refusal.accepted refusal.tooShort) (barred t u)
+      (agrees-eq (barred t u) refusal.accepted .from e)
 
   list-fits : barred t u ≡ refusal.accepted → entryWords * length (x .list) ≤ length room
       → (noIn a ≡ refusal.accepted) × (r ≡ entries (x .list) ++ drop (entryWords * length (x .list)) room)

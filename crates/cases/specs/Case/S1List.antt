@@ -1,4 +1,5 @@
--- Document 01, "Case state S1"; rule 13: the disclosure lists of S1, for every room. Each is computed over the sheet, and said of the words that a program reads.
+-- Document 01, "Case state S1"; rule 13: the disclosure lists of S1, for every room. Each is computed over the sheet, and said of the words that a
+-- program reads.
 use mathlib.Core.List.{List, [], _++_, _∷_}
 use mathlib.Core.Path.{_∙_, _≡_, ap, refl, subst}
 use Prim.Native.Nat.{_<_, _≤_, ℕ}

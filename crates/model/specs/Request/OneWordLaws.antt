@@ -38,7 +38,8 @@ module _ {W : Type 0} (tagOf placeOf : W → ℕ) (named : (g f : W) → tagOf g
 
   -- and of nothing else can both be said.
   set-only : (r′ : ℕ → W → ℕ) → r′ e f ≡ v → ((x : ℕ) (g : W) → (x ≡ e → g ≡ f → ⊥) → r′ x g ≡ r x g) → (x : ℕ) (g : W) → r′ x g ≡ setWord x g
-  set-only r′ h o x g = go (eqb (tagOf g) (tagOf f)) (eqb (placeOf g) (placeOf f)) (eqb x e) (same (tagOf g) (tagOf f)) (same (placeOf g) (placeOf f)) (same x e)
+  set-only r′ h o x g =
+      go (eqb (tagOf g) (tagOf f)) (eqb (placeOf g) (placeOf f)) (eqb x e) (same (tagOf g) (tagOf f)) (same (placeOf g) (placeOf f)) (same x e)
     where
       go : (a b c : Bool) → Same (tagOf g) (tagOf f) a → Same (placeOf g) (placeOf f) b → Same x e c → r′ x g ≡ pick (a && b) (pick c v (r x g)) (r x g)
       go true true true (it p) (it q) (it s) = ap₂ r′ s (named g f p q) ∙ h

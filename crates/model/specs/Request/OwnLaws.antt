@@ -78,7 +78,8 @@ module _ (d : Tables) (s : Asked) where
   -- Each refusal of each row is stated (rules 6.1 to 6.20).
   refusal-stated : (o : Op) → Suited o s d → AllRefusals (rowOf o .conditions) (λ n c. Spoken n o s d → T (c d s) → Own s d o n)
   unfolding refused
-  refusal-stated toCreate h = (λ b t. createAbove (fails-agrees (createAbove-fails d s) .to t), (λ b t. room (createNoRoom-agrees d s (h .wellFormed) .to t), tt))
+  refusal-stated toCreate h =
+      (λ b t. createAbove (fails-agrees (createAbove-fails d s) .to t), (λ b t. room (createNoRoom-agrees d s (h .wellFormed) .to t), tt))
     where
       room : ((e : ℕ) → 1 ≤ e → e ≤ entityCount → kinds d e ≢ absentKind) ⊎ Full (places d (s .first)) → Own s d toCreate refusal.noRoom
       room (inl f) = createNumber f

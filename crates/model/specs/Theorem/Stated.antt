@@ -104,8 +104,8 @@ module _ (d : Tables) (b : Bounded d) (q : Request) where
       let s4 : Stated refusal.unknownRequester = λ r t. unknownRequester (fails-agrees (unknownUser-fails d q) .to t) in
       let s5 : Stated refusal.badRequest = λ r t. badRequest (λ o e. notUnderstood-agrees d q .to t o (names-found q o e)) in
       let s6 : Stated refusal.notLoggedOn = λ r t. let z = notLoggedOn-agrees d q .to t in notLoggedOn (z .0) (found-names q (z .0) (z .1)) (z .2) (z .3) in
-      let s7 : Stated refusal.noSuchName =
-      λ r t. let z = leadsNowhere-agrees d q (well refusal.noSuchName r (lit< tt)) .to t in noSuchName (z .0) (z .1) (found-names q (z .0) (z .2)) (z .3) (z .4) in
+      let s7 : Stated refusal.noSuchName = λ r t. let z = leadsNowhere-agrees d q (well refusal.noSuchName r (lit< tt)) .to t in
+      noSuchName (z .0) (z .1) (found-names q (z .0) (z .2)) (z .3) (z .4) in
       let s8 : Stated refusal.noAccess = λ r t. let z = noAccess-agrees d q .to t in
       noAccess (z .0) (z .1) _ _ (referring refusal.noAccess r (lit< tt) (z .0) (z .1) (z .2) (z .3)) (z .4) in
       let s9 : Stated refusal.marked = λ r t. let z = notCleared-agrees d q .to t in
