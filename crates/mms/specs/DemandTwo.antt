@@ -14,10 +14,8 @@ use Rattle.mms.specs.TextCalls.{read-length, read-names, read-only, read
 use Rattle.mms.specs.TextCalls.{write-text, write-then-read}
 use Rattle.model.specs.Basics.Cases.{cases, true-or-false}
 use Rattle.model.specs.Basics.TestLaws.{is-false, is-true}
-use Rattle.model.specs.Request.Allowed.{Accepted}
 use Rattle.model.specs.Request.Applies.{Lowest}
-use Rattle.model.specs.Request.AppliesLaws.{leads-operand}
-use Rattle.model.specs.Request.Operations.{Op}
+use Rattle.model.specs.Request.AppliesLaws.{found-names, leads-operand}
 use Rattle.model.specs.Request.Step.{afterOf, answerOf, sized}
 use Rattle.model.specs.Request.Words.{requestOf, requestWords}
 use Rattle.model.specs.Script.Reports.{Report, output, unread}
@@ -35,7 +33,7 @@ use Rattle.model.specs.Theorem.Outcomes.{words-outcome}
 use Rattle.model.specs.Theorem.Sequence.{Steps}
 use Rattle.model.specs.Theorem.SequenceSecure.{checked-system, sequence-good, sequence-history, sequence-obeys, sequence-secure}
 use Rattle.model.specs.Theorem.Stated.{lowest-unique, words-stated}
-use Rattle.model.specs.Theorem.Steps.{afterOf-length, sized-agrees, unsized, words-accepted}
+use Rattle.model.specs.Theorem.Steps.{afterOf-length, sized-agrees, unsized}
 use Rattle.model.specs.Request.Refusals as refusal
 
 -- ---- one step
@@ -56,13 +54,11 @@ module _ {t q : List ℕ} {a : ℕ} {r : List ℕ} (x : StepCall t q a r) where
   step-effect : noIn a ≡ refusal.accepted → Effected t q r
   step-effect z =
       let e : answerOf t q ≡ refusal.accepted = sym (step-no x) ∙ z in
-      let c = words-accepted t q e in
       let f = words-outcome t q e in
-      let o : f .0 ≡ c .0 = cc (f .1, c .1 .meant .named) in
       let n : length r ≡ length t = ap length (step-left x) ∙ afterOf-length t q in
       let w = accepted-size t q e in record {
         operation = f .0;
-        accepted = subst (λ (p : Op). Accepted p (tablesOf t) (requestOf q)) (sym o) (c .1);
+        named = found-names (requestOf q) (f .0) (f .1);
         size = n;
         outcome = f .2 r (n ∙ w) .1 (step-left x);
         only = λ s h p. f .2 s (h ∙ w) .0 p ∙ sym (step-left x);

@@ -12,8 +12,7 @@ use Rattle.model.specs.List.Admitted.{Admitted}
 use Rattle.model.specs.List.Listing.{entries, entryWords, showing}
 use Rattle.model.specs.List.Order.{Sorted}
 use Rattle.model.specs.Request.After.{after}
-use Rattle.model.specs.Request.Allowed.{Accepted}
-use Rattle.model.specs.Request.Applies.{AppliesTo, Lowest, reference}
+use Rattle.model.specs.Request.Applies.{AppliesTo, Lowest, Names, reference}
 use Rattle.model.specs.Request.Asked.{asked, basisOf, operand}
 use Rattle.model.specs.Request.Operations.{Op}
 use Rattle.model.specs.Request.Reference.{Leads}
@@ -83,9 +82,9 @@ pub record DemandOne : Type 0 where
 
 -- Rules 6 and 8.4: what an accepted request q has made of the tables t.
 pub record Effected (t q r : List ℕ) : Type 0 where
-  -- nothing stood in the way of the operation that it names
+  -- the operation is the one that it names
   pub operation : Op
-  pub accepted : Accepted operation (tablesOf t) (requestOf q)
+  pub named : Names (requestOf q) operation
   -- the words of that operation's rule have the values that it names, and every other word is as before
   pub size : length r ≡ length t
   pub outcome : Outcome operation (asked (tablesOf t) (requestOf q)) (tablesOf t) (tablesOf r)
