@@ -99,8 +99,8 @@ module _ {t room r : List ℕ} {u : ℕ} (a : ℕ) (x : Lists t u room (noIn a) 
   list-refused f y low high c =
       let k : barred t u ≢ refusal.accepted = λ e. f (barred-admitted t u e) in
       let z = x .answer ∙ pick-false (eqb (barred t u) refusal.accepted)
-              (pick (leb (entryWords * length (x .list)) (length room)) refusal.accepted refusal.tooShort) (barred t u)
-              (fails-agreed (agrees-eq (barred t u) refusal.accepted) .from k) in
+      (pick (leb (entryWords * length (x .list)) (length room)) refusal.accepted refusal.tooShort) (barred t u)
+      (fails-agreed (agrees-eq (barred t u) refusal.accepted) .from k) in
       (z ∙ sym (step-no c ∙ barred-answer t u y low high k), λ e. k (sym z ∙ e))
 
 pub demandThree : DemandThree
