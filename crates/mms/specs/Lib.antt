@@ -1,4 +1,4 @@
--- What the public calls promise, and that nothing else satisfies it.
+-- What the public calls promise, that nothing else satisfies it, and the three demands as theorems about them.
 pub mod Contract
 pub mod Calls
 pub mod Demands
@@ -6,10 +6,10 @@ pub mod Unique
 pub mod RoundTrip
 pub mod CallLaws
 pub mod AnswerLaws
-pub mod NoticeWords
-pub mod DemandOne
+pub mod NoticeWordLaws
+pub mod DemandOneLaws
 pub mod ScriptLaws
 pub mod CheckLaws
-pub mod TextCalls
-pub mod DemandTwo
-pub mod DemandThree
+pub mod TextCallLaws
+pub mod DemandTwoLaws
+pub mod DemandThreeLaws

@@ -10,8 +10,8 @@ use Rattle.mms.specs.Calls.{NoRequest, Passes, Sound, StepCall, StepCall
 use Rattle.mms.specs.CheckLaws.{check-lowest}
 use Rattle.mms.specs.Demands.{DemandTwo, Effected, ScriptOutput, SecureHistory}
 use Rattle.mms.specs.ScriptLaws.{runs-calls}
-use Rattle.mms.specs.TextCalls.{read-length, read-names, read-only, read-refuses, read-text, read-then-write, write-length, write-refuses}
-use Rattle.mms.specs.TextCalls.{write-text, write-then-read}
+use Rattle.mms.specs.TextCallLaws.{read-length, read-names, read-only, read-refuses, read-text, read-then-write, write-length, write-refuses}
+use Rattle.mms.specs.TextCallLaws.{write-text, write-then-read}
 use Rattle.model.specs.Basics.Cases.{cases, true-or-false}
 use Rattle.model.specs.Basics.TestLaws.{is-false, is-true}
 use Rattle.model.specs.Request.Applies.{Lowest}

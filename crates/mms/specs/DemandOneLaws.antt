@@ -14,7 +14,7 @@ use Rattle.mms.specs.CallLaws.{step-sequence, write-halves}
 use Rattle.mms.specs.Calls.{ListCall, OnlyNotice, ReadCall, StepCall, WriteCall, noIn, requester}
 use Rattle.mms.specs.Contract.{Exports, Listing, Reading, Writing, checking, exported}
 use Rattle.mms.specs.Demands.{DemandOne, Settled}
-use Rattle.mms.specs.NoticeWords.{quiet-words}
+use Rattle.mms.specs.NoticeWordLaws.{quiet-words}
 use Rattle.mms.specs.Unique.{exported-list-unique, exported-read-unique, exported-step-unique, exported-write-unique}
 use Rattle.mms.specs.declared.Answer.{Answer}
 use Rattle.model.specs.Basics.Cases.{cases, lt-or-le, true-or-false}
