@@ -1,11 +1,13 @@
 -- Rule 13: S1's cases of a step, and the check, as C gets them. Each is said of whatever the exported call answers and leaves.
 use mathlib.Core.List.{List, [], _++_, _∷_}
-use mathlib.Core.Path.{_∙_, _≡_, ap}
+use mathlib.Core.Path.{_∙_, _≡_, ap, sym}
 use Prim.Native.Nat.{_*_, ℕ}
 use native.Mathlib.Omega.{arith}
 use lib.Dec.{T}
 use lib.ListN.{getD, length}
 use Rattle.exhibits.specs.Called.{AllConfirmed, allInSixteen}
+use Rattle.exhibits.specs.Listed.{called-1, called-2, called-2-short, called-unmarked}
+use Rattle.exhibits.specs.S1Exhibit.{S1Exhibit}
 use Rattle.exhibits.specs.CalledLaws.{both-called, called-word, cases-called}
 use Rattle.mms.specs.Calls.{StepCall}
 use Rattle.mms.specs.Contract.{Stepping, checking, exported, numbers}
@@ -13,6 +15,7 @@ use Rattle.mms.specs.RoundTrip.{answering}
 use Rattle.cases.specs.Case.Cases.{asking, expect}
 use Rattle.cases.specs.Case.S1.{s1, starred, unstarred}
 use Rattle.cases.specs.Case.S1Holds.{starred-hold, unstarred-hold}
+use Rattle.cases.specs.Case.S1Script.{s1-script-only}
 use Rattle.cases.specs.Case.S1Words.{s1Words, s1Words-checked, s1Words-length, s1Words-tables, s1Words-unknown}
 use Rattle.model.specs.Request.Words.{requestWords}
 use Rattle.model.specs.Tables.Sheet.{padded}
@@ -65,3 +68,16 @@ s1-check-called = ap (λ (n : ℕ). exported (answering n 0)) s1Words-checked
 -- An answer without a number beside it is, for C, a multiple of 2 to the power of 32.
 pub exported-alone : (n : ℕ) → exported (answering n 0) ≡ n * 4294967296
 exported-alone n = omega arith
+
+-- All of it in one statement.
+pub s1-exhibit : S1Exhibit
+s1-exhibit = record {
+  checked = sym s1-check-called;
+  steps = s1-called;
+  userNine = s1-unknown-called;
+  listOfTwo = called-2;
+  shortOfTwo = called-2-short;
+  listUnmarked = called-unmarked;
+  listOfOne = called-1;
+  scriptWrites = s1-script-only;
+}

@@ -1,0 +1,40 @@
+-- Document 01, "Case state S1"; rule 13: all of its cases, as one statement about the linked calls on S1's 2,304 words, and about the program's output.
+use mathlib.Core.List.{List, [], _++_, _∷_}
+use mathlib.Core.Path.{_≡_}
+use Prim.Native.Nat.{_*_, _<_, _≤_, ℕ}
+use lib.ListN.{drop, getD, length}
+use Rattle.exhibits.specs.Called.{AllConfirmed}
+use Rattle.mms.specs.Calls.{ListCall, Passes, StepCall}
+use Rattle.mms.specs.Contract.{exported}
+use Rattle.mms.specs.RoundTrip.{answering}
+use Rattle.cases.specs.Case.S1.{starred, unstarred}
+use Rattle.cases.specs.Case.S1List.{s1Unmarked}
+use Rattle.cases.specs.Case.S1Script.{s1Output, s1Script}
+use Rattle.cases.specs.Case.S1Words.{s1Words}
+use Rattle.model.specs.List.Listing.{entryWords}
+use Rattle.model.specs.Request.Words.{requestWords}
+use Rattle.model.specs.Script.Runs.{Outputs}
+use Rattle.model.specs.Request.Refusals as refusal
+
+pub record S1Exhibit : Type 0 where
+  -- The check passes S1.
+  pub checked : Passes s1Words
+  -- Every case of a step, starred or not: each answer on the way, and the words that stand at the end.
+  pub steps : AllConfirmed s1Words (starred ++ unstarred)
+  -- User 9 is answered 4, whatever the sixteen words ask, and nothing changes.
+  pub userNine : (q : List ℕ) → length q ≡ requestWords → getD q 0 0 ≡ 9 → (a : ℕ) (r : List ℕ) → StepCall s1Words q a r
+      → (a ≡ exported (answering refusal.unknownRequester 0)) × (r ≡ s1Words)
+  -- User 2 is listed 5 alone;
+  pub listOfTwo : (room : List ℕ) → entryWords ≤ length room → (a : ℕ) (r : List ℕ) → ListCall s1Words 2 room a r
+      → (a ≡ exported (answering refusal.accepted 1)) × (r ≡ (1 ∷ 5 ∷ 0 ∷ 0 ∷ 0 ∷ []) ++ drop entryWords room)
+  -- in less than five words there is no room for it;
+  pub shortOfTwo : (room : List ℕ) → length room < entryWords → (a : ℕ) (r : List ℕ) → ListCall s1Words 2 room a r
+      → (a ≡ exported (answering refusal.tooShort 1)) × (r ≡ room)
+  -- with 4 unmarked it is 4.1, then 5;
+  pub listUnmarked : (room : List ℕ) → 2 * entryWords ≤ length room → (a : ℕ) (r : List ℕ) → ListCall s1Unmarked 2 room a r
+      → (a ≡ exported (answering refusal.accepted 2)) × (r ≡ (2 ∷ 4 ∷ 1 ∷ 0 ∷ 0 ∷ 1 ∷ 5 ∷ 0 ∷ 0 ∷ 0 ∷ []) ++ drop (2 * entryWords) room)
+  -- and user 1 is listed nothing.
+  pub listOfOne : (room : List ℕ) (a : ℕ) (r : List ℕ) → ListCall s1Words 1 room a r
+      → (a ≡ exported (answering refusal.accepted 0)) × (r ≡ room)
+  -- The script of two shows has these six lines and no other output.
+  pub scriptWrites : (o : List ℕ) → Outputs s1Words s1Script o → o ≡ s1Output
