@@ -12,7 +12,7 @@ use Rattle.model.specs.List.Admitted.{Admitted}
 use Rattle.model.specs.List.Listing.{entries, entryWords, showing}
 use Rattle.model.specs.List.Order.{Sorted}
 use Rattle.model.specs.Request.After.{after}
-use Rattle.model.specs.Request.Applies.{AppliesTo, Lowest, Names, reference}
+use Rattle.model.specs.Request.Applies.{AppliesTo, Lowest, Names, referenceOf}
 use Rattle.model.specs.Request.Asked.{asked, basisOf, operand}
 use Rattle.model.specs.Request.Operations.{Op}
 use Rattle.model.specs.Request.Reference.{Leads}
@@ -132,7 +132,7 @@ pub record DemandTwo : Type 0 where
   -- The step's answer is the lowest number whose refusal applies, and 0 where none does.
   pub stepLowest : {t q : List ℕ} {a : ℕ} {r : List ℕ} → StepCall t q a r → (n : ℕ) → (noIn a ≡ n) ↔ Lowest (AppliesTo t q) n
   -- What a request acts on, in this page and in what it cites, is what its references lead to, name by name, and by that way.
-  pub operandsLed : (t q : List ℕ) (k x : ℕ) (way : List ℕ) → Leads (tablesOf t) (names (reference (requestOf q) k)) way x
+  pub operandsLed : (t q : List ℕ) (k x : ℕ) (way : List ℕ) → Leads (tablesOf t) (names (referenceOf (requestOf q) k)) way x
       → (operand (asked (tablesOf t) (requestOf q)) k ≡ x) × (basisOf (asked (tablesOf t) (requestOf q)) k ≡ way)
   -- With 0 the tables are what the operation makes of them, and nothing else.
   pub stepEffect : {t q : List ℕ} {a : ℕ} {r : List ℕ} → StepCall t q a r → noIn a ≡ refusal.accepted → Effected t q r

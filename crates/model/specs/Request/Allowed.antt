@@ -11,7 +11,7 @@ use Rattle.model.specs.Effect.Screens.{spot}
 use Rattle.model.specs.Level.{AtMost, Lower, Subset, downgrader, levelCount, officer, releasing, roleCount, roleSets}
 use Rattle.model.specs.Request.Asked.{Asked, HasRole, asked, basisOf, namedTriple, operand, own}
 use Rattle.model.specs.Request.Conditions.{levelOf}
-use Rattle.model.specs.Request.Form.{Between, Fits, taken}
+use Rattle.model.specs.Request.Form.{Between, Fits, Names, taken}
 use Rattle.model.specs.Request.Operations.{Op, clearanceEffect, levelEffect, numberOf, opOf, toAcknowledge, toAuthorised}
 use Rattle.model.specs.Request.Operations.{toClear, toClearance, toCopy, toCreate, toCurrent, toDelete, toDeviceLevel, toEdit}
 use Rattle.model.specs.Request.Operations.{toGrant, toLevel, toLogin, toLogout, toMark, toMaximum, toMove, toRelease, toRevoke}
@@ -39,7 +39,7 @@ Operand o k = (1 ≤ k) × (k ≤ taken o)
 -- Rules 7.4, 7.5 and 7.7: a request that means something in these tables, by the operation o.
 pub record Meant (o : Op) (d : Tables) (q : Request) : Type 0 where
   pub known : Known d (q .user)
-  pub named : opOf (q .operation) ≡ some o
+  pub named : Names q o
   pub fitting : Fits o q
   pub leading : (k : ℕ) → Operand o k → operand (asked d q) k ≢ 0
 

@@ -12,7 +12,7 @@ use Rattle.model.specs.Level.{AtMost, Bit, Lower, Subset, downgrader, of
 use Rattle.model.specs.Request.Allowed.{Known, Operand, Permitted, WantsDevice}
 use Rattle.model.specs.Request.Asked.{Asked, HasRole, asked, namedTriple, own}
 use Rattle.model.specs.Request.Conditions.{levelOf}
-use Rattle.model.specs.Request.Form.{Fits}
+use Rattle.model.specs.Request.Form.{Fits, Names}
 use Rattle.model.specs.Request.Operations.{Op, numberOf, toAcknowledge, toAuthorised, toClear, toClearance, toCopy, toCreate, toCurrent}
 use Rattle.model.specs.Request.Operations.{toDelete, toDeviceLevel, toEdit, toGrant, toLevel, toLogin, toLogout, toMark, toMaximum}
 use Rattle.model.specs.Request.Operations.{toMove, toRelease, toRevoke, toShow}
@@ -28,21 +28,17 @@ use Rattle.model.specs.Tables.Words.{draftType, entityCount, held, kinds
 use Rattle.model.specs.Tables.Words.{releasedType, triples, type, valueBit}
 use Rattle.model.specs.Request.Refusals as refusal
 
--- Rule 5.1: the request names the operation o by its number.
-abbrev pub Names : Request → Op → Type 0
-Names q o = q .operation ≡ numberOf o
-
 -- the reference at position 1 or 2
-abbrev pub reference : Request → ℕ → Reference
-reference q k = pick (eqb k 1) (q .first) (q .second)
+abbrev pub referenceOf : Request → ℕ → Reference
+referenceOf q k = pick (eqb k 1) (q .first) (q .second)
 
 -- Rule 5.3: the reference at position k, which the operation o takes, leads by the entities of the way to x.
 pub record Refers (o : Op) (k : ℕ) (d : Tables) (q : Request) (way : List ℕ) (x : ℕ) : Type 0 where
   pub named : Names q o
   pub taken : Operand o k
-  pub leads : Leads d (names (reference q k)) way x
+  pub leads : Leads d (names (referenceOf q k)) way x
 
--- Rule 7.7: a name of the reference is out of range, absent or past the used places; so no way leads by its names to anything.
+-- Rule 7.7: the reference leads nowhere: by no way do its names come to an entity.
 abbrev pub Nowhere : Tables → Reference → Type 0
 Nowhere d r = (way : List ℕ) (x : ℕ) → Leads d (names r) way x → ⊥
 
@@ -112,12 +108,12 @@ pub data Own (s : Asked) (d : Tables) : Op → ℕ → Type 0 where
   grantFull : EightOthers (triples d (s .first)) (namedTriple s) → Own s d toGrant refusal.noRoom
   -- show: its level is not at most the requester's clearance, or not at most the device's level; eight others are shown; a value without its label
   showUncleared : (AtMost (levelOf d (s .first)) (d .user (s .user) clearance) → ⊥) → Own s d toShow refusal.levelOrRoles
-  showAbove : (AtMost (levelOf d (s .first)) (levelOf d (own d s)) → ⊥) → Own s d toShow refusal.levelOrRoles
+  showAboveScreen : (AtMost (levelOf d (s .first)) (levelOf d (own d s)) → ⊥) → Own s d toShow refusal.levelOrRoles
   showFull : EightOthers (places d (own d s)) (s .first) → Own s d toShow refusal.noRoom
   showUnlabelled : Bit valueBit (s .a) → (Bit labelBit (s .a) → ⊥) → Own s d toShow refusal.arrangement
   -- login: the requester is on already, or somebody is on that device
   loginOn : own d s ≢ 0 → Own s d toLogin refusal.arrangement
-  loginTaken : (u : ℕ) → devices d u ≡ s .first → Own s d toLogin refusal.arrangement
+  loginOccupied : (u : ℕ) → devices d u ≡ s .first → Own s d toLogin refusal.arrangement
   -- current roles: user a is absent, or off and to have some; another's by no officer; not all of them authorised
   currentAbsent : d .user (s .a) present ≡ 0 → Own s d toCurrent refusal.noSuchUser
   currentOff : devices d (s .a) ≡ 0 → s .b ≢ 0 → Own s d toCurrent refusal.noSuchUser
@@ -157,8 +153,8 @@ pub data Applies (d : Tables) (q : Request) : ℕ → Type 0 where
   -- 6: the requester is on no device, and the operation wants one
   notLoggedOn : (o : Op) → Names q o → WantsDevice o → devices d (q .user) ≡ 0 → Applies d q refusal.notLoggedOn
   -- 7: an operand's reference leads nowhere
-  noSuchName : (o : Op) (k : ℕ) → Names q o → Operand o k → Nowhere d (reference q k) → Applies d q refusal.noSuchName
-  -- 8: an operand's triples hold neither the requester nor a current role, for this operation and position
+  noSuchName : (o : Op) (k : ℕ) → Names q o → Operand o k → Nowhere d (referenceOf q k) → Applies d q refusal.noSuchName
+  -- 8: an operand does not permit the requester to do this with it
   noAccess : (o : Op) (k x : ℕ) (way : List ℕ) → Refers o k d q way x → (Permitted d (q .user) (numberOf o) k x → ⊥) → Applies d q refusal.noAccess
   -- 9: a container on the way to an operand is marked, and its level is not at most the requester's clearance
   marked : (o : Op) (k x y : ℕ) (way : List ℕ) → Refers o k d q way x → List·Memᴰ y way → d .entity y mark ≢ 0

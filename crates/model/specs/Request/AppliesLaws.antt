@@ -13,7 +13,7 @@ use Rattle.model.specs.Basics.Choice.{pick}
 use Rattle.model.specs.Basics.Fails.{fails-agrees}
 use Rattle.model.specs.Level.{AtMost, atMost}
 use Rattle.model.specs.Request.Allowed.{Operand, Permitted, WantsDevice}
-use Rattle.model.specs.Request.Applies.{Names, Nowhere, Suits, reference}
+use Rattle.model.specs.Request.Applies.{Nowhere, Suits, referenceOf}
 use Rattle.model.specs.Request.Asked.{asked, basisOf, operand}
 use Rattle.model.specs.Request.ConditionLaws.{any-agrees, container-agrees, device-agrees, draft-agrees, thing-agrees}
 use Rattle.model.specs.Request.Conditions.{Kind, isContainer, isEntity}
@@ -23,7 +23,7 @@ use Rattle.model.specs.Request.Ladder.{bars, leadsNowhere, noAccess, not
 use Rattle.model.specs.Request.Ladder.{wrongKind}
 use Rattle.model.specs.Request.LadderLaws.{AllOperands, ofOp-agrees, operands-at, operands-both, operands-each, operands-map}
 use Rattle.model.specs.Request.LadderLaws.{someOperand-agrees}
-use Rattle.model.specs.Request.OperationLaws.{number-opOf, opOf-number, wantsDevice-agrees}
+use Rattle.model.specs.Request.OperationLaws.{Found, number-opOf, opOf-number, wantsDevice-agrees}
 use Rattle.model.specs.Request.Operations.{Op, numberOf, opOf, openLoggedOff, rowOf, toAcknowledge, toAuthorised, toClear, toClearance}
 use Rattle.model.specs.Request.Operations.{toCopy, toCreate, toCurrent, toDelete, toDeviceLevel, toEdit, toGrant, toLevel, toLogin}
 use Rattle.model.specs.Request.Operations.{toLogout, toMark, toMaximum, toMove, toRelease, toRevoke, toShow}
@@ -35,17 +35,6 @@ use Rattle.model.specs.Request.Words.{Request, names}
 use Rattle.model.specs.State.WellFormed.{Thing, WellFormed}
 use Rattle.model.specs.Tables.Words.{Tables, clearance, containerKind, devices, kinds, level, mark}
 
--- the operation that is found by the number of a request
-abbrev pub Found : Request → Op → Type 0
-Found q o = opOf (q .operation) ≡ some o
-
--- is the one that the request names.
-pub found-names : (q : Request) (o : Op) → Found q o → Names q o
-found-names q o e = sym (opOf-number (q .operation) o e)
-
-pub names-found : (q : Request) (o : Op) → Names q o → Found q o
-names-found q o e = ap opOf e ∙ number-opOf o
-
 -- Rule 7.7: a reference is read as 0 exactly where it leads nowhere.
 nowhere-agrees : (d : Tables) → WellFormed d → (ns : List ℕ) → Agrees (eqb (resolve d ns) 0) ((way : List ℕ) (x : ℕ) → Leads d ns way x → ⊥)
 nowhere-agrees d w ns = agrees-as (λ e way x l. omega (arith, leads-resolve l .0, leads-present w l .low)) nowhere (agrees-eq (resolve d ns) 0)
@@ -55,7 +44,7 @@ nowhere-agrees d w ns = agrees-as (λ e way x l. omega (arith, leads-resolve l .
 
 -- Rule 5.3: an operand and its way are where its reference leads and by which entities,
 pub operand-leads : (d : Tables) (q : Request) (k : ℕ) → operand (asked d q) k ≢ 0
-    → Leads d (names (reference q k)) (basisOf (asked d q) k) (operand (asked d q) k)
+    → Leads d (names (referenceOf q k)) (basisOf (asked d q) k) (operand (asked d q) k)
 unfolding asked
 operand-leads d q k = go (eqb k 1)
   where
@@ -66,7 +55,7 @@ operand-leads d q k = go (eqb k 1)
     go false h = resolve-leads d (names (q .second)) h
 
 -- and a reference leads nowhere else, and by no other way.
-pub leads-operand : (d : Tables) (q : Request) (k x : ℕ) (way : List ℕ) → Leads d (names (reference q k)) way x
+pub leads-operand : (d : Tables) (q : Request) (k x : ℕ) (way : List ℕ) → Leads d (names (referenceOf q k)) way x
     → (operand (asked d q) k ≡ x) × (basisOf (asked d q) k ≡ way)
 unfolding asked
 leads-operand d q k x way = go (eqb k 1)
@@ -169,9 +158,9 @@ module _ (d : Tables) (q : Request) where
       operands-agree (λ o k x. p o k) P (λ o. operands-each 1 (rowOf o .operands) (λ k x. Agrees (p o k) (P o k)) (λ k x. a o k))
 
   -- Rule 7.7: an operand's reference leads nowhere.
-  pub leadsNowhere-agrees : WellFormed d → Agrees (leadsNowhere d q) ((o : Op) × (k : ℕ) × Found q o × Operand o k × Nowhere d (reference q k))
+  pub leadsNowhere-agrees : WellFormed d → Agrees (leadsNowhere d q) ((o : Op) × (k : ℕ) × Found q o × Operand o k × Nowhere d (referenceOf q k))
   unfolding leadsNowhere asked
-  leadsNowhere-agrees w = positions-agree (λ o k. eqb (operand (asked d q) k) 0) (λ o k. Nowhere d (reference q k)) (λ o k. go (eqb k 1))
+  leadsNowhere-agrees w = positions-agree (λ o k. eqb (operand (asked d q) k) 0) (λ o k. Nowhere d (referenceOf q k)) (λ o k. go (eqb k 1))
     where
       go : (b : Bool) → Agrees (eqb (pick b (resolve d (names (q .first))) (resolve d (names (q .second)))) 0) (Nowhere d (pick b (q .first) (q .second)))
       go true = nowhere-agrees d w (names (q .first))

@@ -4,11 +4,15 @@ use mathlib.Core.Path.{_≡_}
 use Prim.Native.Nat.{_<_, _≤_, ℕ}
 use Rattle.model.specs.Effect.Places.{draftSort, objectSort}
 use Rattle.model.specs.Level.{levelCount, roleSets}
-use Rattle.model.specs.Request.Operations.{Op, toAcknowledge, toAuthorised, toClear, toClearance, toCopy, toCreate, toCurrent}
-use Rattle.model.specs.Request.Operations.{toDelete, toDeviceLevel, toEdit, toGrant, toLevel, toLogin, toLogout, toMark, toMaximum}
-use Rattle.model.specs.Request.Operations.{toMove, toRelease, toRevoke, toShow}
+use Rattle.model.specs.Request.Operations.{Op, numberOf, toAcknowledge, toAuthorised, toClear, toClearance, toCopy, toCreate}
+use Rattle.model.specs.Request.Operations.{toCurrent, toDelete, toDeviceLevel, toEdit, toGrant, toLevel, toLogin, toLogout, toMark}
+use Rattle.model.specs.Request.Operations.{toMaximum, toMove, toRelease, toRevoke, toShow}
 use Rattle.model.specs.Request.Words.{Reference, Request, nameCount}
 use Rattle.model.specs.Tables.Words.{operationCount, positionCount, sumMost, userCount, whoMost}
+
+-- Rule 5.1: the request names the operation o by its number.
+abbrev pub Names : Request → Op → Type 0
+Names q o = q .operation ≡ numberOf o
 
 -- Rule 5.4: a reference that an operation takes has 1 to 4 names, and its name words after them are zero;
 abbrev pub Named : Reference → Type 0

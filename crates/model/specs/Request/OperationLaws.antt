@@ -10,10 +10,12 @@ use lib.Dec.{T, eqb, leb}
 use Rattle.model.specs.Basics.Agree.{Agrees, agrees-and, agrees-as, agrees-eq, agrees-le, agrees-not, agrees-or}
 use Rattle.model.specs.Basics.Choice.{Same, it, other, same}
 use Rattle.model.specs.Request.Allowed.{WantsDevice}
+use Rattle.model.specs.Request.Form.{Names}
 use Rattle.model.specs.Request.Operations.{Op, numberOf, opOf, openLoggedOff, operations, toAcknowledge, toAuthorised, toClear}
 use Rattle.model.specs.Request.Operations.{toClearance, toCopy, toCreate, toCurrent, toDelete, toDeviceLevel, toEdit, toGrant}
 use Rattle.model.specs.Request.Operations.{toLevel, toLogin, toLogout, toMark, toMaximum, toMove, toRelease, toRevoke, toShow}
 use Rattle.model.specs.Request.Operations.{withNumber}
+use Rattle.model.specs.Request.Words.{Request}
 use Rattle.model.specs.Tables.Words.{operationCount}
 
 -- the operation found has the number that was sought
@@ -57,6 +59,17 @@ number-opOf toMaximum = refl
 number-opOf toDeviceLevel = refl
 number-opOf toRelease = refl
 number-opOf toAcknowledge = refl
+
+-- the operation that is found by the number of a request
+abbrev pub Found : Request → Op → Type 0
+Found q o = opOf (q .operation) ≡ some o
+
+-- is the one that the request names.
+pub found-names : (q : Request) (o : Op) → Found q o → Names q o
+found-names q o e = sym (opOf-number (q .operation) o e)
+
+pub names-found : (q : Request) (o : Op) → Names q o → Found q o
+names-found q o e = ap opOf e ∙ number-opOf o
 
 -- two operations of one number are one
 pub number-injective : (o p : Op) → numberOf o ≡ numberOf p → o ≡ p

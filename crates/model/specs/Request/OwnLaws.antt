@@ -14,8 +14,8 @@ use Rattle.model.specs.Request.Applies.{Full, Own, Suits, WithEntity, Wi
 use Rattle.model.specs.Request.Applies.{authorisedAbsent, authorisedOutside, authorisedRole, clearanceAbsent, clearanceInsecure, clearanceRole, copyAbove}
 use Rattle.model.specs.Request.Applies.{createAbove, createNumber, createPlace, currentAbsent, currentAnothers, currentOff, currentUnauthorised}
 use Rattle.model.specs.Request.Applies.{deleteFilled, deleteReleased, deleteShown, deviceInsecure, deviceLowered, grantFull, levelInsecure}
-use Rattle.model.specs.Request.Applies.{levelLowered, loginOn, loginTaken, maximumAbove, maximumRole, moveAbove, moveFull, moveInside}
-use Rattle.model.specs.Request.Applies.{releaseRole, showAbove, showFull, showUncleared, showUnlabelled}
+use Rattle.model.specs.Request.Applies.{levelLowered, loginOn, loginOccupied, maximumAbove, maximumRole, moveAbove, moveFull, moveInside}
+use Rattle.model.specs.Request.Applies.{releaseRole, showAboveScreen, showFull, showUncleared, showUnlabelled}
 use Rattle.model.specs.Request.Asked.{Asked, operand, own}
 use Rattle.model.specs.Request.ConditionLaws.{createAbove-fails, currentOutside-fails, deviceAbove-fails, firstAbove-fails, insecure-fails}
 use Rattle.model.specs.Request.ConditionLaws.{rolesUnauthorised-fails, userAbsent-fails}
@@ -115,13 +115,13 @@ module _ (d : Tables) (s : Asked) where
       above : (AtMost (levelOf d (s .first)) (d .user (s .user) clearance) → ⊥) ⊎ (AtMost (levelOf d (s .first)) (levelOf d (own d s)) → ⊥)
           → Own s d toShow refusal.levelOrRoles
       above (inl f) = showUncleared f
-      above (inr f) = showAbove f
+      above (inr f) = showAboveScreen f
   refusal-stated toClear h = tt
   refusal-stated toLogin h = (λ b t. taken (loginTaken-agrees d s (h .wellFormed) (terminal h) .to t), tt)
     where
       taken : (own d s ≢ 0) ⊎ ((u : ℕ) × (devices d u ≡ s .first)) → Own s d toLogin refusal.arrangement
       taken (inl n) = loginOn n
-      taken (inr z) = loginTaken (z .0) (z .1)
+      taken (inr z) = loginOccupied (z .0) (z .1)
   refusal-stated toLogout h = tt
   refusal-stated toCurrent h = (
     λ b t. off (rolesOff-agrees d s .to t),
@@ -190,11 +190,11 @@ module _ (d : Tables) (s : Asked) where
   earned (levelInsecure f) = of-row tt (λ h b. level-agrees h .from f)
   earned (grantFull f) = of-row tt (λ h b. grantNoRoom-agrees d s .from f)
   earned (showUncleared f) = of-row tt (λ h b. showAbove-agrees d s .from (inl f))
-  earned (showAbove f) = of-row tt (λ h b. showAbove-agrees d s .from (inr f))
+  earned (showAboveScreen f) = of-row tt (λ h b. showAbove-agrees d s .from (inr f))
   earned (showFull f) = of-row tt (λ h b. showNoRoom-agrees d s (h .wellFormed) .from f)
   earned (showUnlabelled v l) = of-row tt (λ h b. showUnlabelled-agrees d s .from (v, l))
   earned (loginOn n) = of-row tt (λ h b. loginTaken-agrees d s (h .wellFormed) (terminal h) .from (inl n))
-  earned (loginTaken u e) = of-row tt (λ h b. loginTaken-agrees d s (h .wellFormed) (terminal h) .from (inr (u, e)))
+  earned (loginOccupied u e) = of-row tt (λ h b. loginTaken-agrees d s (h .wellFormed) (terminal h) .from (inr (u, e)))
   earned (currentAbsent e) = of-row tt (λ h b. rolesOff-agrees d s .from (inl e))
   earned (currentOff e n) = of-row tt (λ h b. rolesOff-agrees d s .from (inr (e, n)))
   earned (currentAnothers n f) = of-row tt (λ h b. rolesOfAnother-agrees d s .from (n, f))

@@ -34,11 +34,11 @@ follow-follows d e (p ∷ ps) h = go (placeTest d e p) (place-agrees d e p .to) 
     go true f n ih = further (f tt .0) (f tt .1) (ih n)
     go false f n ih = absurd (n refl)
 
-pub reads-follow : {d : Tables} {e x : ℕ} {ps w : List ℕ} → Follows d e ps w x → (follow d e ps ≡ x) × (passed d e ps ≡ w)
+pub follows-follow : {d : Tables} {e x : ℕ} {ps w : List ℕ} → Follows d e ps w x → (follow d e ps ≡ x) × (passed d e ps ≡ w)
 unfolding follow passed
-reads-follow here = (refl, refl)
-reads-follow {d} (further {e = e} {p = p} {ps = ps} {x = x} l h r) =
-    (go (placeTest d e p) (place-agrees d e p .from (l, h)) (reads-follow r .0), ap (λ (v : List ℕ). e ∷ v) (reads-follow r .1))
+follows-follow here = (refl, refl)
+follows-follow {d} (further {e = e} {p = p} {ps = ps} {x = x} l h r) =
+    (go (placeTest d e p) (place-agrees d e p .from (l, h)) (follows-follow r .0), ap (λ (v : List ℕ). e ∷ v) (follows-follow r .1))
   where
     go : (b : Bool) → T b → follow d (standing d e p) ps ≡ x → elim b [ true ↦ follow d (standing d e p) ps | false ↦ 0 ] ≡ x
     go true t q = q
@@ -58,16 +58,16 @@ resolve-leads d (e ∷ ps) h = go (presentTest d e) (present-agrees d e .to) h
 -- Where a reference leads is what is read: there is one such entity, and one way.
 pub leads-resolve : {d : Tables} {ns w : List ℕ} {x : ℕ} → Leads d ns w x → (resolve d ns ≡ x) × (basis d ns ≡ w)
 unfolding resolve basis
-leads-resolve {d} (begins {e = e} {ps = ps} {x = x} p r) = (go (presentTest d e) (present-agrees d e .from p) (reads-follow r .0), reads-follow r .1)
+leads-resolve {d} (begins {e = e} {ps = ps} {x = x} p r) = (go (presentTest d e) (present-agrees d e .from p) (follows-follow r .0), follows-follow r .1)
   where
     go : (b : Bool) → T b → follow d e ps ≡ x → elim b [ true ↦ follow d e ps | false ↦ 0 ] ≡ x
     go true t q = q
     go false t q = absurd t
 
 -- In well-formed tables a reference leads to what is there.
-pub reads-present : {d : Tables} {e x : ℕ} {ps w : List ℕ} → WellFormed d → Present d e → Follows d e ps w x → Present d x
-reads-present w p here = p
-reads-present {d} w p (further {e = e} {p = n} l h r) = reads-present w inner r
+pub follows-present : {d : Tables} {e x : ℕ} {ps w : List ℕ} → WellFormed d → Present d e → Follows d e ps w x → Present d x
+follows-present w p here = p
+follows-present {d} w p (further {e = e} {p = n} l h r) = follows-present w inner r
   where
     held-there : Holds d e (standing d e n)
     held-there = (pred n, omega arith, refl)
@@ -82,4 +82,4 @@ reads-present {d} w p (further {e = e} {p = n} l h r) = reads-present w inner r
         record { low = i .0; high = i .1; there = z }
 
 pub leads-present : {d : Tables} {ns v : List ℕ} {x : ℕ} → WellFormed d → Leads d ns v x → Present d x
-leads-present w (begins p r) = reads-present w p r
+leads-present w (begins p r) = follows-present w p r

@@ -6,6 +6,7 @@ use Prim.Native.Nat.{_<_, ℕ}
 use lib.ListN.{getD, length, take}
 use Rattle.model.specs.Request.Step.{afterOf}
 use Rattle.model.specs.Script.Reports.{Report, output, report, unread}
+use Rattle.model.specs.Text.Textual.{AllWritten}
 use Rattle.model.specs.Text.Wording.{Wording, badLine, lines, readSeven, sixteen, textOf}
 use Rattle.model.specs.Theorem.Statements.{afterWords}
 
@@ -36,10 +37,11 @@ abbrev pub requests : List Wording → List (List ℕ)
 requests [] = []
 requests (m ∷ ms) = sixteen m ∷ requests ms
 
--- Rule 12.3: a run is that of a list of wordings: their texts stand one after another in front of the rest, report i is that of request i on the
--- tables which exactly the requests before it leave, and the tables at the end are those after all of them.
+-- Rule 12.3: a run is that of a list of wordings that have a text. Their texts stand one after another in front of the rest, report i is that of
+-- request i on the tables which exactly the requests before it leave, and the tables at the end are those after all of them.
 pub record Reported (t s : List ℕ) (rs : List Report) (t′ s′ : List ℕ) : Type 0 where
   pub wordings : List Wording
+  pub written : AllWritten wordings
   pub text : s ≡ texts wordings ++ s′
   pub many : length rs ≡ length wordings
   pub each : (i : ℕ) → i < length rs → getD rs i unread ≡ report (afterWords t (take i (requests wordings))) (getD (requests wordings) i [])

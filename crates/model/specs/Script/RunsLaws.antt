@@ -10,7 +10,7 @@ use Rattle.model.specs.Script.Reports.{Report, output, report, unread}
 use Rattle.model.specs.Script.Runs.{Answered, Outputs, Reported, Runs, cut, requests, stay, texts, turn, whole}
 use Rattle.model.specs.Text.Lines.{readLine}
 use Rattle.model.specs.Text.NearLaws.{read-longer, read-shorter}
-use Rattle.model.specs.Text.Textual.{Written}
+use Rattle.model.specs.Text.Textual.{AllWritten}
 use Rattle.model.specs.Text.Wording.{Lines, Wording, badLine, lines, readSeven, sixteen, textOf}
 use Rattle.model.specs.Text.WordingLaws.{text-back, text-there}
 use Rattle.model.specs.Theorem.Statements.{afterWords}
@@ -136,6 +136,7 @@ unfolding afterWords
 reported-turn {t = t} {s = s} {x = x} {s′ = s′} {m = m} {rs = rs} e w =
     record {
       wordings = m ∷ w .wordings;
+      written = (text-back s m x e .0, w .written);
       text = text-back s m x e .1 ∙ ap (λ l. textOf m ++ l) (w .text) ∙ sym (append-assoc (textOf m) (texts (w .wordings)) s′);
       many = ap suc (w .many);
       each = at;
@@ -151,13 +152,8 @@ reported-turn {t = t} {s = s} {x = x} {s′ = s′} {m = m} {rs = rs} e w =
 -- Rule 12.3: each report of a run is that of the tables after exactly the requests before it.
 pub runs-report : {t s t′ s′ : List ℕ} {rs : List Report} → Runs t s rs t′ s′ → Reported t s rs t′ s′
 unfolding afterWords
-runs-report stay = record { wordings = []; text = refl; many = refl; each = λ i h. absurd (omega arith); after = refl }
+runs-report stay = record { wordings = []; written = tt; text = refl; many = refl; each = λ i h. absurd (omega arith); after = refl }
 runs-report (turn e r) = reported-turn e (runs-report r)
-
--- each of these wordings has a text
-abbrev pub AllWritten : List Wording → Type 0
-AllWritten [] = Unit {0}
-AllWritten (m ∷ ms) = Written m × AllWritten ms
 
 -- the reports of wordings, each on the tables that those before it leave
 abbrev pub reportsOf : List ℕ → List Wording → List Report

@@ -24,7 +24,7 @@ nonzero (suc n ∷ l) = suc n ∷ nonzero l
 abbrev pub accessList : Tables → ℕ → List ℕ
 accessList d x = nonzero (firstValues placeCount (triples d x))
 
--- Section 6, closing up: a list after the entry v was taken out of it.
+-- Rule 6, closing up: a list after the entry v was taken out of it.
 pub record TakenOut (v : ℕ) (before after : List ℕ) : Type 0 where
   -- what stood before v stands first, what stood behind v follows, both in their order; v alone is gone
   pub closed : (p s : List ℕ) → before ≡ p ++ (v ∷ s) → after ≡ p ++ s

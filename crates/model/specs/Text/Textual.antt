@@ -22,6 +22,11 @@ pub record Written (m : Wording) : Type 0 where
   pub b : m .b ≤ most
   pub c : m .c ≤ most
 
+-- each of these wordings can
+abbrev pub AllWritten : List Wording → Type 0
+AllWritten [] = Unit {0}
+AllWritten (m ∷ ms) = Written m × AllWritten ms
+
 -- Rule 11.3: words that a text has: no reference longer than four names, the name words after them zero, and word 15 zero.
 pub record Textual (q : Request) : Type 0 where
   pub firstFew : q .first .length ≤ nameCount

@@ -11,6 +11,7 @@ use Rattle.model.specs.Request.Form.{Fits}
 use Rattle.model.specs.Request.Ladder.{answer, applies, ladder, leadsNowhere, noAccess, notCleared, notLoggedOn, notSecure}
 use Rattle.model.specs.Request.Ladder.{notUnderstood, notWellFormed, ownRung, refused, rungAt, unknownUser, wrongKind}
 use Rattle.model.specs.Request.LadderLaws.{answer-is}
+use Rattle.model.specs.Request.OperationLaws.{found-names}
 use Rattle.model.specs.Request.Operations.{Op, opOf, rowOf}
 use Rattle.model.specs.Request.RungLaws.{leadsNowhere-fails, noAccess-fails, notCleared-fails, notLoggedOn-fails, notSecure-fails}
 use Rattle.model.specs.Request.RungLaws.{notUnderstood-fails, notWellFormed-fails, ownRung-fails, unknownUser-fails, wrongKind-fails}
@@ -76,7 +77,7 @@ module _ (d : Tables) (q : Request) (e : answer d q ≡ refusal.accepted) where
     accepted-by w = record {
       meant = record {
         known = requester-known d q (no refusal.unknownRequester);
-        named = named;
+        named = found-names q o named;
         fitting = f;
         leading = leadsNowhere-fails d q o named .to (is-false (leadsNowhere d q) (no refusal.noSuchName));
       };

@@ -17,6 +17,7 @@ use Rattle.model.specs.Request.AfterLaws.{after-each, effect-by}
 use Rattle.model.specs.Request.Allowed.{Accepted}
 use Rattle.model.specs.Request.Asked.{asked}
 use Rattle.model.specs.Request.Ladder.{answer}
+use Rattle.model.specs.Request.OperationLaws.{names-found}
 use Rattle.model.specs.Request.Operations.{Op, rowOf, toAcknowledge, toAuthorised, toClear, toClearance, toCopy, toCreate, toCurrent}
 use Rattle.model.specs.Request.Operations.{toDelete, toDeviceLevel, toEdit, toGrant, toLevel, toLogin, toLogout, toMark, toMaximum}
 use Rattle.model.specs.Request.Operations.{toMove, toRelease, toRevoke, toShow}
@@ -154,7 +155,7 @@ module _ (d : Tables) (w : WellFormed d) (q : Request) where
   request-keeps x = after-each d q (λ (d′ : Tables). KeptAt d q d′ x) settled (λ l h. as-it-was d x refl refl refl) (λ h. as-it-was _ x refl refl refl)
     where
       settled : answer d q ≡ refusal.accepted → KeptAt d q (effect d q) x
-      settled e = let a = accepted d q e w in rw (effect-by d q (a .0) (a .1 .meant .named)) (effect-keeps (a .0) (a .1) x)
+      settled e = let a = accepted d q e w in rw (effect-by d q (a .0) (names-found q (a .0) (a .1 .meant .named))) (effect-keeps (a .0) (a .1) x)
 
 -- Rule 6.19: no request makes anything released but by a release of that very draft, not even what it creates.
 pub only-released : (d : Tables) → WellFormed d → (q : Request) → OnlyReleased d q (after d q)

@@ -10,6 +10,7 @@ use Rattle.model.specs.Request.AfterLaws.{after-accepted, after-each, ef
 use Rattle.model.specs.Request.Allowed.{Allowed}
 use Rattle.model.specs.Request.Asked.{asked}
 use Rattle.model.specs.Request.Ladder.{answer}
+use Rattle.model.specs.Request.OperationLaws.{names-found}
 use Rattle.model.specs.Request.Operations.{Op, opOf, rowOf}
 use Rattle.model.specs.Request.Words.{Request}
 use Rattle.model.specs.State.WellFormed.{WellFormed}
@@ -26,8 +27,8 @@ pub accepted-framed : (d : Tables) → WellFormed d → (q : Request) → answer
 accepted-framed d w q e =
     let a = accepted d q e w in (
       a .0,
-      a .1 .meant .named,
-      subst (Frame (a .0) (asked d q) d) (sym (after-accepted d q e ∙ effect-by d q (a .0) (a .1 .meant .named)))
+      names-found q (a .0) (a .1 .meant .named),
+      subst (Frame (a .0) (asked d q) d) (sym (after-accepted d q e ∙ effect-by d q (a .0) (names-found q (a .0) (a .1 .meant .named))))
           (framed (a .0) d w (asked d q) (a .1 .allowed)),
     )
 
@@ -40,7 +41,7 @@ after-has d w q P effects notices none = after-each d q P settled (λ l h. none)
     settled : answer d q ≡ refusal.accepted → P (effect d q)
     settled e =
         let a = accepted d q e w in
-        subst P (sym (effect-by d q (a .0) (a .1 .meant .named))) (effects (a .0) (a .1 .allowed))
+        subst P (sym (effect-by d q (a .0) (names-found q (a .0) (a .1 .meant .named)))) (effects (a .0) (a .1 .allowed))
 
 -- No request, accepted or refused, makes a user present or absent.
 pub users-stay : (d : Tables) → WellFormed d → (q : Request) (u : ℕ) → after d q .user u present ≡ d .user u present

@@ -156,9 +156,9 @@ Done toAcknowledge s d d′ = HasAcknowledged s d′
 
 -- All that the rules say of the tables d′ after an accepted operation.
 pub record Outcome (o : Op) (s : Asked) (d d′ : Tables) : Type 0 where
-  -- section 3: they are well-formed
+  -- rule 3: they are well-formed
   pub wellFormed : WellFormed d′
-  -- section 6: the words of the operation's rule have the values that it names
+  -- rule 6: the words of the operation's rule have the values that it names
   pub done : Done o s d d′
   -- rule 8.4: every other word is as before
   pub framed : Frame o s d d′

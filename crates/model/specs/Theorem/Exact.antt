@@ -1,6 +1,6 @@
 -- A request is accepted exactly where it is meant, permitted, cleared and allowed; and by one operation only.
 use mathlib.Core.Bool.{not}
-use mathlib.Core.Path.{_≡_}
+use mathlib.Core.Path.{_∙_, _≡_, sym}
 use Prim.Native.Nat.{ℕ}
 use lib.Dec.{T, eqb}
 use Rattle.model.specs.Basics.Agree.{Agrees, agrees-as, agrees-eq}
@@ -8,6 +8,7 @@ use Rattle.model.specs.Request.Allowed.{Accepted}
 use Rattle.model.specs.Request.Asked.{asked}
 use Rattle.model.specs.Request.Ladder.{answer, ladder, ownRung}
 use Rattle.model.specs.Request.LadderLaws.{lowest-none}
+use Rattle.model.specs.Request.OperationLaws.{names-found, number-injective}
 use Rattle.model.specs.Request.Operations.{Op}
 use Rattle.model.specs.Request.RungLaws.{leadsNowhere-fails, noAccess-fails, notCleared-fails, notLoggedOn-fails, notSecure-fails}
 use Rattle.model.specs.Request.RungLaws.{notUnderstood-fails, notWellFormed-fails, ownRung-fails, unknownUser-fails, wrongKind-fails}
@@ -23,7 +24,7 @@ use Rattle.model.specs.Request.Refusals as refusal
 pub accepted-answer : (d : Tables) → Good d → (q : Request) (o : Op) → Accepted o d q → answer d q ≡ refusal.accepted
 unfolding answer ladder
 accepted-answer d g q o h =
-    let n = h .meant .named in
+    let n = names-found q o (h .meant .named) in
     let u = allowed-unrefused o d (g .0) (asked d q) (h .allowed) in
     let no2 = notWellFormed-fails d q (wellFormed-bounded d (g .0)) .from (g .0) in
     let no3 = notSecure-fails d q (g .0) .from (g .1) in
@@ -43,4 +44,4 @@ answer-exact d g q = agrees-as (λ e. accepted d q e (g .0)) (λ z. accepted-ans
 
 -- A request is accepted by one operation at most, the one that it names (rule 6).
 pub operation-unique : (d : Tables) (q : Request) (o p : Op) → Accepted o d q → Accepted p d q → o ≡ p
-operation-unique d q o p h k = cc (h .meant .named, k .meant .named)
+operation-unique d q o p h k = number-injective o p (sym (h .meant .named) ∙ k .meant .named)

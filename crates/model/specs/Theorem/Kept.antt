@@ -22,6 +22,7 @@ use Rattle.model.specs.Request.Allowed.{Allowed, MayCreate}
 use Rattle.model.specs.Request.Asked.{Asked, asked, namedTriple, own}
 use Rattle.model.specs.Request.Ladder.{answer}
 use Rattle.model.specs.Request.LadderLaws.{answer-is, answer-range}
+use Rattle.model.specs.Request.OperationLaws.{names-found}
 use Rattle.model.specs.Request.Operations.{Op, rowOf, toAcknowledge, toAuthorised, toClear, toClearance, toCopy, toCreate, toCurrent}
 use Rattle.model.specs.Request.Operations.{toDelete, toDeviceLevel, toEdit, toGrant, toLevel, toLogin, toLogout, toMark, toMaximum}
 use Rattle.model.specs.Request.Operations.{toMove, toRelease, toRevoke, toShow}
@@ -89,7 +90,7 @@ request-good d g q = after-each d q Good settled (λ l h. g) noticed
     settled : answer d q ≡ refusal.accepted → Good (effect d q)
     settled e =
         let a = accepted d q e (g .0) in
-        rw (effect-by d q (a .0) (a .1 .meant .named)) (effect-good d (g .0) (g .1) (asked d q) (a .1 .meant .known .there) (a .0) (a .1 .allowed))
+        rw (effect-by d q (a .0) (names-found q (a .0) (a .1 .meant .named))) (effect-good d (g .0) (g .1) (asked d q) (a .1 .meant .known .there) (a .0) (a .1 .allowed))
 
     noticed : firstNoticed ≤ answer d q → Good (notice (q .user) (answer d q) (noticedOp q) d)
     noticed l =

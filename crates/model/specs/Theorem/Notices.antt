@@ -15,7 +15,7 @@ use Rattle.model.specs.Request.AfterLaws.{after-accepted, after-each, ef
 use Rattle.model.specs.Request.Allowed.{Allowed}
 use Rattle.model.specs.Request.Asked.{asked}
 use Rattle.model.specs.Request.Ladder.{answer}
-use Rattle.model.specs.Request.OperationLaws.{number-injective}
+use Rattle.model.specs.Request.OperationLaws.{names-found, number-injective}
 use Rattle.model.specs.Request.Operations.{Op, numberOf, opOf, rowOf, toAcknowledge}
 use Rattle.model.specs.Request.Words.{Request}
 use Rattle.model.specs.State.Secure.{Good}
@@ -65,8 +65,8 @@ pub accepted-notices : (d : Tables) → WellFormed d → (q : Request) → answe
 unfolding asked
 accepted-notices d w q e x n =
     let a = accepted d q e w in
-    subst (λ (d′ : Tables). SameNotice d d′ x) (sym (after-accepted d q e ∙ effect-by d q (a .0) (a .1 .meant .named)))
-    (each-op (a .0) (a .1 .meant .named) (a .1 .allowed))
+    subst (λ (d′ : Tables). SameNotice d d′ x) (sym (after-accepted d q e ∙ effect-by d q (a .0) (names-found q (a .0) (a .1 .meant .named))))
+    (each-op (a .0) (names-found q (a .0) (a .1 .meant .named)) (a .1 .allowed))
   where
     each-op : (o : Op) → opOf (q .operation) ≡ some o → Allowed o (asked d q) d → SameNotice d (rowOf o .effect (asked d q) d) x
     each-op o m h = go (eqb (numberOf o) (numberOf toAcknowledge)) (same (numberOf o) (numberOf toAcknowledge))

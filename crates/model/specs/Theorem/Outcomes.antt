@@ -12,6 +12,7 @@ use Rattle.model.specs.Request.After.{after}
 use Rattle.model.specs.Request.AfterLaws.{after-accepted, effect-by}
 use Rattle.model.specs.Request.Asked.{asked}
 use Rattle.model.specs.Request.Ladder.{answer}
+use Rattle.model.specs.Request.OperationLaws.{names-found}
 use Rattle.model.specs.Request.Operations.{Op, opOf, rowOf}
 use Rattle.model.specs.Request.Step.{afterOf, answerOf, sized}
 use Rattle.model.specs.Request.Words.{Request, requestOf}
@@ -34,8 +35,8 @@ pub accepted-done : (d : Tables) → WellFormed d → (q : Request) → answer d
 accepted-done d w q e =
     let a = accepted d q e w in (
       a .0,
-      a .1 .meant .named,
-      subst (Done (a .0) (asked d q) d) (sym (after-accepted d q e ∙ effect-by d q (a .0) (a .1 .meant .named)))
+      names-found q (a .0) (a .1 .meant .named),
+      subst (Done (a .0) (asked d q) d) (sym (after-accepted d q e ∙ effect-by d q (a .0) (names-found q (a .0) (a .1 .meant .named))))
           (effect-done (a .0) d w (asked d q) (a .1 .allowed)),
     )
 
@@ -61,9 +62,9 @@ accepted-outcome d g q e =
     let a = accepted d q e (g .0) in
     let o = a .0 in
     let there = a .1 .meant .known .there in
-    let z : after d q ≡ rowOf o .effect (asked d q) d = after-accepted d q e ∙ effect-by d q o (a .1 .meant .named) in (
+    let z : after d q ≡ rowOf o .effect (asked d q) d = after-accepted d q e ∙ effect-by d q o (names-found q (a .0) (a .1 .meant .named)) in (
       o,
-      a .1 .meant .named,
+      names-found q (a .0) (a .1 .meant .named),
       λ d′. (
         λ p. done-exact d g (asked d q) there o (a .1 .allowed) d′ p ∙ sym z,
         λ h. subst (Outcome o (asked d q) d) (sym (h ∙ z)) (effect-outcome d g (asked d q) there o (a .1 .allowed)),

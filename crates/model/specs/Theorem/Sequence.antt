@@ -3,12 +3,12 @@
 use mathlib.Core.Bool.{Bool, _&&_}
 use mathlib.Core.List.{List}
 use mathlib.Core.Logic.{_≢_, _⊎_}
-use mathlib.Core.Option.{some}
 use mathlib.Core.Path.{_≡_}
 use Prim.Native.Nat.{_+_, _<_, _≤_, suc, zero, ℕ}
 use lib.Dec.{eqb, leb}
 use Rattle.model.specs.Basics.Choice.{pick}
-use Rattle.model.specs.Request.Operations.{opOf, toAcknowledge}
+use Rattle.model.specs.Request.Form.{Names}
+use Rattle.model.specs.Request.Operations.{toAcknowledge}
 use Rattle.model.specs.Request.Step.{afterOf, answerOf}
 use Rattle.model.specs.Request.Words.{requestOf}
 use Rattle.model.specs.Tables.Layout.{tablesOf}
@@ -56,7 +56,7 @@ module _ (requests : ℕ → List ℕ) (answers : ℕ → ℕ) (u : ℕ) where
 
   -- Request i is an acknowledgement of user u, and was accepted.
   abbrev pub Acknowledged : ℕ → Type 0
-  Acknowledged i = (requestOf (requests i) .user ≡ u) × (opOf (requestOf (requests i) .operation) ≡ some toAcknowledge) × (answers i ≡ refusal.accepted)
+  Acknowledged i = (requestOf (requests i) .user ≡ u) × (Names (requestOf (requests i)) toAcknowledge) × (answers i ≡ refusal.accepted)
 
   -- how many of the k requests from number n on are so refused
   unfoldable pub refusals : ℕ → ℕ → ℕ

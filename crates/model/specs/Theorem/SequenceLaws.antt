@@ -13,8 +13,8 @@ use Rattle.model.specs.Basics.Cases.{cases, lt-or-le}
 use Rattle.model.specs.Basics.Choice.{pick}
 use Rattle.model.specs.Basics.TestLaws.{is-false, is-true, pick-true}
 use Rattle.model.specs.Request.LadderLaws.{answer-range}
-use Rattle.model.specs.Request.OperationLaws.{number-opOf, opOf-number}
-use Rattle.model.specs.Request.Operations.{numberOf, opOf, toAcknowledge}
+use Rattle.model.specs.Request.OperationLaws.{found-names, names-found}
+use Rattle.model.specs.Request.Operations.{numberOf, toAcknowledge}
 use Rattle.model.specs.Request.Step.{afterOf, answerOf, sized}
 use Rattle.model.specs.Request.Words.{requestOf}
 use Rattle.model.specs.State.AgreeSecure.{check-agrees}
@@ -54,8 +54,8 @@ missed-more n k e = cases (lt-or-le missedMost n)
 
 module _ (requests : ℕ → List ℕ) (answers : ℕ → ℕ) (u : ℕ) where
   -- The test of a refusal says its statement.
-  pub refused-agrees : (i : ℕ) → Agrees (refusedTest requests answers u i) (Refused requests answers u i)
-  refused-agrees i = agrees-as {P = (requestOf (requests i) .user ≡ u) × ((firstNoticed ≤ answers i) × (answers i ≤ lastNoticed))}
+  pub refusedTest-agrees : (i : ℕ) → Agrees (refusedTest requests answers u i) (Refused requests answers u i)
+  refusedTest-agrees i = agrees-as {P = (requestOf (requests i) .user ≡ u) × ((firstNoticed ≤ answers i) × (answers i ≤ lastNoticed))}
       (λ z. (z .0, z .1 .0, z .1 .1)) (λ z. (z .0, (z .1, z .2)))
       (agrees-and (agrees-eq (requestOf (requests i) .user) u) (agrees-and (agrees-le firstNoticed (answers i)) (agrees-le (answers i) lastNoticed)))
 
@@ -68,8 +68,7 @@ module _ (requests : ℕ → List ℕ) (answers : ℕ → ℕ) (u : ℕ) where
   unfolding acknowledgedTest
   acknowledged-agrees i = agrees-as
       {P = (requestOf (requests i) .user ≡ u) × ((requestOf (requests i) .operation ≡ numberOf toAcknowledge) × (answers i ≡ refusal.accepted))}
-      (λ z. (z .0, ap opOf (z .1 .0) ∙ number-opOf toAcknowledge, z .1 .1))
-      (λ z. (z .0, (sym (opOf-number (requestOf (requests i) .operation) toAcknowledge (z .1)), z .2)))
+      (λ z. (z .0, z .1 .0, z .1 .1)) (λ z. (z .0, (z .1, z .2)))
       (agrees-and (agrees-eq (requestOf (requests i) .user) u)
       (agrees-and (agrees-eq (requestOf (requests i) .operation) (numberOf toAcknowledge)) (agrees-eq (answers i) refusal.accepted)))
 
@@ -77,11 +76,11 @@ module _ (requests : ℕ → List ℕ) (answers : ℕ → ℕ) (u : ℕ) where
   refusals-more : (n k i : ℕ) → n + k ≡ i → Refused requests answers u i → refusals requests answers u n (suc k) ≡ suc (refusals requests answers u n k)
   unfolding refusals
   refusals-more n k i e r = pick-true (refusedTest requests answers u (n + k)) _ _
-      (refused-agrees (n + k) .from (subst (Refused requests answers u) (sym e) r))
+      (refusedTest-agrees (n + k) .from (subst (Refused requests answers u) (sym e) r))
 
   refusals-same : (n k i : ℕ) → n + k ≡ i → (Refused requests answers u i → ⊥) → refusals requests answers u n (suc k) ≡ refusals requests answers u n k
   unfolding refusals
-  refusals-same n k i e r = go (refusedTest requests answers u (n + k)) (refused-agrees (n + k))
+  refusals-same n k i e r = go (refusedTest requests answers u (n + k)) (refusedTest-agrees (n + k))
     where
       go : (b : Bool) → Agrees b (Refused requests answers u (n + k))
           → pick b (suc (refusals requests answers u n k)) (refusals requests answers u n k) ≡ refusals requests answers u n k
@@ -99,10 +98,10 @@ module _ (tables requests : ℕ → List ℕ) (answers : ℕ → ℕ) (u : ℕ) 
 
   turn : (i : ℕ) → answers i ≡ answerOf (tables i) (requests i) → tables (suc i) ≡ afterOf (tables i) (requests i) → Turn i
   turn i a l = go (acknowledgedTest requests answers u i) (refusedTest requests answers u i) (acknowledged-agrees requests answers u i)
-      (refused-agrees requests answers u i)
+      (refusedTest-agrees requests answers u i)
     where
       empties : Acknowledged requests answers u i → NoNotice (tablesOf (tables (suc i))) u
-      empties k = rw (l, sym (k .0)) (acknowledged-empties (tables i) (requests i) (k .1) (sym a ∙ k .2))
+      empties k = rw (l, sym (k .0)) (acknowledged-empties (tables i) (requests i) (names-found (requestOf (requests i)) toAcknowledge (k .1)) (sym a ∙ k .2))
 
       counts : Refused requests answers u i
           → Counted (tablesOf (tables i)) (tablesOf (tables (suc i))) u (answers i) (operationKept (requestOf (requests i) .operation))
@@ -112,7 +111,7 @@ module _ (tables requests : ℕ → List ℕ) (answers : ℕ → ℕ) (u : ℕ) 
           → SameNotice (tablesOf (tables i)) (tablesOf (tables (suc i))) u
       leaves-it k r = rw l (words-same (tables i) (requests i) u
           (λ e h. r (e, omega arith, omega (arith, answerOf-range (tables i) (requests i))))
-          (λ e m c. k (e, m, a ∙ c)))
+          (λ e m c. k (e, found-names (requestOf (requests i)) toAcknowledge m, a ∙ c)))
 
       go : (b c : Bool) → Agrees b (Acknowledged requests answers u i) → Agrees c (Refused requests answers u i) → Turn i
       go true c k r = emptying (k .to tt) (empties (k .to tt))

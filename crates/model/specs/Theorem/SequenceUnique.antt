@@ -15,7 +15,7 @@ use Rattle.model.specs.Request.Step.{afterOf, answerOf}
 use Rattle.model.specs.Tables.Layout.{tablesOf}
 use Rattle.model.specs.Tables.Words.{held, missed}
 use Rattle.model.specs.Theorem.Sequence.{Acknowledged, FirstRefused, Held, Noticed, Refused, Steps, heldFor, refusals, refusedTest, missedFor}
-use Rattle.model.specs.Theorem.SequenceLaws.{refused-agrees}
+use Rattle.model.specs.Theorem.SequenceLaws.{refusedTest-agrees}
 use Rattle.model.specs.Theorem.SequenceStep.{held-same}
 use Rattle.model.specs.Theorem.Statements.{SameNotice, afterWords}
 
@@ -47,7 +47,7 @@ pub first-or-none : (requests : ℕ → List ℕ) (answers : ℕ → ℕ) (u n k
     ⊎ ((i : ℕ) → n ≤ i → i < n + k → Refused requests answers u i → ⊥)
 first-or-none requests answers u n zero = inr (λ i l h r. omega arith)
 first-or-none requests answers u n (suc k) = go (first-or-none requests answers u n k) (refusedTest requests answers u (n + k))
-    (refused-agrees requests answers u (n + k))
+    (refusedTest-agrees requests answers u (n + k))
   where
     go : ((j : ℕ) × (j < n + k) × FirstRefused requests answers u n j) ⊎ ((i : ℕ) → n ≤ i → i < n + k → Refused requests answers u i → ⊥)
         → (b : Bool) → Agrees b (Refused requests answers u (n + k))

@@ -11,7 +11,7 @@ use Rattle.model.specs.Basics.Fails.{fails-agrees}
 use Rattle.model.specs.Basics.TestLaws.{is-false, is-true}
 use Rattle.model.specs.Request.Applies.{Applies, AppliesTo, Lowest, Own, Refers, Suits, badLength, badRequest, lowest, marked, noAccess, noSuchName}
 use Rattle.model.specs.Request.Applies.{none, notLoggedOn, notSecure, notWellFormed, onTables, ownRefusal, unknownRequester, wrongKind}
-use Rattle.model.specs.Request.AppliesLaws.{Found, found-names, kinds-suit, leads-operand, leadsNowhere-agrees, names-found}
+use Rattle.model.specs.Request.AppliesLaws.{kinds-suit, leads-operand, leadsNowhere-agrees}
 use Rattle.model.specs.Request.AppliesLaws.{noAccess-agrees, notCleared-agrees, notLoggedOn-agrees, notUnderstood-agrees, operand-leads}
 use Rattle.model.specs.Request.AppliesLaws.{wrongKind-agrees}
 use Rattle.model.specs.Request.Allowed.{Operand, Permitted}
@@ -19,6 +19,7 @@ use Rattle.model.specs.Request.Asked.{asked, basisOf, operand}
 use Rattle.model.specs.Request.Form.{Fits}
 use Rattle.model.specs.Request.Ladder.{IsAnswer, Rung, answer, applies, ladder, never, ownRung, refused, rungAt}
 use Rattle.model.specs.Request.LadderLaws.{answer-is, ofOp-agrees, own-rung}
+use Rattle.model.specs.Request.OperationLaws.{Found, found-names, names-found}
 use Rattle.model.specs.Request.Operations.{Op, numberOf, rowOf}
 use Rattle.model.specs.Request.OwnLaws.{Spoken, Suited, own-agrees, own-number}
 use Rattle.model.specs.Request.RungLaws.{leadsNowhere-fails, notSecure-fails, notUnderstood-fails, notWellFormed-fails, ownRung-fails}

@@ -5,6 +5,7 @@ use Rattle.model.specs.Effect.Notice.{notice}
 use Rattle.model.specs.Request.After.{after, effect, noticedOp}
 use Rattle.model.specs.Request.AfterLaws.{after-each, effect-by}
 use Rattle.model.specs.Request.Ladder.{answer}
+use Rattle.model.specs.Request.OperationLaws.{names-found}
 use Rattle.model.specs.Request.Words.{Request}
 use Rattle.model.specs.State.Secure.{Good}
 use Rattle.model.specs.Tables.Layout.{Bounded}
@@ -25,7 +26,7 @@ request-obeys d b q = after-each d q (Obeys d q) settled (λ l h. quiet-obeys d 
     settled e =
         let w = accepted-good d q e b .0 in
         let a = accepted d q e w in
-        rw (effect-by d q (a .0) (a .1 .meant .named)) (lawful (a .0) d w q (a .1))
+        rw (effect-by d q (a .0) (names-found q (a .0) (a .1 .meant .named))) (lawful (a .0) d w q (a .1))
 
 -- Definition 12.
 pub transform-secure : TransformSecure after
