@@ -1,4 +1,4 @@
--- Rule 13: S1's cases of a step, and the check, as C gets them. Each is said of whatever the exported call answers and leaves.
+-- Rule 13: S1's cases hold of the linked calls. Each is said of whatever the exported call answers and leaves.
 use mathlib.Core.List.{List, [], _++_, _∷_}
 use mathlib.Core.Path.{_∙_, _≡_, ap, sym}
 use Prim.Native.Nat.{_*_, ℕ}
@@ -12,21 +12,21 @@ use Rattle.exhibits.specs.CalledLaws.{both-called, called-word, cases-ca
 use Rattle.mms.specs.Calls.{StepCall}
 use Rattle.mms.specs.Contract.{Stepping, checking, exported, numbers}
 use Rattle.mms.specs.RoundTrip.{answering}
-use Rattle.cases.specs.Case.Cases.{asking, expect}
+use Rattle.cases.specs.Case.Cases.{asking, expect, noted}
 use Rattle.cases.specs.Case.S1.{s1, starred, unstarred}
 use Rattle.cases.specs.Case.S1Holds.{starred-hold, unstarred-hold}
-use Rattle.cases.specs.Case.S1Script.{s1-script-only}
+use Rattle.cases.specs.Case.S1Script.{s1-script-only, s1-script-writes}
 use Rattle.cases.specs.Case.S1Words.{s1Words, s1Words-checked, s1Words-length, s1Words-tables, s1Words-unknown}
 use Rattle.model.specs.Request.Words.{requestWords}
 use Rattle.model.specs.Tables.Sheet.{padded}
 use Rattle.model.specs.Request.Refusals as refusal
 
 starred-sixteen : T (allInSixteen starred)
-unfolding starred expect asking padded
+unfolding starred noted expect asking padded
 starred-sixteen = tt
 
 unstarred-sixteen : T (allInSixteen unstarred)
-unfolding unstarred expect asking padded
+unfolding unstarred noted expect asking padded
 unstarred-sixteen = tt
 
 starred-called : AllConfirmed s1Words starred
@@ -79,5 +79,6 @@ s1-exhibit = record {
   shortOfTwo = called-2-short;
   listUnmarked = called-unmarked;
   listOfOne = called-1;
-  scriptWrites = s1-script-only;
+  scriptWrites = s1-script-writes;
+  scriptOnly = s1-script-only;
 }

@@ -36,5 +36,6 @@ pub record S1Exhibit : Type 0 where
   -- and user 1 is listed nothing.
   pub listOfOne : (room : List ℕ) (a : ℕ) (r : List ℕ) → ListCall s1Words 1 room a r
       → (a ≡ exported (answering refusal.accepted 0)) × (r ≡ room)
-  -- The script of two shows has these six lines and no other output.
-  pub scriptWrites : (o : List ℕ) → Outputs s1Words s1Script o → o ≡ s1Output
+  -- The script of two shows has these six lines as its output, and no other.
+  pub scriptWrites : Outputs s1Words s1Script s1Output
+  pub scriptOnly : (o : List ℕ) → Outputs s1Words s1Script o → o ≡ s1Output

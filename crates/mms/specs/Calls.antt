@@ -13,7 +13,7 @@ use Rattle.model.specs.State.Secure.{Secure}
 use Rattle.model.specs.State.WellFormed.{WellFormed}
 use Rattle.model.specs.Tables.Layout.{tablesOf, userAt, wordCount}
 use Rattle.model.specs.Tables.Words.{firstNoticed, held, missed}
-use Rattle.model.specs.Text.Textual.{Written}
+use Rattle.model.specs.Text.Textual.{AllWritten, Written}
 use Rattle.model.specs.Text.Wording.{Wording, textOf}
 use Rattle.model.specs.Request.Refusals as refusal
 
@@ -85,10 +85,11 @@ pub record Tells (p : Report) (q : List ℕ) (a : ℕ) (r : List ℕ) : Type 0 w
       → (p .held ≡ tablesOf r .user (requester q) held) × (p .missed ≡ tablesOf r .user (requester q) missed)
   pub untold : refusal.badLength ≤ noIn a → noIn a < firstNoticed → (p .held ≡ 0) × (p .missed ≡ 0)
 
--- Rule 12.2: the script s from the tables t on, as far as s′ and the tables t′, is calls of `mms_step`: its texts are requests, in order, and the
--- reports rs tell of the calls, one of each.
+-- Rule 12.2: the script s from the tables t on, as far as s′ and the tables t′, is calls of `mms_step`: it begins with texts of requests, which are put to
+-- the tables in order, and the reports rs tell of the calls, one of each.
 pub record ScriptCalls (t s : List ℕ) (rs : List Report) (t′ s′ : List ℕ) : Type 0 where
   pub wordings : List Wording
+  pub written : AllWritten wordings
   pub text : s ≡ texts wordings ++ s′
   pub many : length rs ≡ length wordings
   pub tables : ℕ → List ℕ

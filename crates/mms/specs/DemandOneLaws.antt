@@ -13,7 +13,7 @@ use Rattle.mms.specs.CallLaws.{check-no, check-number, list-halves, pass
 use Rattle.mms.specs.CallLaws.{step-sequence, write-halves}
 use Rattle.mms.specs.Calls.{ListCall, OnlyNotice, ReadCall, StepCall, WriteCall, noIn, requester}
 use Rattle.mms.specs.Contract.{Exports, Listing, Reading, Writing, checking, exported}
-use Rattle.mms.specs.Demands.{DemandOne, Settled}
+use Rattle.mms.specs.Demands.{DemandOne, OneAnswer}
 use Rattle.mms.specs.NoticeWordLaws.{quiet-words}
 use Rattle.mms.specs.Unique.{exported-list-unique, exported-read-unique, exported-step-unique, exported-write-unique}
 use Rattle.mms.specs.declared.Answer.{Answer}
@@ -53,19 +53,19 @@ list-ends t u room = go (eqb (barred t u) refusal.accepted) (same (barred t u) r
         (lists-written t u room (entries l ++ drop (length (entries l)) room) e h refl))
     go false (other n) = exporting (Listing t u room) (barred t u) refusal.accepted room (lists-refused t u room n)
 
-step-settled : (t q : List ℕ) → Settled (StepCall t q)
+step-settled : (t q : List ℕ) → OneAnswer (StepCall t q)
 step-settled t q = record { ends = (_, afterOf t q, step-call t q); once = exported-step-unique t q }
 
-list-settled : (t : List ℕ) (u : ℕ) (room : List ℕ) → Settled (ListCall t u room)
+list-settled : (t : List ℕ) (u : ℕ) (room : List ℕ) → OneAnswer (ListCall t u room)
 list-settled t u room = record { ends = list-ends t u room; once = exported-list-unique t u room }
 
-read-settled : (s w : List ℕ) → Settled (ReadCall s w)
+read-settled : (s w : List ℕ) → OneAnswer (ReadCall s w)
 read-settled s w = record {
   ends = exporting (Reading s w) (readAnswer s w) (readNumber s w) (wordsAfter s w) (record { answer = refl; number = refl; words = refl });
   once = exported-read-unique s w;
 }
 
-write-settled : (w room : List ℕ) → Settled (WriteCall w room)
+write-settled : (w room : List ℕ) → OneAnswer (WriteCall w room)
 write-settled w room = record {
   ends = exporting (Writing w room) (writeAnswer w (length room)) (writeNumber w) (bytesAfter (writeAnswer w (length room)) w room)
       (record { answer = refl; number = refl; bytes = refl });
@@ -104,12 +104,12 @@ demandOne = record {
   checkAnswers = λ t a x. (omega (arith, check-no t a x, check-range t), check-number t a x);
   stepAnswers = λ {t} {q} x. (omega (arith, step-no x, answerOf-range t q), step-number x);
   listAnswers = λ x. list-answers (list-halves x);
-  listNumber = λ x. list-number (list-halves x);
+  numberOfList = λ x. list-number (list-halves x);
   readAnswers = λ x. read-answers (read-halves x);
-  readNumber = λ x. read-number (read-halves x);
-  readLine = λ x. read-line (read-halves x);
+  numberOfRead = λ x. read-number (read-halves x);
+  lineOfRead = λ x. read-line (read-halves x);
   writeAnswers = λ x. write-answers (write-halves x);
-  writeNumber = λ x. write-number (write-halves x);
+  numberOfWrite = λ x. write-number (write-halves x);
   stepUnchanged = step-unchanged;
   listUnchanged = λ x. list-unchanged (list-halves x);
   readUnchanged = λ x. read-unchanged (read-halves x);

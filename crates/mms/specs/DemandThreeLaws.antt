@@ -84,7 +84,7 @@ module _ {t room r : List ℕ} {u : ℕ} (a : ℕ) (x : Lists t u room (noIn a) 
   list-disclosed h =
       let e = admitted-barred t u h in record {
         list = x .list;
-        named = λ y m. let z = x .complete .only y m in (z .0, z .1);
+        lengths = λ y m. let z = x .complete .only y m in (z .0, z .1);
         exactly = list-exactly;
         once = complete-once (x .complete);
         ordered = x .complete .sorted;

@@ -1,166 +1,37 @@
 -- Demand 2 is met.
-use mathlib.Core.List.{List, [], _++_, _∷_}
-use mathlib.Core.Logic.{Iff·rfl, Iff·trans, _↔_, _≢_, _⊎_, inl, inr}
-use mathlib.Core.Path.{_∙_, _≡_, ap, refl, subst, sym}
-use Prim.Native.Nat.{_<_, _≤_, suc, zero, ℕ}
-use native.Mathlib.Omega.{arith}
-use lib.ListN.{getD, length}
-use Rattle.mms.specs.CallLaws.{check-no, check-passes, check-sound, passes-check, sound-check, step-left, step-no, step-sequence}
-use Rattle.mms.specs.Calls.{NoRequest, Passes, Sound, StepCall, StepCalls, noIn}
+use mathlib.Core.Logic.{_↔_}
+use mathlib.Core.Path.{_∙_, _≡_, refl, subst, sym}
+use Prim.Native.Nat.{ℕ}
+use Rattle.mms.specs.CallLaws.{check-no, check-sound, sound-check, step-no}
+use Rattle.mms.specs.Calls.{noIn}
 use Rattle.mms.specs.CheckLaws.{check-lowest}
-use Rattle.mms.specs.Demands.{DemandTwo, Effected, ScriptOutput, SecureHistory}
-use Rattle.mms.specs.ScriptLaws.{runs-calls}
-use Rattle.mms.specs.TextCallLaws.{read-length, read-names, read-only, read-refuses, read-text, read-then-write, write-length, write-refuses}
-use Rattle.mms.specs.TextCallLaws.{write-text, write-then-read}
-use Rattle.model.specs.Basics.Cases.{cases, true-or-false}
-use Rattle.model.specs.Basics.TestLaws.{is-false, is-true}
+use Rattle.mms.specs.Demands.{DemandTwo}
+use Rattle.mms.specs.HistoryLaws.{calls-fixed, calls-history, calls-obey, calls-released, calls-sound, step-effect, step-released}
+use Rattle.mms.specs.HistoryLaws.{step-transform}
+use Rattle.mms.specs.ScriptOutputLaws.{script-calls}
+use Rattle.mms.specs.TextCallLaws.{others-refused, read-length, read-names, read-only, read-refuses, read-text, read-written}
+use Rattle.mms.specs.TextCallLaws.{words-of-text, write-length, write-refuses, write-text, written-read}
 use Rattle.model.specs.Request.Applies.{Lowest}
-use Rattle.model.specs.Request.AppliesLaws.{found-names, leads-operand}
-use Rattle.model.specs.Request.Step.{afterOf, answerOf, sized}
-use Rattle.model.specs.Request.Words.{requestOf, requestWords}
-use Rattle.model.specs.Script.Reports.{Report, output, unread}
-use Rattle.model.specs.Script.Runs.{Answered, Outputs, Runs, cut, requests, whole}
+use Rattle.model.specs.Request.AppliesLaws.{leads-operand, operand-leads}
+use Rattle.model.specs.Request.Step.{answerOf}
+use Rattle.model.specs.Request.Words.{requestOf}
 use Rattle.model.specs.State.Check.{check}
-use Rattle.model.specs.Tables.Layout.{tablesOf, wordCount}
-use Rattle.model.specs.Tables.Words.{Tables}
-use Rattle.model.specs.Text.Wording.{badLine, lines, readSeven}
-use Rattle.model.specs.Text.WordingLaws.{text-there}
-use Rattle.model.specs.Theorem.Beyond.{OnlyReleased, ReleasedStays, SameDevices, SameUsers}
-use Rattle.model.specs.Theorem.BeyondLaws.{released-joined, released-now, words-devices-stay, words-only-released, words-released-stay}
-use Rattle.model.specs.Theorem.BeyondLaws.{words-users-stay}
-use Rattle.model.specs.Theorem.Definitions.{Obeys}
-use Rattle.model.specs.Theorem.Outcomes.{words-outcome}
-use Rattle.model.specs.Theorem.Sequence.{Steps}
-use Rattle.model.specs.Theorem.SequenceSecure.{checked-system, sequence-good, sequence-history, sequence-obeys, sequence-secure}
+use Rattle.model.specs.Tables.Layout.{tablesOf}
 use Rattle.model.specs.Theorem.Stated.{lowest-unique, words-stated}
-use Rattle.model.specs.Theorem.Steps.{afterOf-length, sized-agrees, unsized}
-use Rattle.model.specs.Request.Refusals as refusal
-
--- ---- one step
-
--- what is accepted is of 2,304 words
-accepted-size : (t q : List ℕ) → answerOf t q ≡ refusal.accepted → length t ≡ wordCount
-accepted-size t q e = cases (true-or-false (sized t q)) (λ z. sized-agrees t q .to (is-true (sized t q) z) .0)
-    (λ z. absurd (omega (arith, unsized t q (is-false (sized t q) z) .0)))
-
-module _ {t q : List ℕ} {a : ℕ} {r : List ℕ} (x : StepCall t q a r) where
-  -- what holds of the model's step holds of what the call leaves
-  left-has : (P : List ℕ → Type 0) → P (afterOf t q) → P r
-  left-has P p = subst P (sym (step-left x)) p
-
-  step-released : Passes t → OnlyReleased (tablesOf t) (requestOf q) (tablesOf r)
-  step-released p = left-has (λ (l : List ℕ). OnlyReleased (tablesOf t) (requestOf q) (tablesOf l)) (words-only-released t q (passes-check t p))
-
-  step-effect : noIn a ≡ refusal.accepted → Effected t q r
-  step-effect z =
-      let e : answerOf t q ≡ refusal.accepted = sym (step-no x) ∙ z in
-      let f = words-outcome t q e in
-      let n : length r ≡ length t = ap length (step-left x) ∙ afterOf-length t q in
-      let w = accepted-size t q e in record {
-        operation = f .0;
-        named = found-names (requestOf q) (f .0) (f .1);
-        size = n;
-        outcome = f .2 r (n ∙ w) .1 (step-left x);
-        only = λ s h p. f .2 s (h ∙ w) .0 p ∙ sym (step-left x);
-      }
-
--- ---- many
-
--- What holds of every step from words that pass, goes on from step to step and holds where nothing happens, holds over all steps.
-over-steps : (P : Tables → Tables → Type 0) → ((t : List ℕ) → check t ≡ refusal.accepted → P (tablesOf t) (tablesOf t))
-    → ((d e f : Tables) → P d e → P e f → P d f)
-    → ((t q : List ℕ) → check t ≡ refusal.accepted → P (tablesOf t) (tablesOf (afterOf t q)))
-    → (tables requests : ℕ → List ℕ) (answers : ℕ → ℕ) (m : ℕ) → Steps m tables requests answers → check (tables 0) ≡ refusal.accepted
-    → P (tablesOf (tables 0)) (tablesOf (tables m))
-over-steps P still join step tables requests answers zero s e = still (tables 0) e
-over-steps P still join step tables requests answers (suc m) s e =
-    let before : Steps m tables requests answers = record { answered = λ i h. s .answered i (omega arith); left = λ i h. s .left i (omega arith) } in
-    let now = step (tables m) (requests m) (sequence-good tables requests answers m before e m (omega arith)) in
-    join (tablesOf (tables 0)) (tablesOf (tables m)) (tablesOf (tables (suc m))) (over-steps P still join step tables requests answers m before e)
-    (subst (λ (l : List ℕ). P (tablesOf (tables m)) (tablesOf l)) (sym (s .left m (omega arith))) now)
-
-module _ (m : ℕ) (tables requests : ℕ → List ℕ) (answers : ℕ → ℕ) (c : StepCalls m tables requests answers) where
-  steps : Steps m tables requests (λ i. noIn (answers i))
-  steps = step-sequence m tables requests answers c
-
-  calls-sound : Passes (tables 0) → (i : ℕ) → i ≤ m → Passes (tables i) × Sound (tables i)
-  calls-sound p i h =
-      let e = sequence-good tables requests (λ i. noIn (answers i)) m steps (passes-check (tables 0) p) i h in
-      (check-passes (tables i) e, check-sound (tables i) e)
-
-  calls-obey : (i : ℕ) → i < m → Obeys (tablesOf (tables i)) (requestOf (requests i)) (tablesOf (tables (suc i)))
-  calls-obey = sequence-obeys tables requests (λ i. noIn (answers i)) m steps
-
-  calls-released : Passes (tables 0) → ReleasedStays (tablesOf (tables 0)) (tablesOf (tables m))
-  calls-released p = over-steps ReleasedStays (λ t e. released-now (tablesOf t) (check-sound t e .wellFormed)) released-joined words-released-stay
-      tables requests (λ i. noIn (answers i)) m steps (passes-check (tables 0) p)
-
-  calls-fixed : Passes (tables 0) → SameUsers (tablesOf (tables 0)) (tablesOf (tables m)) × SameDevices (tablesOf (tables 0)) (tablesOf (tables m))
-  calls-fixed p = (
-    over-steps SameUsers (λ t e u. refl) (λ d e f a b u. b u ∙ a u) words-users-stay tables requests (λ i. noIn (answers i)) m steps
-        (passes-check (tables 0) p),
-    over-steps SameDevices (λ t e x. Iff·rfl) (λ d e f a b x. Iff·trans (b x) (a x)) words-devices-stay tables requests (λ i. noIn (answers i)) m steps
-        (passes-check (tables 0) p),
-  )
-
-module _ (tables requests : ℕ → List ℕ) (answers : ℕ → ℕ) (c : (m : ℕ) → StepCalls m tables requests answers) where
-  calls-history : Passes (tables 0) → ((i : ℕ) → length (requests i) ≡ requestWords) → SecureHistory tables requests
-  calls-history p h =
-      let e = passes-check (tables 0) p in
-      let s : (m : ℕ) → Steps m tables requests (λ i. noIn (answers i)) = λ m. step-sequence m tables requests answers (c m) in record {
-        history = sequence-history tables requests (λ i. noIn (answers i)) s (check-sound (tables 0) e .size) h;
-        secure = sequence-secure tables requests (λ i. noIn (answers i)) s e;
-        system = checked-system (tables 0) e;
-      }
-
--- ---- a script
-
--- where the seven lines cannot be read no request stands
-stuck-none : (y : List ℕ) (k : ℕ) → readSeven y ≡ badLine k → NoRequest y
-stuck-none y k e m x h z =
-    let r : readSeven y ≡ lines m x = ap readSeven z ∙ text-there m x h in
-    let q : _≡_ {A = ℕ} 0 1 = cc in
-    omega arith
-
-module _ {t s o : List ℕ} where
-  -- the reports of what was read, and then perhaps 18
-  script-of : (rs bs : List Report) → o ≡ output rs → (t′ s′ : List ℕ) → Runs t s bs t′ s′
-      → ((s′ ≡ []) × (rs ≡ bs)) ⊎ (NoRequest s′ × (s′ ≢ []) × (rs ≡ bs ++ (unread ∷ []))) → ScriptOutput t s o
-  script-of rs bs w t′ s′ x l =
-      let k = runs-calls x in record {
-        reports = rs;
-        written = w;
-        before = bs;
-        left = t′;
-        rest = s′;
-        calls = k;
-        last = l;
-        sound = λ p i h.
-            calls-sound (length bs) (k .tables) (λ i. getD (requests (k .wordings)) i []) (k .answers) (k .calls) (subst Passes (sym (k .starts)) p) i h .1;
-        obeys = calls-obey (length bs) (k .tables) (λ i. getD (requests (k .wordings)) i []) (k .answers) (k .calls);
-      }
-
-  script-calls : Outputs t s o → ScriptOutput t s o
-  script-calls x = go (x .answered) (x .written)
-    where
-      go : {rs : List Report} → Answered t s rs → o ≡ output rs → ScriptOutput t s o
-      go (whole {t′ = t′} {rs = rs} r) w = script-of rs rs w t′ [] r (inl (refl, refl))
-      go (cut {t′ = t′} {x = y} {b = b} {k = k} {rs = rs} r e) w =
-          script-of (rs ++ (unread ∷ [])) rs w t′ (b ∷ y) r (inr (stuck-none (b ∷ y) k e, (λ z. let q = ap length z in omega arith), refl))
-
--- ---- all of it
 
 -- where P holds of the lowest number n, a call's answer that is n is that number and no other
-exactly : {P : ℕ → Type 0} (a n : ℕ) → noIn a ≡ n → Lowest P n → (m : ℕ) → (noIn a ≡ m) ↔ Lowest P m
-exactly {P} a n e l m = (λ z. subst (Lowest P) (sym e ∙ z) l, λ z. e ∙ lowest-unique l z)
+lowest-only : {P : ℕ → Type 0} (a n : ℕ) → noIn a ≡ n → Lowest P n → (m : ℕ) → (noIn a ≡ m) ↔ Lowest P m
+lowest-only {P} a n e l m = (λ z. subst (Lowest P) (sym e ∙ z) l, λ z. e ∙ lowest-unique l z)
 
 pub demandTwo : DemandTwo
 demandTwo = record {
-  checkLowest = λ t a x. exactly a (check t) (check-no t a x) (check-lowest t);
+  checkLowest = λ t a x. lowest-only a (check t) (check-no t a x) (check-lowest t);
   checkSound = λ t a x. (λ e. check-sound t (sym (check-no t a x) ∙ e), λ s. check-no t a x ∙ sound-check t s);
-  stepLowest = λ {t} {q} {a} x. exactly a (answerOf t q) (step-no x) (words-stated t q (answerOf t q) .0 refl);
+  stepLowest = λ {t} {q} {a} x. lowest-only a (answerOf t q) (step-no x) (words-stated t q (answerOf t q) .0 refl);
+  operandsFound = λ t q. operand-leads (tablesOf t) (requestOf q);
   operandsLed = λ t q. leads-operand (tablesOf t) (requestOf q);
   stepEffect = step-effect;
+  stepTransform = step-transform;
   callsSound = calls-sound;
   callsObey = calls-obey;
   callsHistory = calls-history;
@@ -170,12 +41,14 @@ demandTwo = record {
   scriptCalls = script-calls;
   readLength = read-length;
   writeLength = write-length;
-  readText = read-text;
-  readOnly = read-only;
+  textRead = read-text;
+  onlyTextRead = read-only;
+  othersRefused = others-refused;
   readRefuses = read-refuses;
   readNames = read-names;
-  writeText = write-text;
+  textWritten = write-text;
+  wordsOfText = words-of-text;
   writeRefuses = write-refuses;
-  readThenWrite = read-then-write;
-  writeThenRead = write-then-read;
+  readThenWrite = read-written;
+  writeThenRead = written-read;
 }

@@ -12,14 +12,15 @@ use Rattle.model.specs.List.Admitted.{Admitted}
 use Rattle.model.specs.List.Listing.{entries, entryWords, showing}
 use Rattle.model.specs.List.Order.{Sorted}
 use Rattle.model.specs.Request.After.{after}
-use Rattle.model.specs.Request.Applies.{AppliesTo, Lowest, Names, referenceOf}
+use Rattle.model.specs.Request.Applies.{AppliesTo, Lowest, referenceOf}
 use Rattle.model.specs.Request.Asked.{asked, basisOf, operand}
+use Rattle.model.specs.Request.Form.{Names}
 use Rattle.model.specs.Request.Operations.{Op}
 use Rattle.model.specs.Request.Reference.{Leads}
 use Rattle.model.specs.Request.Words.{nameCount, names, requestOf, requestWords}
 use Rattle.model.specs.Script.Reports.{Report, output, unread}
 use Rattle.model.specs.Script.Runs.{Outputs, requests}
-use Rattle.model.specs.Tables.Layout.{tablesOf}
+use Rattle.model.specs.Tables.Layout.{tablesOf, wordCount}
 use Rattle.model.specs.Tables.Words.{firstNoticed}
 use Rattle.model.specs.Text.Broken.{FirstBad, sorts}
 use Rattle.model.specs.Text.Given.{Small}
@@ -34,7 +35,7 @@ use Rattle.model.specs.Theorem.Statements.{SameNotice}
 use Rattle.model.specs.Request.Refusals as refusal
 
 -- Rules 14.1 and 14.2: what a call promises can be met, and by one answer and one thing left only. That the code ends and meets it, the toolchain proves.
-pub record Settled (Call : ℕ → List ℕ → Type 0) : Type 0 where
+pub record OneAnswer (Call : ℕ → List ℕ → Type 0) : Type 0 where
   pub ends : (a : ℕ) × (r : List ℕ) × Call a r
   pub once : (a b : ℕ) (r s : List ℕ) → Call a r → Call b s → (a ≡ b) × (r ≡ s)
 
@@ -42,10 +43,10 @@ pub record Settled (Call : ℕ → List ℕ → Type 0) : Type 0 where
 pub record DemandOne : Type 0 where
   -- Every call, lent any words or bytes, has one answer, and leaves one thing in what it may write; what it only reads, its signature keeps.
   pub checkSettled : (t : List ℕ) → (a : ℕ) × CheckCall t a × ((b : ℕ) → CheckCall t b → b ≡ a)
-  pub stepSettled : (t q : List ℕ) → Settled (StepCall t q)
-  pub listSettled : (t : List ℕ) (u : ℕ) (room : List ℕ) → Settled (ListCall t u room)
-  pub readSettled : (s w : List ℕ) → Settled (ReadCall s w)
-  pub writeSettled : (w room : List ℕ) → Settled (WriteCall w room)
+  pub stepSettled : (t q : List ℕ) → OneAnswer (StepCall t q)
+  pub listSettled : (t : List ℕ) (u : ℕ) (room : List ℕ) → OneAnswer (ListCall t u room)
+  pub readSettled : (s w : List ℕ) → OneAnswer (ReadCall s w)
+  pub writeSettled : (w room : List ℕ) → OneAnswer (WriteCall w room)
   -- The check answers 0 to 3. No number goes with its answer.
   pub checkAnswers : (t : List ℕ) (a : ℕ) → CheckCall t a → (noIn a ≤ refusal.notSecure) × (numberIn a ≡ 0)
   -- The step answers 0 to 16. No number goes with its answer.
@@ -54,15 +55,15 @@ pub record DemandOne : Type 0 where
   pub listAnswers : {t room r : List ℕ} {u a : ℕ} → ListCall t u room a r
       → List·Memᴰ (noIn a) (refusal.accepted ∷ refusal.badLength ∷ refusal.notWellFormed ∷ refusal.notSecure ∷ refusal.unknownRequester
       ∷ refusal.notLoggedOn ∷ refusal.tooShort ∷ [])
-  pub listNumber : {t room r : List ℕ} {u a : ℕ} → ListCall t u room a r → noIn a ≢ refusal.accepted → noIn a ≢ refusal.tooShort → numberIn a ≡ 0
+  pub numberOfList : {t room r : List ℕ} {u a : ℕ} → ListCall t u room a r → noIn a ≢ refusal.accepted → noIn a ≢ refusal.tooShort → numberIn a ≡ 0
   -- The reader answers 0, 1 or 18. A number goes with 18 only, and is 1 to 8.
   pub readAnswers : {s w r : List ℕ} {a : ℕ} → ReadCall s w a r → List·Memᴰ (noIn a) (refusal.accepted ∷ refusal.badLength ∷ refusal.notARequest ∷ [])
-  pub readNumber : {s w r : List ℕ} {a : ℕ} → ReadCall s w a r → noIn a ≢ refusal.notARequest → numberIn a ≡ 0
-  pub readLine : {s w r : List ℕ} {a : ℕ} → ReadCall s w a r → noIn a ≡ refusal.notARequest → (1 ≤ numberIn a) × (numberIn a ≤ suc lineTotal)
+  pub numberOfRead : {s w r : List ℕ} {a : ℕ} → ReadCall s w a r → noIn a ≢ refusal.notARequest → numberIn a ≡ 0
+  pub lineOfRead : {s w r : List ℕ} {a : ℕ} → ReadCall s w a r → noIn a ≡ refusal.notARequest → (1 ≤ numberIn a) × (numberIn a ≤ suc lineTotal)
   -- The writer answers 0, 1, 5 or 17. A number goes with 0 and 17 only.
   pub writeAnswers : {w room r : List ℕ} {a : ℕ} → WriteCall w room a r
       → List·Memᴰ (noIn a) (refusal.accepted ∷ refusal.badLength ∷ refusal.badRequest ∷ refusal.tooShort ∷ [])
-  pub writeNumber : {w room r : List ℕ} {a : ℕ} → WriteCall w room a r → noIn a ≢ refusal.accepted → noIn a ≢ refusal.tooShort → numberIn a ≡ 0
+  pub numberOfWrite : {w room r : List ℕ} {a : ℕ} → WriteCall w room a r → noIn a ≢ refusal.accepted → noIn a ≢ refusal.tooShort → numberIn a ≡ 0
   -- After a refusal 1 to 4 of the step the tables are as they were;
   pub stepUnchanged : {t q : List ℕ} {a : ℕ} {r : List ℕ} → StepCall t q a r → refusal.badLength ≤ noIn a → noIn a < firstNoticed → r ≡ t
   -- after any refusal of the list, 6 and 17 among them, the room is;
@@ -112,7 +113,9 @@ pub record ScriptOutput (t s o : List ℕ) : Type 0 where
   pub last : ((rest ≡ []) × (reports ≡ before)) ⊎ (NoRequest rest × (rest ≢ []) × (reports ≡ before ++ (unread ∷ [])))
   -- from tables that the check passes the tables behind each report are well-formed and secure,
   pub sound : Passes t → (i : ℕ) → i ≤ length before → Sound (calls .tables i)
-  -- and whatever the tables were, each pair of them obeys Definitions 5 to 11
+  -- and they are those of a secure history
+  pub history : Passes t → (tables requests : ℕ → List ℕ) × SecureHistory tables requests × ((i : ℕ) → i ≤ length before → tables i ≡ calls .tables i)
+  -- whatever the tables were, each pair of them obeys Definitions 5 to 11
   pub obeys : (i : ℕ) → i < length before
       → Obeys (tablesOf (calls .tables i)) (requestOf (getD (requests (calls .wordings)) i [])) (tablesOf (calls .tables (suc i)))
 
@@ -131,11 +134,17 @@ pub record DemandTwo : Type 0 where
   pub checkSound : (t : List ℕ) (a : ℕ) → CheckCall t a → (noIn a ≡ refusal.accepted) ↔ Sound t
   -- The step's answer is the lowest number whose refusal applies, and 0 where none does.
   pub stepLowest : {t q : List ℕ} {a : ℕ} {r : List ℕ} → StepCall t q a r → (n : ℕ) → (noIn a ≡ n) ↔ Lowest (AppliesTo t q) n
-  -- What a request acts on, in this page and in what it cites, is what its references lead to, name by name, and by that way.
+  -- What a request acts on, in this page and in what it cites, is what its references lead to, name by name, and by that way,
+  pub operandsFound : (t q : List ℕ) (k : ℕ) → operand (asked (tablesOf t) (requestOf q)) k ≢ 0
+      → Leads (tablesOf t) (names (referenceOf (requestOf q) k)) (basisOf (asked (tablesOf t) (requestOf q)) k) (operand (asked (tablesOf t) (requestOf q)) k)
+  -- and nothing else.
   pub operandsLed : (t q : List ℕ) (k x : ℕ) (way : List ℕ) → Leads (tablesOf t) (names (referenceOf (requestOf q) k)) way x
       → (operand (asked (tablesOf t) (requestOf q)) k ≡ x) × (basisOf (asked (tablesOf t) (requestOf q)) k ≡ way)
   -- With 0 the tables are what the operation makes of them, and nothing else.
   pub stepEffect : {t q : List ℕ} {a : ℕ} {r : List ℕ} → StepCall t q a r → noIn a ≡ refusal.accepted → Effected t q r
+  -- What the step makes of tables and a request of the right lengths is the transform that the Definitions are said of.
+  pub stepTransform : {t q : List ℕ} {a : ℕ} {r : List ℕ} → StepCall t q a r → length t ≡ wordCount → length q ≡ requestWords
+      → tablesOf r ≡ after (tablesOf t) (requestOf q)
   -- From tables that the check passes, the tables after each of any calls of the step are well-formed and secure,
   pub callsSound : (m : ℕ) (tables requests : ℕ → List ℕ) (answers : ℕ → ℕ) → StepCalls m tables requests answers → Passes (tables 0)
       → (i : ℕ) → i ≤ m → Passes (tables i) × Sound (tables i)
@@ -159,18 +168,23 @@ pub record DemandTwo : Type 0 where
   pub readLength : {s v w : List ℕ} {a : ℕ} → ReadCall s v a w → (noIn a ≡ refusal.badLength) ↔ (length v ≢ requestWords)
   pub writeLength : {w room r : List ℕ} {b : ℕ} → WriteCall w room b r → (noIn b ≡ refusal.badLength) ↔ (length w ≢ requestWords)
   -- The text of a request is read, and gives the request's words;
-  pub readText : (m : Wording) → Written m → {v w : List ℕ} {a : ℕ} → length v ≡ requestWords → ReadCall (textOf m) v a w
+  pub textRead : (m : Wording) → Written m → {v w : List ℕ} {a : ℕ} → length v ≡ requestWords → ReadCall (textOf m) v a w
       → (noIn a ≡ refusal.accepted) × (w ≡ sixteen m)
   -- whatever is read is the text of a request, and gives that request's words;
-  pub readOnly : {s v w : List ℕ} {a : ℕ} → ReadCall s v a w → noIn a ≡ refusal.accepted
+  pub onlyTextRead : {s v w : List ℕ} {a : ℕ} → ReadCall s v a w → noIn a ≡ refusal.accepted
       → (m : Wording) × Written m × (s ≡ textOf m) × (w ≡ sixteen m)
-  -- and any other text is answered 18, with the first line that is bad or missing.
+  -- and any other text is answered 18,
+  pub othersRefused : {s v w : List ℕ} {a : ℕ} → length v ≡ requestWords → ReadCall s v a w
+      → (noIn a ≡ refusal.notARequest) ↔ ((m : Wording) → Written m → s ≡ textOf m → ⊥)
+  -- with the first line that is bad or missing.
   pub readRefuses : {s v w : List ℕ} {a : ℕ} → ReadCall s v a w → noIn a ≡ refusal.notARequest → FirstBad sorts s (numberIn a)
   pub readNames : {s v w : List ℕ} {a k : ℕ} → FirstBad sorts s k → length v ≡ requestWords → ReadCall s v a w
       → (noIn a ≡ refusal.notARequest) × (numberIn a ≡ k)
   -- A request's words are written as its text, where that fits; where it does not, the answer is 17. The number is that of its bytes either way.
-  pub writeText : (m : Wording) → Written m → {room r : List ℕ} {b : ℕ} → WriteCall (sixteen m) room b r → TextWritten (textOf m) room b r
-  -- Sixteen words are answered 5 exactly where they have no text.
+  pub textWritten : (m : Wording) → Written m → {room r : List ℕ} {b : ℕ} → WriteCall (sixteen m) room b r → TextWritten (textOf m) room b r
+  -- The sixteen words of 32 bits that have a text are those of some request;
+  pub wordsOfText : (w : List ℕ) → length w ≡ requestWords → Small w → Textual (requestOf w) → (m : Wording) × Written m × (w ≡ sixteen m)
+  -- and any other sixteen are answered 5.
   pub writeRefuses : {w room r : List ℕ} {b : ℕ} → length w ≡ requestWords → WriteCall w room b r
       → (noIn b ≡ refusal.badRequest) ↔ (Textual (requestOf w) → ⊥)
   -- A text that is read is written again, byte for byte, from the words that were read, in any room that it fits.
@@ -184,7 +198,7 @@ pub record DemandTwo : Type 0 where
 pub record Disclosed (t : List ℕ) (u : ℕ) (room : List ℕ) (a : ℕ) (r : List ℕ) : Type 0 where
   pub list : List (List ℕ)
   -- Each entry is a reference of one to four names,
-  pub named : (x : List ℕ) → List·Memᴰ x list → (1 ≤ length x) × (length x ≤ nameCount)
+  pub lengths : (x : List ℕ) → List·Memᴰ x list → (1 ≤ length x) × (length x ≤ nameCount)
   -- and a reference of one to four names is an entry exactly where the step, asked by u to show it with value and label, accepts, or refuses for want
   -- of room only.
   pub exactly : (x : List ℕ) → 1 ≤ length x → length x ≤ nameCount → {b : ℕ} {s : List ℕ} → StepCall t (showing u x) b s

@@ -11,5 +11,7 @@ pub mod DemandOneLaws
 pub mod ScriptLaws
 pub mod CheckLaws
 pub mod TextCallLaws
+pub mod HistoryLaws
+pub mod ScriptOutputLaws
 pub mod DemandTwoLaws
 pub mod DemandThreeLaws

@@ -56,7 +56,7 @@ report-tells t q = go (leb refusal.badLength n && leb n refusal.unknownRequester
     }
 
 -- as many requests as wordings
-requests-length : (ms : List Wording) → length (requests ms) ≡ length ms
+pub requests-length : (ms : List Wording) → length (requests ms) ≡ length ms
 requests-length [] = refl
 requests-length (m ∷ ms) = ap suc (requests-length ms)
 
@@ -101,6 +101,7 @@ runs-calls {t} {s} {t′} {s′} {rs} x =
     let l : length qs ≡ length rs = requests-length (w .wordings) ∙ sym (w .many) in
     record {
       wordings = w .wordings;
+      written = w .written;
       text = w .text;
       many = w .many;
       tables = stands t qs;

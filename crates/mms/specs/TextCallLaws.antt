@@ -1,12 +1,13 @@
 -- Demand 2, the text: what is read and written, and both ways.
 use mathlib.Core.Bool.{Bool, false, true}
-use mathlib.Core.List.{List, [], _++_}
-use mathlib.Core.Logic.{_↔_, _≢_}
+use mathlib.Core.List.{List, List·Memᴰ, List·Memᴰ·cases-cons, List·Memᴰ·not-nil, [], _++_}
+use mathlib.Core.Logic.{_↔_, _≢_, ⊎-elim}
 use mathlib.Core.Path.{_≡_, refl, subst, sym}
 use Prim.Native.Nat.{_<_, _≤_, ℕ}
 use native.Mathlib.Omega.{arith}
 use lib.Dec.{T, eqb, leb}
 use lib.ListN.{drop, length, take}
+use Rattle.mms.specs.AnswerLaws.{read-answers, readAnswers}
 use Rattle.mms.specs.CallLaws.{read-halves, write-halves}
 use Rattle.mms.specs.Calls.{ReadCall, WriteCall, noIn, numberIn}
 use Rattle.mms.specs.Demands.{TextWritten}
@@ -19,7 +20,7 @@ use Rattle.model.specs.Text.Broken.{FirstBad, sorts}
 use Rattle.model.specs.Text.BrokenLaws.{broken-reads, reads-broken}
 use Rattle.model.specs.Text.CallLaws.{gives-reads, gives-short, gives-writes, reads-gives}
 use Rattle.model.specs.Text.Given.{Gives, Small}
-use Rattle.model.specs.Text.GivenLaws.{gives-written}
+use Rattle.model.specs.Text.GivenLaws.{gives-written, hasText-agrees}
 use Rattle.model.specs.Text.Reading.{Reads, answerIn, readAnswer}
 use Rattle.model.specs.Text.Textual.{Textual, Written}
 use Rattle.model.specs.Text.Wording.{Lines, Wording, badLine, lines, readText, sixteen, textOf}
@@ -82,7 +83,30 @@ pub read-names : {s v w : List ℕ} {a k : ℕ} → FirstBad sorts s k → lengt
     → (noIn a ≡ refusal.notARequest) × (numberIn a ≡ k)
 read-names f h x = let z = broken-reads f h (read-halves x) in (z .0, z .1)
 
+pub others-refused : {s v w : List ℕ} {a : ℕ} → length v ≡ requestWords → ReadCall s v a w
+    → (noIn a ≡ refusal.notARequest) ↔ ((m : Wording) → Written m → s ≡ textOf m → ⊥)
+others-refused {s} {v} {w} {a} h x = (λ e m k z. both e (reading m k z), λ f. third f (read-answers (read-halves x)))
+  where
+    -- a text of a request is read
+    reading : (m : Wording) → Written m → s ≡ textOf m → noIn a ≡ refusal.accepted
+    reading m k z = read-text m k h (subst (λ (y : List ℕ). ReadCall y v a w) z x) .0
+
+    both : noIn a ≡ refusal.notARequest → noIn a ≡ refusal.accepted → ⊥
+    both e f = omega arith
+
+    -- 0, 1 or 18
+    third : ((m : Wording) → Written m → s ≡ textOf m → ⊥) → List·Memᴰ (noIn a) readAnswers → noIn a ≡ refusal.notARequest
+    third f i = ⊎-elim (λ e. let z = read-only x e in absurd (f (z .0) (z .1) (z .2)))
+        (λ j. ⊎-elim (λ e. absurd (read-length x .0 e h)) (λ k. ⊎-elim (λ e. e) (λ l. absurd (List·Memᴰ·not-nil l)) (List·Memᴰ·cases-cons k))
+        (List·Memᴰ·cases-cons j)) (List·Memᴰ·cases-cons i)
+
 -- ---- what is written
+
+-- words of 32 bits that have a text are those of their wording
+pub words-of-text : (w : List ℕ) → length w ≡ requestWords → Small w → Textual (requestOf w) → (m : Wording) × Written m × (w ≡ sixteen m)
+words-of-text w h s t =
+    let g = hasText-agrees w h s .to (is-true (hasText (requestOf w)) (says-hasText (requestOf w) t)) .gives in
+    (g .wording, gives-written g .0, sym (g .words))
 
 -- words that a text gives are written as that text
 given-written : {s w room r : List ℕ} {b : ℕ} → Gives s w → WriteCall w room b r → TextWritten s room b r
@@ -112,11 +136,11 @@ write-refuses {w} {room} {r} {b} h x =
 
 -- ---- both ways
 
-pub read-then-write : {s v w room r : List ℕ} {a b : ℕ} → ReadCall s v a w → noIn a ≡ refusal.accepted → WriteCall w room b r → TextWritten s room b r
-read-then-write x e y = given-written (accepted-gives x e) y
+pub read-written : {s v w room r : List ℕ} {a b : ℕ} → ReadCall s v a w → noIn a ≡ refusal.accepted → WriteCall w room b r → TextWritten s room b r
+read-written x e y = given-written (accepted-gives x e) y
 
-pub write-then-read : {w room r v u : List ℕ} {a b : ℕ} → Small w → WriteCall w room b r → noIn b ≡ refusal.accepted → length v ≡ requestWords
+pub written-read : {w room r v u : List ℕ} {a b : ℕ} → Small w → WriteCall w room b r → noIn b ≡ refusal.accepted → length v ≡ requestWords
     → ReadCall (take (numberIn b) r) v a u → (noIn a ≡ refusal.accepted) × (u ≡ w)
-write-then-read {w} {room} {r} {b = b} s y e h x =
+written-read {w} {room} {r} {b = b} s y e h x =
     let z = write-read s (subst (λ (n : ℕ). Writes w room n (numberIn b) r) e (write-halves y)) h (read-halves x) in
     (z .0, z .2)

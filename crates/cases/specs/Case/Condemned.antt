@@ -3,7 +3,6 @@
 use mathlib.Core.Bool.{not}
 use mathlib.Core.List.{[], _∷_}
 use mathlib.Core.Logic.{_≢_, inl, inr}
-use mathlib.Core.Option.{some}
 use mathlib.Core.Path.{_≡_, refl}
 use Prim.Native.Nat.{ℕ}
 use native.Mathlib.Omega.{arith}
@@ -12,7 +11,7 @@ use Rattle.model.specs.Basics.Agree.{agrees-eq}
 use Rattle.cases.specs.Case.Cases.{ask, at, highest}
 use Rattle.cases.specs.Case.Opened.{opened}
 use Rattle.cases.specs.Case.S1.{s1, s1Sheet}
-use Rattle.model.specs.Request.Operations.{toEdit, toRelease}
+use Rattle.model.specs.Request.Operations.{numberOf, toEdit, toRelease}
 use Rattle.model.specs.Tables.Edits.{_and_, onEntity, onUser, userWord, word}
 use Rattle.model.specs.Tables.Words.{Tables, absentKind, authorised, clearance, current, device, draftType, held, level, maximum}
 use Rattle.model.specs.Tables.Words.{releasedType, releaser, spare, type}
@@ -127,8 +126,7 @@ s1TwoDrafts = onEntity 7 (word type draftType) (s1With 5)
 pub release-by-edit-condemned : ReleaseSecure s1 (ask 2 4 (6 ∷ []) [] 0 0 0) (releasedBy 2 6 s1) → ⊥
 unfolding opened s1 s1Sheet
 release-by-edit-condemned h =
-    let p : some toEdit ≡ some toRelease = h .becomes 6 (kept 2 tt) (differ 1 2 tt) refl .asks .named in
-    let z : _≡_ {A = ℕ} 0 1 = cc in omega arith
+    differ (numberOf toEdit) (numberOf toRelease) tt (h .becomes 6 (kept 2 tt) (differ 1 2 tt) refl .asks .named)
 
 -- Rule 9.11: the desk released draft 6 for user 1, who has the other two roles now and not the releaser's.
 pub other-roles-release-condemned : ReleaseSecure (s1With 3) (ask 1 19 (6 ∷ []) [] 0 0 0) (releasedBy 1 6 (s1With 3)) → ⊥

@@ -3,7 +3,7 @@
 use mathlib.Core.Bool.{not}
 use mathlib.Core.List.{List, List·Memᴰ·head, List·Memᴰ·tail, [], _∷_}
 use mathlib.Core.Logic.{_≢_, inl, inr}
-use mathlib.Core.Option.{none, some}
+use mathlib.Core.Option.{some}
 use mathlib.Core.Path.{_≡_, refl, subst}
 use Prim.Native.Nat.{_<_, suc, ℕ}
 use native.Mathlib.Omega.{arith}
@@ -18,6 +18,7 @@ use Rattle.model.specs.Request.Form.{taken}
 use Rattle.model.specs.Request.Asked.{asked, basisOf, operand}
 use Rattle.model.specs.Request.FitLaws.{fits-agrees}
 use Rattle.model.specs.Request.Ladder.{fits, permits}
+use Rattle.model.specs.Request.OperationLaws.{names-found, number-range}
 use Rattle.model.specs.Request.Operations.{Op, numberOf, opOf, toClear, toCopy, toEdit, toLogin, toShow}
 use Rattle.model.specs.Request.TestLaws.{permits-agrees}
 use Rattle.model.specs.Request.Words.{Request}
@@ -31,7 +32,7 @@ loud {d} {d′} x f h t = differ (d′ .entity x f) (d .entity x f) t (h .entiti
 
 -- The operation of a request is the one that its number says.
 only : {o p : Op} {d : Tables} {q : Request} → opOf (q .operation) ≡ some p → Meant o d q → o ≡ p
-only e m = cc
+only {o} {p} {d} {q} e m = let f = names-found q o (m .named) in cc
 
 -- No triple permits what the test denies.
 denied : (d : Tables) (u o k e : ℕ) → T (not (permits d u o k e)) → Permitted d u o k e → ⊥
@@ -130,9 +131,7 @@ nobody-ccr-condemned (inr z) = nobody-means (z .0) (z .1)
 -- An operation over the last means nothing;
 pub no-operation-condemned : (o : Op) → Meant o s1 (ask 2 (suc operationCount) [] [] 0 0 0) → ⊥
 unfolding opened s1 s1Sheet
-no-operation-condemned o m =
-    let p : none ≡ some o = m .named in
-    let z : _≡_ {A = ℕ} 0 1 = cc in omega arith
+no-operation-condemned o m = omega (arith, m .named, number-range o .1)
 
 -- nor does an edit with a second reference;
 pub unfitting-condemned : (o : Op) → Meant o s1 (ask 2 4 (7 ∷ []) (7 ∷ []) 41 0 0) → ⊥
