@@ -1,4 +1,4 @@
--- The disclosure list. `Order`, `Complete` and `Listing` are what must be believed of this room: they say what the list is. The others
+-- The disclosure list. `Order`, `Complete` and `Listing` say what the list is, and contracts cite them. The others
 -- say what the walk finds and are proved to be it; `Readable` restates the test in the words of the rules.
 pub mod Order
 pub mod OrderLaws
