@@ -129,6 +129,15 @@ def run_sh(block, machine):
     return None
 
 
+def run_antt(block, machine):
+    """A part of a file of definitions, as it stands there."""
+    place = ROOT / block.file
+    if not place.is_file():
+        raise Wrong(f"there is no {block.file}")
+    if block.text not in place.read_text():
+        raise Wrong(f"does not stand in {block.file}")
+
+
 RUNNERS = {
     "requests": run_requests,
     "script": run_script,
@@ -136,4 +145,5 @@ RUNNERS = {
     "rust": run_rust,
     "doctest": run_doctest,
     "sh": run_sh,
+    "antt": run_antt,
 }

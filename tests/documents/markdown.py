@@ -4,11 +4,11 @@ import re
 from pathlib import Path
 
 # What may follow the three backticks, and which of them have their result in the next block.
-KINDS = ("script", "reports", "requests", "sh", "c", "rust", "output", "text")
+KINDS = ("script", "reports", "requests", "sh", "c", "rust", "antt", "output", "text")
 RESULT_OF = {"script": "reports", "sh": "output", "c": "output", "rust": "output"}
 RESULTS = tuple(sorted(set(RESULT_OF.values())))
-# Which of them may name a file: a state file for the first two, the place where a program is saved for the others.
-WITH_FILE = ("script", "requests", "c", "rust")
+# Which of them may name a file: a state file for the first two, the place where a program is saved for the next two, and what is printed for the last.
+WITH_FILE = ("script", "requests", "c", "rust", "antt")
 
 OPENING = re.compile(r"^(\s*)(`{3,}|~{3,})(.*)$")
 QUOTED = re.compile(r"^\s*>\s*(`{3,}|~{3,})")
@@ -162,6 +162,8 @@ def stray(block, last):
 
 def lack_of(block, later):
     """What an example lacks, or nothing. A program that is saved needs no result, but a later command must name its file or its folder."""
+    if block.kind == "antt" and not block.file:
+        return "'antt' without the file that it prints"
     if block.kind not in ("script", "c", "rust"):
         return None
     if block.kind != "script" and block.file:

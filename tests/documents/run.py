@@ -17,6 +17,7 @@ How an example is written in a document. Code is fenced, never indented, and the
   sh                 commands, typed in the repository's root. If the next block is `output`, that is what they write (on standard
                      output). A command that fails is wrong. target/try is the reader's own folder; it is emptied before each document.
                      A path into target/ at the start of a line or behind `| ` is an x86-64 program, and is started with UNDER.
+  antt FILE          a part of FILE, a file of definitions, word for word as it stands there.
   text               a picture or a form. It is not run, so no command and no report may stand in it.
 
 Prose may stand between an example and its result, but no other block. A line `...` in an `output` stands for any lines. Every other word
