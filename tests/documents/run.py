@@ -3,8 +3,9 @@
     python3 -B tests/documents/run.py [FILES]
 
 Without FILES: README.md and docs/*.md, the documentation comments of the crate `mms`, the programs in bindings/examples (as C and as C++)
-and bindings/rust/examples, and then the documents in tests/documents/wrong, each of which must be refused. It prints one line for each
-example, and at the end `N examples, M wrong`. The status is 0 only if M is 0. `tests/documents/run` sets what is needed and calls this.
+and bindings/rust/examples, the table of docs/MODEL.md that says what of the demands must be believed (believed.py), and then the documents
+in tests/documents/wrong, each of which must be refused. It prints one line for each example, and at the end `N examples, M wrong`. The
+status is 0 only if M is 0. `tests/documents/run` sets what is needed and calls this.
 
 How an example is written in a document. Code is fenced, never indented, and the word behind the backticks says what it is:
 
@@ -35,6 +36,7 @@ import shutil
 import sys
 from pathlib import Path
 
+import believed
 import links
 import markdown
 import rustdoc
@@ -165,6 +167,7 @@ def main(names):
                 run_document(name, machine, tally)
         run_programs([name for name in chosen if is_program(name)], machine, tally)
         if not names:
+            tally.tried(believed.PAGE, "believed", believed.compare)
             run_wrong(machine, tally)
     finally:
         machine.close()
