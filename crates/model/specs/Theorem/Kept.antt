@@ -90,7 +90,8 @@ request-good d g q = after-each d q Good settled (λ l h. g) noticed
     settled : answer d q ≡ refusal.accepted → Good (effect d q)
     settled e =
         let a = accepted d q e (g .0) in
-        rw (effect-by d q (a .0) (names-found q (a .0) (a .1 .meant .named))) (effect-good d (g .0) (g .1) (asked d q) (a .1 .meant .known .there) (a .0) (a .1 .allowed))
+        rw (effect-by d q (a .0) (names-found q (a .0) (a .1 .meant .named)))
+        (effect-good d (g .0) (g .1) (asked d q) (a .1 .meant .known .there) (a .0) (a .1 .allowed))
 
     noticed : firstNoticed ≤ answer d q → Good (notice (q .user) (answer d q) (noticedOp q) d)
     noticed l =
