@@ -7,13 +7,12 @@ use native.Mathlib.Nat.{zero-add}
 use native.Mathlib.Omega.{arith}
 use lib.ListN.{drop, length}
 use lib.Seq.{sets, sets-eq}
-use Rattle.disclosure.specs.EntryLaws.{entries-length}
 use Rattle.disclosure.specs.VerdictLaws.{judged-found}
 use Rattle.disclosure.specs.Verdicts.{Judged}
 use Rattle.disclosure.specs.Visited.{Fits, followed}
 use Rattle.model.specs.List.AdmittedLaws.{barred-admitted}
 use Rattle.model.specs.List.Listing.{Lists, barred, entries, entryWords}
-use Rattle.model.specs.List.ListingLaws.{lists-found, lists-refused, lists-short, lists-written}
+use Rattle.model.specs.List.ListingLaws.{entries-length, lists-found, lists-refused, lists-short, lists-written}
 use Rattle.model.specs.List.Ways.{found}
 use Rattle.model.specs.Request.Refusals as refusal
 use Rattle.model.specs.Tables.Layout.{tablesOf}

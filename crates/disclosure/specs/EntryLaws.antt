@@ -12,6 +12,7 @@ use lib.Seq.{append-snoc, getD-set-other, getD-take, length-take-le, sets, take-
 use borrow.Author.Tests.{ltb-false, ltb-true}
 use Rattle.disclosure.specs.Visited.{Padded, entriesOf}
 use Rattle.model.specs.List.Listing.{entries, entry, entryWords}
+use Rattle.model.specs.List.ListingLaws.{entries-length}
 use Rattle.model.specs.Request.Words.{nameCount}
 
 -- ---- names that are padded with zeros
@@ -93,11 +94,6 @@ entriesOf-under pre x l = ap entries (go l)
     go : (l : List (List ℕ)) → map (λ r. pre ++ r) (map (λ r. x ∷ r) l) ≡ map (λ r. (pre ++ (x ∷ [])) ++ r) l
     go [] = refl
     go (r ∷ l) = ap₂ (λ (a : List ℕ) (b : List (List ℕ)). a ∷ b) (sym (append-snoc pre x r)) (go l)
-
-pub entries-length : (l : List (List ℕ)) → length (entries l) ≡ entryWords * length l
-unfolding entries
-entries-length [] = refl
-entries-length (r ∷ l) = omega (arith, entries-length l)
 
 -- what begins with no name is as it is
 pub entriesOf-whole : (l : List (List ℕ)) → entriesOf [] l ≡ entries l

@@ -17,8 +17,7 @@ use Rattle.model.specs.Request.Words.{requestOf, requestWords}
 use Rattle.model.specs.State.Check.{check, judge, secureTest, wellFormedTest}
 use Rattle.model.specs.Tables.Layout.{tablesOf, wordCount}
 use Rattle.model.specs.Text.BothWays.{read-number-small}
-use Rattle.model.specs.Text.Broken.{FirstBad, Sort, extra, here, later}
-use Rattle.model.specs.Text.BrokenLaws.{reads-broken}
+use Rattle.model.specs.Text.BrokenLaws.{first-some, reads-broken}
 use Rattle.model.specs.Text.Reading.{Reads, answerIn, lineIn, readAnswer, readNumber, wordsAfter, wordsIn}
 use Rattle.model.specs.Text.Unfinished.{lineTotal}
 use Rattle.model.specs.Text.Wording.{Lines, badLine, lines, readText}
@@ -103,12 +102,6 @@ module _ {t room r : List ℕ} {u a n : ℕ} (x : Lists t u room a n r) where
 abbrev pub readAnswers : List ℕ
 readAnswers = refusal.accepted ∷ refusal.badLength ∷ refusal.notARequest ∷ []
 
--- a line that is bad is counted from 1
-bad-from-one : {ks : List Sort} {s : List ℕ} {n : ℕ} → FirstBad ks s n → 1 ≤ n
-bad-from-one (here f) = omega arith
-bad-from-one (later b f) = omega arith
-bad-from-one extra = omega arith
-
 module _ {s w r : List ℕ} {a n : ℕ} (x : Reads s w a n r) where
   pub read-answers : List·Memᴰ a readAnswers
   unfolding readAnswer has
@@ -133,7 +126,7 @@ module _ {s w r : List ℕ} {a n : ℕ} (x : Reads s w a n r) where
   -- and is then a line
   pub read-line : a ≡ refusal.notARequest → (1 ≤ n) × (n ≤ suc lineTotal)
   read-line e = (
-    bad-from-one (reads-broken (subst (λ (k : ℕ). Reads s w k n r) e x) .0),
+    first-some (reads-broken (subst (λ (k : ℕ). Reads s w k n r) e x) .0),
     subst (λ (k : ℕ). k ≤ suc lineTotal) (sym (x .number)) (read-number-small s w),
   )
 

@@ -1,21 +1,27 @@
 -- What the words that C gets say: both halves of each call's answer, and each call as what the model computes.
 use mathlib.Core.List.{List}
+use mathlib.Core.Logic.{_≢_}
 use mathlib.Core.Path.{_≡_, ap, refl}
 use Prim.Native.Nat.{_%_, _*_, _+_, _/_, ℕ}
 use native.Mathlib.Omega.{arith}
 use lib.Dec.{eqb→eq}
+use lib.ListN.{length}
 use Rattle.mms.specs.Calls.{CheckCall, ListCall, Passes, ReadCall, Sound, StepCall, StepCalls, WriteCall, noIn, numberIn}
 use Rattle.mms.specs.Contract.{Listing, Reading, Writing, exported, numbers}
 use Rattle.mms.specs.Unique.{exported-list-parts, exported-read-parts, exported-write-parts}
 use Rattle.mms.specs.declared.Answer.{Answer}
 use Rattle.model.specs.Basics.Agree.{agrees-eq}
+use Rattle.model.specs.Basics.Cases.{cases, true-or-false}
+use Rattle.model.specs.Basics.TestLaws.{is-false, is-true}
 use Rattle.model.specs.List.Listing.{Lists}
-use Rattle.model.specs.Request.Step.{afterOf, answerOf}
+use Rattle.model.specs.Request.Step.{afterOf, answerOf, sized}
 use Rattle.model.specs.State.AgreeSecure.{check-agrees}
 use Rattle.model.specs.State.Check.{check}
 use Rattle.model.specs.Text.Reading.{Reads}
 use Rattle.model.specs.Text.Writing.{Writes}
+use Rattle.model.specs.Tables.Layout.{wordCount}
 use Rattle.model.specs.Theorem.Sequence.{Steps}
+use Rattle.model.specs.Theorem.Steps.{sized-agrees, unsized}
 use Rattle.model.specs.Request.Refusals as refusal
 
 -- The check's word is the model's answer, and nothing goes with it.
@@ -39,6 +45,11 @@ check-sound t e =
 
 pub sound-check : (t : List ℕ) → Sound t → check t ≡ refusal.accepted
 sound-check t s = eqb→eq (check t) refusal.accepted (check-agrees t .from (s .size, (s .wellFormed, s .secure)))
+
+-- A step that does not answer 1 had 2,304 words of tables.
+pub answered-size : (t q : List ℕ) → answerOf t q ≢ refusal.badLength → length t ≡ wordCount
+answered-size t q n = cases (true-or-false (sized t q)) (λ e. sized-agrees t q .to (is-true (sized t q) e) .0)
+    (λ e. absurd (n (unsized t q (is-false (sized t q) e) .0)))
 
 module _ {t q : List ℕ} {a : ℕ} {r : List ℕ} (x : StepCall t q a r) where
   -- The step's word is the model's answer, nothing goes with it, and what it leaves is the model's.

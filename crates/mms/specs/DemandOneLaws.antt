@@ -9,7 +9,7 @@ use lib.Dec.{eqb}
 use lib.ListN.{drop, length}
 use Rattle.mms.specs.AnswerLaws.{check-range, list-answers, list-number, list-unchanged, read-answers, read-line, read-number}
 use Rattle.mms.specs.AnswerLaws.{read-unchanged, write-answers, write-number, write-unchanged}
-use Rattle.mms.specs.CallLaws.{check-no, check-number, list-halves, passes-check, read-halves, step-call, step-left, step-no, step-number}
+use Rattle.mms.specs.CallLaws.{answered-size, check-no, check-number, list-halves, passes-check, read-halves, step-call, step-left, step-no, step-number}
 use Rattle.mms.specs.CallLaws.{step-sequence, write-halves}
 use Rattle.mms.specs.Calls.{ListCall, OnlyNotice, ReadCall, StepCall, WriteCall, noIn, requester}
 use Rattle.mms.specs.Contract.{Exports, Listing, Reading, Writing, checking, exported}
@@ -17,14 +17,13 @@ use Rattle.mms.specs.Demands.{DemandOne, OneAnswer}
 use Rattle.mms.specs.NoticeWordLaws.{quiet-words}
 use Rattle.mms.specs.Unique.{exported-list-unique, exported-read-unique, exported-step-unique, exported-write-unique}
 use Rattle.mms.specs.declared.Answer.{Answer}
-use Rattle.model.specs.Basics.Cases.{cases, lt-or-le, true-or-false}
+use Rattle.model.specs.Basics.Cases.{cases, lt-or-le}
 use Rattle.model.specs.Basics.Choice.{Same, it, other, same}
-use Rattle.model.specs.Basics.TestLaws.{is-false, is-true}
 use Rattle.model.specs.List.Listing.{barred, entries, entryWords}
 use Rattle.model.specs.List.ListingLaws.{lists-refused, lists-short, lists-written}
 use Rattle.model.specs.List.Ways.{found}
-use Rattle.model.specs.Request.Step.{afterOf, sized}
-use Rattle.model.specs.Tables.Layout.{tablesOf, wordCount}
+use Rattle.model.specs.Request.Step.{afterOf}
+use Rattle.model.specs.Tables.Layout.{tablesOf}
 use Rattle.model.specs.Tables.Words.{firstNoticed}
 use Rattle.model.specs.Text.Reading.{readAnswer, readNumber, wordsAfter}
 use Rattle.model.specs.Text.Writing.{bytesAfter, writeAnswer, writeNumber}
@@ -32,7 +31,7 @@ use Rattle.model.specs.Theorem.Definitions.{Quiet}
 use Rattle.model.specs.Theorem.SequenceLaws.{answerOf-range, sequence-noticed}
 use Rattle.model.specs.Theorem.SequenceStep.{others-noticed}
 use Rattle.model.specs.Theorem.Statements.{SameNotice}
-use Rattle.model.specs.Theorem.Steps.{afterOf-length, high-refusal-words, low-refusal-words, sized-agrees, unsized}
+use Rattle.model.specs.Theorem.Steps.{afterOf-length, high-refusal-words, low-refusal-words}
 use Rattle.model.specs.Request.Refusals as refusal
 
 -- whatever meets a promise does so for C
@@ -76,18 +75,14 @@ module _ {t q : List ℕ} {a : ℕ} {r : List ℕ} (x : StepCall t q a r) where
   step-unchanged : refusal.badLength ≤ noIn a → noIn a < firstNoticed → r ≡ t
   step-unchanged l h = step-left x ∙ low-refusal-words t q (omega (arith, step-no x)) (omega (arith, step-no x))
 
-  -- a refusal 5 to 16 is of 2,304 words and sixteen
-  step-sized : firstNoticed ≤ noIn a → length t ≡ wordCount
-  step-sized h = cases (true-or-false (sized t q)) (λ e. sized-agrees t q .to (is-true (sized t q) e) .0)
-      (λ e. absurd (omega (arith, step-no x, unsized t q (is-false (sized t q) e) .0)))
-
   step-only-notice : firstNoticed ≤ noIn a → OnlyNotice t (requester q) r
   step-only-notice h =
       let e = step-left x in
       let n : length r ≡ length t = ap length e ∙ afterOf-length t q in
+      let z = answered-size t q (λ y. omega (arith, step-no x)) in
       let c = high-refusal-words t q (omega (arith, step-no x)) in record {
         size = n;
-        others = quiet-words t r (requester q) (step-sized h) (n ∙ step-sized h)
+        others = quiet-words t r (requester q) z (n ∙ z)
             (subst (λ (l : List ℕ). Quiet (tablesOf t) (requester q) (tablesOf l)) (sym e) c);
       }
 

@@ -6,7 +6,7 @@ use mathlib.Core.Path.{_∙_, _≡_, ap, refl, subst, sym}
 use Prim.Native.Nat.{_*_, _<_, _≤_, ℕ}
 use native.Mathlib.Omega.{arith}
 use lib.Dec.{T, eqb, leb}
-use lib.ListN.{drop, length, length-append}
+use lib.ListN.{drop, length}
 use Rattle.mms.specs.CallLaws.{list-halves, step-no}
 use Rattle.mms.specs.Calls.{ListCall, StepCall, noIn, numberIn}
 use Rattle.mms.specs.Demands.{DemandThree, Disclosed}
@@ -17,17 +17,12 @@ use Rattle.model.specs.Basics.TestLaws.{holds-true, is-true, pick-false, pick-t
 use Rattle.model.specs.List.Admitted.{Admitted}
 use Rattle.model.specs.List.AdmittedLaws.{admitted-barred, barred-admitted}
 use Rattle.model.specs.List.CompleteLaws.{complete-once}
-use Rattle.model.specs.List.Listing.{Lists, barred, entries, entry, entryWords, listAnswer, opens, showing}
+use Rattle.model.specs.List.Listing.{Lists, barred, entries, entryWords, listAnswer, opens, showing}
+use Rattle.model.specs.List.ListingLaws.{entries-length}
 use Rattle.model.specs.List.ShowLaws.{barred-answer, opens-agrees}
 use Rattle.model.specs.Request.Step.{answerOf}
 use Rattle.model.specs.Request.Words.{nameCount}
 use Rattle.model.specs.Request.Refusals as refusal
-
--- an entry is five words
-entries-words : (l : List (List ℕ)) → length (entries l) ≡ entryWords * length l
-unfolding entries
-entries-words [] = refl
-entries-words (x ∷ l) = omega (arith, length-append (entry x) (entries l), entries-words l)
 
 module _ {t room r : List ℕ} {u : ℕ} (a : ℕ) (x : Lists t u room (noIn a) (numberIn a) r) where
   -- where the list is not barred, the answer says whether the entries fit
@@ -44,7 +39,7 @@ module _ {t room r : List ℕ} {u : ℕ} (a : ℕ) (x : Lists t u room (noIn a) 
       (agrees-le (entryWords * length (x .list)) (length room) .from h) in (
         z,
         x .words ∙ pick-true (eqb (noIn a) refusal.accepted) (entries (x .list) ++ drop (length (entries (x .list))) room) room
-            (agrees-eq (noIn a) refusal.accepted .from z) ∙ ap (λ (n : ℕ). entries (x .list) ++ drop n room) (entries-words (x .list)),
+            (agrees-eq (noIn a) refusal.accepted .from z) ∙ ap (λ (n : ℕ). entries (x .list) ++ drop n room) (entries-length (x .list)),
       )
 
   list-short : barred t u ≡ refusal.accepted → length room < entryWords * length (x .list) → (noIn a ≡ refusal.tooShort) × (r ≡ room)

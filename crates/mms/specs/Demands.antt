@@ -55,15 +55,18 @@ pub record DemandOne : Type 0 where
   pub listAnswers : {t room r : List ℕ} {u a : ℕ} → ListCall t u room a r
       → List·Memᴰ (noIn a) (refusal.accepted ∷ refusal.badLength ∷ refusal.notWellFormed ∷ refusal.notSecure ∷ refusal.unknownRequester
       ∷ refusal.notLoggedOn ∷ refusal.tooShort ∷ [])
-  pub numberOfList : {t room r : List ℕ} {u a : ℕ} → ListCall t u room a r → noIn a ≢ refusal.accepted → noIn a ≢ refusal.tooShort → numberIn a ≡ 0
+  pub numberOfList : {t room r : List ℕ} {u a : ℕ} → ListCall t u room a r → noIn a ≢ refusal.accepted → noIn a ≢ refusal.tooShort
+      → numberIn a ≡ 0
   -- The reader answers 0, 1 or 18. A number goes with 18 only, and is 1 to 8.
-  pub readAnswers : {s w r : List ℕ} {a : ℕ} → ReadCall s w a r → List·Memᴰ (noIn a) (refusal.accepted ∷ refusal.badLength ∷ refusal.notARequest ∷ [])
+  pub readAnswers : {s w r : List ℕ} {a : ℕ} → ReadCall s w a r
+      → List·Memᴰ (noIn a) (refusal.accepted ∷ refusal.badLength ∷ refusal.notARequest ∷ [])
   pub numberOfRead : {s w r : List ℕ} {a : ℕ} → ReadCall s w a r → noIn a ≢ refusal.notARequest → numberIn a ≡ 0
   pub lineOfRead : {s w r : List ℕ} {a : ℕ} → ReadCall s w a r → noIn a ≡ refusal.notARequest → (1 ≤ numberIn a) × (numberIn a ≤ suc lineTotal)
   -- The writer answers 0, 1, 5 or 17. A number goes with 0 and 17 only.
   pub writeAnswers : {w room r : List ℕ} {a : ℕ} → WriteCall w room a r
       → List·Memᴰ (noIn a) (refusal.accepted ∷ refusal.badLength ∷ refusal.badRequest ∷ refusal.tooShort ∷ [])
-  pub numberOfWrite : {w room r : List ℕ} {a : ℕ} → WriteCall w room a r → noIn a ≢ refusal.accepted → noIn a ≢ refusal.tooShort → numberIn a ≡ 0
+  pub numberOfWrite : {w room r : List ℕ} {a : ℕ} → WriteCall w room a r → noIn a ≢ refusal.accepted → noIn a ≢ refusal.tooShort
+      → numberIn a ≡ 0
   -- After a refusal 1 to 4 of the step the tables are as they were;
   pub stepUnchanged : {t q : List ℕ} {a : ℕ} {r : List ℕ} → StepCall t q a r → refusal.badLength ≤ noIn a → noIn a < firstNoticed → r ≡ t
   -- after any refusal of the list, 6 and 17 among them, the room is;
@@ -76,10 +79,11 @@ pub record DemandOne : Type 0 where
   pub stepNotice : {t q : List ℕ} {a : ℕ} {r : List ℕ} → StepCall t q a r → firstNoticed ≤ noIn a → OnlyNotice t (requester q) r
   -- After any calls of the step, from tables that the check passes on, each user's notice holds the first refusal 5 to 16 of that user since the
   -- last acknowledgement that was accepted, or what was held at the start; with its operation; and counts them, up to 65,535.
-  pub noticeKept : (m : ℕ) (tables requests : ℕ → List ℕ) (answers : ℕ → ℕ) → StepCalls m tables requests answers → Passes (tables 0) → (u : ℕ)
-      → Noticed tables requests (λ i. noIn (answers i)) u m
+  pub noticeKept : (m : ℕ) (tables requests : ℕ → List ℕ) (answers : ℕ → ℕ) → StepCalls m tables requests answers → Passes (tables 0)
+      → (u : ℕ) → Noticed tables requests (λ i. noIn (answers i)) u m
   -- No request changes the notice of anybody but the requester.
-  pub noticeOfOthers : {t q : List ℕ} {a : ℕ} {r : List ℕ} → StepCall t q a r → (x : ℕ) → x ≢ requester q → SameNotice (tablesOf t) (tablesOf r) x
+  pub noticeOfOthers : {t q : List ℕ} {a : ℕ} {r : List ℕ} → StepCall t q a r → (x : ℕ) → x ≢ requester q
+      → SameNotice (tablesOf t) (tablesOf r) x
 
 -- Rules 6 and 8.4: what an accepted request q has made of the tables t.
 pub record Effected (t q r : List ℕ) : Type 0 where
@@ -114,7 +118,8 @@ pub record ScriptOutput (t s o : List ℕ) : Type 0 where
   -- from tables that the check passes the tables behind each report are well-formed and secure,
   pub sound : Passes t → (i : ℕ) → i ≤ length before → Sound (calls .tables i)
   -- and they are those of a secure history
-  pub history : Passes t → (tables requests : ℕ → List ℕ) × SecureHistory tables requests × ((i : ℕ) → i ≤ length before → tables i ≡ calls .tables i)
+  pub history : Passes t
+      → (tables requests : ℕ → List ℕ) × SecureHistory tables requests × ((i : ℕ) → i ≤ length before → tables i ≡ calls .tables i)
   -- whatever the tables were, each pair of them obeys Definitions 5 to 11
   pub obeys : (i : ℕ) → i < length before
       → Obeys (tablesOf (calls .tables i)) (requestOf (getD (requests (calls .wordings)) i [])) (tablesOf (calls .tables (suc i)))
@@ -218,5 +223,6 @@ pub record DemandThree : Type 0 where
   -- For a user who is there and logged on, on tables that the check passes, the list is what the record above says.
   pub disclosed : {t room r : List ℕ} {u a : ℕ} → ListCall t u room a r → Admitted t u → Disclosed t u room a r
   -- For anybody else, or on other tables, it is refused, and with the number by which the step refuses to show anything at all.
-  pub refused : {t room r : List ℕ} {u a : ℕ} → ListCall t u room a r → (Admitted t u → ⊥) → (x : List ℕ) → 1 ≤ length x → length x ≤ nameCount
-      → {b : ℕ} {s : List ℕ} → StepCall t (showing u x) b s → (noIn a ≡ noIn b) × (noIn a ≢ refusal.accepted)
+  pub refused : {t room r : List ℕ} {u a : ℕ} → ListCall t u room a r → (Admitted t u → ⊥)
+      → (x : List ℕ) → 1 ≤ length x → length x ≤ nameCount → {b : ℕ} {s : List ℕ} → StepCall t (showing u x) b s
+      → (noIn a ≡ noIn b) × (noIn a ≢ refusal.accepted)

@@ -5,14 +5,12 @@ use mathlib.Core.Path.{_∙_, _≡_, ap, refl, subst, sym}
 use Prim.Native.Nat.{_<_, _≤_, ℕ, suc, zero}
 use native.Mathlib.Omega.{arith}
 use lib.ListN.{length}
-use Rattle.mms.specs.CallLaws.{check-passes, check-sound, passes-check, step-left, step-no, step-sequence}
+use Rattle.mms.specs.CallLaws.{answered-size, check-passes, check-sound, passes-check, step-left, step-no, step-sequence}
 use Rattle.mms.specs.Calls.{Passes, Sound, StepCall, StepCalls, noIn}
 use Rattle.mms.specs.Demands.{Effected, SecureHistory}
-use Rattle.model.specs.Basics.Cases.{cases, true-or-false}
-use Rattle.model.specs.Basics.TestLaws.{is-false, is-true}
 use Rattle.model.specs.Request.After.{after}
 use Rattle.model.specs.Request.OperationLaws.{found-names}
-use Rattle.model.specs.Request.Step.{afterOf, answerOf, sized}
+use Rattle.model.specs.Request.Step.{afterOf, answerOf}
 use Rattle.model.specs.Request.Words.{requestOf, requestWords}
 use Rattle.model.specs.State.Check.{check}
 use Rattle.model.specs.Tables.Layout.{tablesOf, wordCount}
@@ -24,13 +22,8 @@ use Rattle.model.specs.Theorem.Definitions.{Obeys}
 use Rattle.model.specs.Theorem.Outcomes.{words-outcome}
 use Rattle.model.specs.Theorem.Sequence.{Steps}
 use Rattle.model.specs.Theorem.SequenceSecure.{checked-system, sequence-good, sequence-history, sequence-obeys, sequence-secure}
-use Rattle.model.specs.Theorem.Steps.{afterOf-length, afterOf-tables, sized-agrees, unsized}
+use Rattle.model.specs.Theorem.Steps.{afterOf-length, afterOf-tables, sized-agrees}
 use Rattle.model.specs.Request.Refusals as refusal
-
--- what is accepted is of 2,304 words
-accepted-size : (t q : List ℕ) → answerOf t q ≡ refusal.accepted → length t ≡ wordCount
-accepted-size t q e = cases (true-or-false (sized t q)) (λ z. sized-agrees t q .to (is-true (sized t q) z) .0)
-    (λ z. absurd (omega (arith, unsized t q (is-false (sized t q) z) .0)))
 
 module _ {t q : List ℕ} {a : ℕ} {r : List ℕ} (x : StepCall t q a r) where
   -- what holds of the model's step holds of what the call leaves
@@ -45,7 +38,7 @@ module _ {t q : List ℕ} {a : ℕ} {r : List ℕ} (x : StepCall t q a r) where
       let e : answerOf t q ≡ refusal.accepted = sym (step-no x) ∙ z in
       let f = words-outcome t q e in
       let n : length r ≡ length t = ap length (step-left x) ∙ afterOf-length t q in
-      let w = accepted-size t q e in record {
+      let w = answered-size t q (λ y. omega arith) in record {
         operation = f .0;
         named = found-names (requestOf q) (f .0) (f .1);
         size = n;

@@ -8,13 +8,8 @@ use borrow.Author.Tests.{eq-eqb, ne-eqb}
 use Rattle.model.specs.Script.State.{fileBytes, stateOf, wordIn}
 use Rattle.model.specs.Tables.Layout.{wordCount}
 use Rattle.model.specs.Tables.WordsOf.{firstValues}
+use Rattle.model.specs.Tables.WordsOfLaws.{values-next}
 use Rattle.script.specs.MoveLaws.{store-next}
-
--- one value more
-values-more : (n : ℕ) (g : ℕ → ℕ) → firstValues (suc n) g ≡ firstValues n g ++ (g n ∷ [])
-unfolding firstValues
-values-more zero g = refl
-values-more (suc n) g = ap (λ (l : List ℕ). g 0 ∷ l) (values-more n (λ i. g (suc i)))
 
 -- nothing is filled yet
 pub filled-none : (g : ℕ → ℕ) → [] ≡ firstValues 0 g
@@ -24,7 +19,7 @@ filled-none g = refl
 -- the first i words are filled, and now word i is
 pub filled-more : (r : List ℕ) (g : ℕ → ℕ) (i v : ℕ) → i < length r → take i r ≡ firstValues i g → v ≡ g i
     → take (i + 1) (set r i v) ≡ firstValues (i + 1) g
-filled-more r g i v h e q = store-next r i v h ∙ rw (e, q, add-one i) (sym (values-more i g))
+filled-more r g i v h e q = store-next r i v h ∙ rw (e, q, add-one i) (sym (values-next i g))
 
 -- all words are filled
 pub filled-all : (s r : List ℕ) (i : ℕ) → length s ≡ fileBytes → i ≡ wordCount → take i r ≡ firstValues i (wordIn s) → take wordCount r ≡ stateOf s

@@ -27,6 +27,12 @@ use Rattle.model.specs.Tables.Layout.{tablesOf}
 use Rattle.model.specs.Tables.Words.{Tables, clearance, entityCount, placeCount, usedPlaces}
 use Rattle.model.specs.Request.Refusals as refusal
 
+-- Rule 10.4: an entry is five words.
+pub entries-length : (l : List (List ℕ)) → length (entries l) ≡ entryWords * length l
+unfolding entries
+entries-length [] = refl
+entries-length (r ∷ l) = omega (arith, entries-length l)
+
 -- Rules 10.3 to 10.6: where the list is not refused, the walk makes the complete list.
 pub found-complete : (t : List ℕ) (u : ℕ) → barred t u ≡ refusal.accepted → Complete (opens t u) (found (tablesOf t) u)
 unfolding found

@@ -17,7 +17,7 @@ use Rattle.model.specs.Tables.RowLaws.{close-beyond, sought}
 use Rattle.model.specs.Tables.Rows.{Member, Packed, Sought, close, left, replace, seek, without}
 use Rattle.model.specs.Tables.Words.{placeCount}
 use Rattle.model.specs.Tables.WordsOf.{firstValues}
-use Rattle.model.specs.Tables.WordsOfLaws.{values-at, values-length}
+use Rattle.model.specs.Tables.WordsOfLaws.{values-at, values-length, values-next}
 
 -- rows that are the same in their first n places have the same first n values
 pub values-same : (n : ℕ) (f g : ℕ → ℕ) → ((i : ℕ) → i < n → f i ≡ g i) → firstValues n f ≡ firstValues n g
@@ -29,12 +29,6 @@ values-same (suc n) f g h = ap₂ {C = List ℕ} (λ (x : ℕ) (l : List ℕ). x
 -- and the other way
 pub values-each : (n : ℕ) (f g : ℕ → ℕ) → firstValues n f ≡ firstValues n g → (i : ℕ) → i < n → f i ≡ g i
 values-each n f g e i h = sym (values-at n f i h) ∙ ap (λ (l : List ℕ). getD l i 0) e ∙ values-at n g i h
-
--- one value more comes last
-values-next : (n : ℕ) (g : ℕ → ℕ) → firstValues (suc n) g ≡ firstValues n g ++ (g n ∷ [])
-unfolding firstValues
-values-next zero g = refl
-values-next (suc n) g = ap {B = List ℕ} (λ l. g 0 ∷ l) (values-next n (λ i. g (suc i)))
 
 -- a value put in the next place comes last
 pub values-put : (n v : ℕ) (row : ℕ → ℕ) → firstValues (suc n) (replace n v row) ≡ firstValues n row ++ (v ∷ [])

@@ -1,6 +1,6 @@
 -- Lists of 2,304 words and bounded tables are the same thing: `wordsOf` and `tablesOf` undo one another.
 use mathlib.Core.Bool.{Bool, false, true}
-use mathlib.Core.List.{List}
+use mathlib.Core.List.{List, [], _++_, _∷_}
 use mathlib.Core.Logic.{_⊎_, inl, inr}
 use mathlib.Core.Path.{_∙_, _≡_, ap, ap₂, fun-ext, refl, sym}
 use Prim.Native.Nat.{_%_, _*_, _+_, _-_, _/_, _<_, _≤_, suc, zero, ℕ}
@@ -27,6 +27,12 @@ pub values-length : (n : ℕ) (g : ℕ → ℕ) → length (firstValues n g) ≡
 unfolding firstValues
 values-length zero g = refl
 values-length (suc n) g = ap suc (values-length n (λ i. g (suc i)))
+
+-- one value more comes last
+pub values-next : (n : ℕ) (g : ℕ → ℕ) → firstValues (suc n) g ≡ firstValues n g ++ (g n ∷ [])
+unfolding firstValues
+values-next zero g = refl
+values-next (suc n) g = ap {B = List ℕ} (λ l. g 0 ∷ l) (values-next n (λ i. g (suc i)))
 
 -- and each is the value at its place
 pub values-at : (n : ℕ) (g : ℕ → ℕ) (i : ℕ) → i < n → getD (firstValues n g) i 0 ≡ g i

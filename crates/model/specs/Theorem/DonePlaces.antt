@@ -24,6 +24,7 @@ use Rattle.model.specs.Tables.Words.{EntityWord, Tables, absentKind, con
 use Rattle.model.specs.Tables.Words.{place, places, releaser, shown, sums, triple, type, used, usedPlaces, value}
 use Rattle.model.specs.Tables.WordsOf.{firstValues}
 use Rattle.model.specs.Theorem.Done.{HasCreated, HasDeleted, HasMoved}
+use Rattle.model.specs.Theorem.FramedPlaces.{container-unshown}
 
 -- what stands in a record, of its words
 abbrev recordContents : (EntityWord → ℕ) → List ℕ
@@ -55,10 +56,6 @@ vacant-lowest d zero l h = absurd (not-suc-le-zero l)
 vacant-lowest d (suc x) l h = before absentKind (λ i. kinds d (suc i)) entityCount x (omega arith)
 
 module _ (d : Tables) (w : WellFormed d) (s : Asked) where
-  -- a container shows nothing
-  unshown : (c : ℕ) → kinds d c ≡ containerKind → (i : ℕ) → sums d c i ≡ 0
-  unshown c box = w .entities c .filled .noSums (omega arith)
-
   -- Create has done what is said of it.
   pub create-done : MayCreate s d → HasCreated s d (rowOf toCreate .effect s d)
   create-done a = record {
@@ -80,7 +77,7 @@ module _ (d : Tables) (w : WellFormed d) (s : Asked) where
     noPlace = λ i. is (place i) ∙ zero-before (place i);
     noSum = λ i. is (shown i) ∙ zero-before (shown i);
     last = put-last with-it c e 0;
-    unshown = put-unshown with-it c e (unshown c (a .box));
+    unshown = put-unshown with-it c e (container-unshown d w c (a .box));
   }
     where
       e : ℕ
@@ -131,7 +128,7 @@ module _ (d : Tables) (w : WellFormed d) (s : Asked) where
     left = λ x box n. subst (TakenOut e (contents d x)) (sym (ap recordContents (edited-away (putting c e 0 (leave e d)) c (leave e d .entity) x n)))
         (leave-taken d w e x box);
     entered = (contents (leave e d) c, leave-taken d w e c (a .box), put-last (leave e d) c e 0);
-    unshown = put-unshown (leave e d) c e (unshown c (a .box));
+    unshown = put-unshown (leave e d) c e (container-unshown d w c (a .box));
   }
     where
       e : ℕ

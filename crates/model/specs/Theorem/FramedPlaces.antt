@@ -82,11 +82,11 @@ put-left d c e none x f t = word-left (λ y. eqb y c) (λ y. putting c e 0 d) (d
 abbrev newWord : EntityWord → Bool
 newWord f = wordOrRow kind f || (wordOrRow type f || (wordOrRow level f || wordOrRow (triple 0) f))
 
-module _ (d : Tables) (w : WellFormed d) (s : Asked) where
-  -- a container shows nothing
-  unshown : (c : ℕ) → kinds d c ≡ containerKind → (i : ℕ) → sums d c i ≡ 0
-  unshown c box = w .entities c .filled .noSums (omega arith)
+-- Rule 3.12: a container shows nothing.
+pub container-unshown : (d : Tables) → WellFormed d → (c : ℕ) → kinds d c ≡ containerKind → (i : ℕ) → sums d c i ≡ 0
+container-unshown d w c box = w .entities c .filled .noSums (omega arith)
 
+module _ (d : Tables) (w : WellFormed d) (s : Asked) where
   -- Create changes the new record and its container only.
   pub create-framed : kinds d (s .first) ≡ containerKind → Frame toCreate s d (rowOf toCreate .effect s d)
   create-framed box = record { users = λ x f t. refl; entities = λ x f t. stays x f (neither (eqb x e && newWord f) (eqb x c && contentWord f) t) }
@@ -105,7 +105,7 @@ module _ (d : Tables) (w : WellFormed d) (s : Asked) where
 
       stays : (x : ℕ) (f : EntityWord) → T (not (eqb x e && newWord f)) × T (not (eqb x c && contentWord f))
           → put c e 0 with-it .entity x f ≡ d .entity x f
-      stays x f t = put-left with-it c e (unshown c box) x f (t .1) ∙ entity-left new-only e d x f (t .0)
+      stays x f t = put-left with-it c e (container-unshown d w c box) x f (t .1) ∙ entity-left new-only e d x f (t .0)
 
   -- Delete changes the record deleted and its container only.
   pub delete-framed : Frame toDelete s d (rowOf toDelete .effect s d)
@@ -124,4 +124,5 @@ module _ (d : Tables) (w : WellFormed d) (s : Asked) where
     where
       stays : (x : ℕ) (f : EntityWord) → T (not (eqb x (s .second) && contentWord f)) × T (not (holder d (s .first) x && contentWord f))
           → move (s .first) (s .second) d .entity x f ≡ d .entity x f
-      stays x f t = put-left (leave (s .first) d) (s .second) (s .first) (unshown (s .second) box) x f (t .0) ∙ leave-left d w (s .first) x f (t .1)
+      stays x f t =
+          put-left (leave (s .first) d) (s .second) (s .first) (container-unshown d w (s .second) box) x f (t .0) ∙ leave-left d w (s .first) x f (t .1)
