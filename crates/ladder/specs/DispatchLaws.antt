@@ -11,7 +11,7 @@ use lib.Dec.{eqb}
 use borrow.Author.Tests.{eq-eqb, eqb-true, not-false}
 use Rattle.ladder.specs.Path.{arityOf}
 use Rattle.laws.specs.Bools.{clash}
-use Rattle.model.specs.Basics.Choice.{Same, it, other, same}
+use Rattle.model.specs.Basics.Choice.{Same, it, same}
 use Rattle.model.specs.Request.Form.{taken}
 use Rattle.model.specs.Request.Ladder.{fits, ofOp}
 use Rattle.model.specs.Request.LadderLaws.{ofOp-some}

@@ -8,10 +8,10 @@ use native.Mathlib.Omega.{arith}
 use lib.Dec.{T, eqb, leb}
 use lib.ListN.{drop, length}
 use Rattle.model.specs.Basics.Agree.{agrees-eq, agrees-not}
-use Rattle.model.specs.Basics.Choice.{Same, it, other, pick, same}
+use Rattle.model.specs.Basics.Choice.{Same, it, pick, same}
 use Rattle.model.specs.Basics.TestLaws.{pick-false}
 use Rattle.model.specs.List.Further.{asker, checked}
-use Rattle.model.specs.List.Listing.{Lists, barred, entries, entryWords, listAnswer, listNumber, showing}
+use Rattle.model.specs.List.Listing.{Lists, barred, entries, entryWords, listAnswer, showing}
 use Rattle.model.specs.Request.Ladder.{notLoggedOn, unknownUser}
 use Rattle.model.specs.Request.Words.{requestOf, requestWords}
 use Rattle.model.specs.State.Check.{check, judge, secureTest, wellFormedTest}

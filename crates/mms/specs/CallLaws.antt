@@ -2,12 +2,12 @@
 use mathlib.Core.List.{List}
 use mathlib.Core.Logic.{_≢_}
 use mathlib.Core.Path.{_≡_, ap, refl}
-use Prim.Native.Nat.{_%_, _*_, _+_, _/_, ℕ}
+use Prim.Native.Nat.{_*_, _+_, ℕ}
 use native.Mathlib.Omega.{arith}
 use lib.Dec.{eqb→eq}
 use lib.ListN.{length}
 use Rattle.mms.specs.Calls.{CheckCall, ListCall, Passes, ReadCall, Sound, StepCall, StepCalls, WriteCall, noIn, numberIn}
-use Rattle.mms.specs.Contract.{Listing, Reading, Writing, exported, numbers}
+use Rattle.mms.specs.Contract.{numbers}
 use Rattle.mms.specs.Unique.{exported-list-parts, exported-read-parts, exported-write-parts}
 use Rattle.mms.specs.declared.Answer.{Answer}
 use Rattle.model.specs.Basics.Agree.{agrees-eq}

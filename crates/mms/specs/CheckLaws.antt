@@ -1,15 +1,13 @@
 -- Rule 8.5: the check's answer is the lowest number that the words earn.
 use mathlib.Core.Bool.{Bool, false, true}
 use mathlib.Core.List.{List}
-use mathlib.Core.Logic.{_↔_}
-use mathlib.Core.Path.{_∙_, _≡_, refl, subst, sym}
-use Prim.Native.Nat.{_<_, _≤_, ℕ}
+use mathlib.Core.Path.{_≡_}
+use Prim.Native.Nat.{_<_, ℕ}
 use native.Mathlib.Omega.{arith}
 use lib.Dec.{eqb}
 use lib.ListN.{length}
 use Rattle.mms.specs.Calls.{Unsound, badLength, notSecure, notWellFormed}
-use Rattle.model.specs.Basics.Agree.{Agrees, agrees-eq, agrees-not}
-use Rattle.model.specs.Basics.Choice.{pick}
+use Rattle.model.specs.Basics.Agree.{Agrees, agrees-eq}
 use Rattle.model.specs.List.Further.{checked}
 use Rattle.model.specs.Request.Applies.{Lowest, lowest, none}
 use Rattle.model.specs.State.Agree.{wellFormed-agrees}

@@ -1,23 +1,22 @@
 -- Demand 3 is met.
-use mathlib.Core.Bool.{Bool, false, true}
-use mathlib.Core.List.{List, List·Memᴰ, [], _++_, _∷_}
+use mathlib.Core.List.{List, List·Memᴰ, _++_}
 use mathlib.Core.Logic.{_↔_, _≢_, _⊎_, inl, inr}
-use mathlib.Core.Path.{_∙_, _≡_, ap, refl, subst, sym}
+use mathlib.Core.Path.{_∙_, _≡_, ap, sym}
 use Prim.Native.Nat.{_*_, _<_, _≤_, ℕ}
 use native.Mathlib.Omega.{arith}
-use lib.Dec.{T, eqb, leb}
+use lib.Dec.{eqb, leb}
 use lib.ListN.{drop, length}
 use Rattle.mms.specs.CallLaws.{list-halves, step-no}
-use Rattle.mms.specs.Calls.{ListCall, StepCall, noIn, numberIn}
+use Rattle.mms.specs.Calls.{StepCall, noIn, numberIn}
 use Rattle.mms.specs.Demands.{DemandThree, Disclosed}
 use Rattle.model.specs.Basics.Agree.{agrees-eq, agrees-le}
-use Rattle.model.specs.Basics.Choice.{Same, it, other, pick, same}
+use Rattle.model.specs.Basics.Choice.{pick}
 use Rattle.model.specs.Basics.Fails.{fails-agreed, fails-le}
 use Rattle.model.specs.Basics.TestLaws.{holds-true, is-true, pick-false, pick-true}
 use Rattle.model.specs.List.Admitted.{Admitted}
 use Rattle.model.specs.List.AdmittedLaws.{admitted-barred, barred-admitted}
 use Rattle.model.specs.List.CompleteLaws.{complete-once}
-use Rattle.model.specs.List.Listing.{Lists, barred, entries, entryWords, listAnswer, opens, showing}
+use Rattle.model.specs.List.Listing.{Lists, barred, entries, entryWords, opens, showing}
 use Rattle.model.specs.List.ListingLaws.{entries-length}
 use Rattle.model.specs.List.ShowLaws.{barred-answer, opens-agrees}
 use Rattle.model.specs.Request.Step.{answerOf}

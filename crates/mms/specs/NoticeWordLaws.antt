@@ -1,19 +1,18 @@
 -- Rule 8.2 on words: what is quiet but for a user's notice differs in words 5 to 7 of that user at most.
 use mathlib.Core.Bool.{Bool, false, true}
 use mathlib.Core.List.{List}
-use mathlib.Core.Path.{_∙_, _≡_, ap, refl, subst, sym}
-use Prim.Native.Nat.{_%_, _*_, _+_, _-_, _/_, _<_, _≤_, suc, ℕ}
+use mathlib.Core.Path.{_∙_, _≡_, ap, sym}
+use Prim.Native.Nat.{_%_, _-_, _/_, _<_, _≤_, suc, ℕ}
 use native.Mathlib.Omega.{arith}
 use lib.Dec.{T, ltb}
 use lib.ListN.{List·getD-eq-default, getD, length}
-use Rattle.model.specs.Basics.Agree.{agrees-le}
 use Rattle.model.specs.Basics.Cases.{cases, lt-or-le}
-use Rattle.model.specs.Basics.Choice.{Below, below, over, pick, under}
+use Rattle.model.specs.Basics.Choice.{pick}
 use Rattle.model.specs.Tables.Layout.{entitiesFrom, tablesOf, userAt, userOffset, userWidth, wordCount}
-use Rattle.model.specs.Tables.WordAt.{entityWordAt, userWordAt}
+use Rattle.model.specs.Tables.WordAt.{userWordAt}
 use Rattle.model.specs.Tables.WordAtLaws.{user-offset-at}
 use Rattle.model.specs.Tables.Words.{Tables, UserWord, authorised, clearance, current, device, held, heldOp, missed, present, spare}
-use Rattle.model.specs.Tables.WordsOf.{entityAtIndex, userAtIndex, wordAtIndex, wordsOf}
+use Rattle.model.specs.Tables.WordsOf.{entityAtIndex, userAtIndex, wordAtIndex}
 use Rattle.model.specs.Tables.WordsOfLaws.{wordsOf-at, wordsOf-tablesOf}
 use Rattle.model.specs.Theorem.Definitions.{Quiet, noticeWord}
 

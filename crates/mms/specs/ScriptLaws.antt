@@ -1,6 +1,6 @@
 -- Rule 12: what the program writes of a script are reports of calls of the step, each given what the last one left.
 use mathlib.Core.Bool.{Bool, _&&_, false, true}
-use mathlib.Core.List.{List, [], _++_, _∷_}
+use mathlib.Core.List.{List, [], _∷_}
 use mathlib.Core.Logic.{_⊎_, inl, inr}
 use mathlib.Core.Path.{_∙_, _≡_, ap, refl, subst, sym}
 use Prim.Native.Nat.{_*_, _+_, _<_, _≤_, suc, ℕ}

@@ -11,7 +11,6 @@ use Rattle.mms.specs.Contract.{numbers}
 use Rattle.mms.specs.Demands.{ScriptOutput, SecureHistory}
 use Rattle.mms.specs.HistoryLaws.{calls-history, calls-obey, calls-sound}
 use Rattle.mms.specs.ScriptLaws.{requests-length, runs-calls}
-use Rattle.model.specs.Request.After.{after}
 use Rattle.model.specs.Request.Step.{afterOf, answerOf}
 use Rattle.model.specs.Request.Words.{requestWords}
 use Rattle.model.specs.Script.Reports.{Report, output, unread}

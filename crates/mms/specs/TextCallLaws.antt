@@ -1,12 +1,12 @@
 -- Demand 2, the text: what is read and written, and both ways.
 use mathlib.Core.Bool.{Bool, false, true}
-use mathlib.Core.List.{List, List·Memᴰ, List·Memᴰ·cases-cons, List·Memᴰ·not-nil, [], _++_}
+use mathlib.Core.List.{List, List·Memᴰ, List·Memᴰ·cases-cons, List·Memᴰ·not-nil}
 use mathlib.Core.Logic.{_↔_, _≢_, ⊎-elim}
 use mathlib.Core.Path.{_≡_, refl, subst, sym}
-use Prim.Native.Nat.{_<_, _≤_, ℕ}
+use Prim.Native.Nat.{ℕ}
 use native.Mathlib.Omega.{arith}
 use lib.Dec.{T, eqb, leb}
-use lib.ListN.{drop, length, take}
+use lib.ListN.{length, take}
 use Rattle.mms.specs.AnswerLaws.{read-answers, readAnswers}
 use Rattle.mms.specs.CallLaws.{read-halves, write-halves}
 use Rattle.mms.specs.Calls.{ReadCall, WriteCall, noIn, numberIn}

@@ -11,7 +11,6 @@ use Rattle.model.specs.Effect.Triples.{revoke}
 use Rattle.model.specs.Request.Asked.{asked, namedTriple}
 use Rattle.model.specs.Request.Conditions.{isAny}
 use Rattle.model.specs.Request.Operations.{toRevoke}
-use Rattle.model.specs.Request.Words.{requestOf}
 use Rattle.model.specs.State.WellFormed.{WellFormed}
 use Rattle.model.specs.Tables.Edits.{onEntity, row}
 use Rattle.model.specs.Tables.Layout.{tablesOf}

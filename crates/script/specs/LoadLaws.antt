@@ -1,7 +1,7 @@
 -- The tables of a state file, filled word by word.
-use mathlib.Core.List.{List, [], _++_, _∷_}
-use mathlib.Core.Path.{_∙_, _≡_, ap, refl, subst, sym}
-use Prim.Native.Nat.{_+_, _<_, suc, zero, ℕ}
+use mathlib.Core.List.{List, []}
+use mathlib.Core.Path.{_∙_, _≡_, refl, subst, sym}
+use Prim.Native.Nat.{_+_, _<_, ℕ}
 use native.Mathlib.Numerals.{add-one}
 use lib.ListN.{length, set, take}
 use borrow.Author.Tests.{eq-eqb, ne-eqb}

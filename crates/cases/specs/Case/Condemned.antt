@@ -3,9 +3,8 @@
 use mathlib.Core.Bool.{not}
 use mathlib.Core.List.{[], _∷_}
 use mathlib.Core.Logic.{_≢_, inl, inr}
-use mathlib.Core.Path.{_≡_, refl}
+use mathlib.Core.Path.{refl}
 use Prim.Native.Nat.{ℕ}
-use native.Mathlib.Omega.{arith}
 use lib.Dec.{T, T-not, eqb}
 use Rattle.model.specs.Basics.Agree.{agrees-eq}
 use Rattle.cases.specs.Case.Cases.{ask, at, highest}

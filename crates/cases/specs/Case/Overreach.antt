@@ -2,7 +2,7 @@
 -- the value into 6 as well, a sealed draft that nobody named. All seven hold of it; the frame of rule 8.4 does not.
 use mathlib.Core.List.{[], _∷_}
 use mathlib.Core.Logic.{inr}
-use mathlib.Core.Path.{_≡_, refl, subst}
+use mathlib.Core.Path.{_≡_, refl}
 use Prim.Native.Nat.{ℕ}
 use Rattle.cases.specs.Case.Cases.{ask}
 use Rattle.cases.specs.Case.Condemned.{differ}

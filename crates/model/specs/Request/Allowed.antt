@@ -2,7 +2,6 @@
 -- statements. `Allowed` has a record for each operation that asks more than an operand's kind.
 use mathlib.Core.List.{List, List·Memᴰ}
 use mathlib.Core.Logic.{_≢_, _⊎_}
-use mathlib.Core.Option.{some}
 use mathlib.Core.Path.{_≡_}
 use Prim.Native.Nat.{_<_, _≤_, ℕ}
 use lib.Dec.{T}
@@ -12,7 +11,7 @@ use Rattle.model.specs.Level.{AtMost, Lower, Subset, downgrader, levelCo
 use Rattle.model.specs.Request.Asked.{Asked, HasRole, asked, basisOf, namedTriple, operand, own}
 use Rattle.model.specs.Request.Conditions.{levelOf}
 use Rattle.model.specs.Request.Form.{Between, Fits, Names, taken}
-use Rattle.model.specs.Request.Operations.{Op, clearanceEffect, levelEffect, numberOf, opOf, toAcknowledge, toAuthorised}
+use Rattle.model.specs.Request.Operations.{Op, clearanceEffect, levelEffect, numberOf, toAcknowledge, toAuthorised}
 use Rattle.model.specs.Request.Operations.{toClear, toClearance, toCopy, toCreate, toCurrent, toDelete, toDeviceLevel, toEdit}
 use Rattle.model.specs.Request.Operations.{toGrant, toLevel, toLogin, toLogout, toMark, toMaximum, toMove, toRelease, toRevoke}
 use Rattle.model.specs.Request.Operations.{toShow}

@@ -2,8 +2,7 @@
 use mathlib.Core.Bool.{Bool, _&&_, false, not, true}
 use mathlib.Core.List.{List, List·Memᴰ, List·Memᴰ·cases-cons, List·Memᴰ·head, List·Memᴰ·not-nil, List·Memᴰ·tail, [], _∷_}
 use mathlib.Core.Logic.{_≢_, _⊎_, inl, inr}
-use mathlib.Core.Option.{some}
-use mathlib.Core.Path.{_∙_, _≡_, ap, refl, sym}
+use mathlib.Core.Path.{_≡_, refl}
 use Prim.Native.Nat.{_+_, _<_, _≤_, ℕ}
 use native.Mathlib.Omega.{arith}
 use lib.Dec.{T, eqb}
@@ -23,8 +22,8 @@ use Rattle.model.specs.Request.Ladder.{bars, leadsNowhere, noAccess, not
 use Rattle.model.specs.Request.Ladder.{wrongKind}
 use Rattle.model.specs.Request.LadderLaws.{AllOperands, ofOp-agrees, operands-at, operands-both, operands-each, operands-map}
 use Rattle.model.specs.Request.LadderLaws.{someOperand-agrees}
-use Rattle.model.specs.Request.OperationLaws.{Found, number-opOf, opOf-number, wantsDevice-agrees}
-use Rattle.model.specs.Request.Operations.{Op, numberOf, opOf, openLoggedOff, rowOf, toAcknowledge, toAuthorised, toClear, toClearance}
+use Rattle.model.specs.Request.OperationLaws.{Found, wantsDevice-agrees}
+use Rattle.model.specs.Request.Operations.{Op, numberOf, openLoggedOff, rowOf, toAcknowledge, toAuthorised, toClear, toClearance}
 use Rattle.model.specs.Request.Operations.{toCopy, toCreate, toCurrent, toDelete, toDeviceLevel, toEdit, toGrant, toLevel, toLogin}
 use Rattle.model.specs.Request.Operations.{toLogout, toMark, toMaximum, toMove, toRelease, toRevoke, toShow}
 use Rattle.model.specs.Request.Reference.{Leads, basis, resolve}

@@ -1,6 +1,6 @@
 -- Tables with one word set are one thing: what `WithEntity` and `WithUser` say of them is the edit of that word.
 use mathlib.Core.Bool.{Bool, _&&_, false, true}
-use mathlib.Core.Path.{_∙_, _≡_, ap₂, fun-ext, refl, subst, sym}
+use mathlib.Core.Path.{_∙_, _≡_, ap₂, fun-ext, refl, subst}
 use Prim.Native.Nat.{ℕ}
 use lib.Dec.{eqb}
 use Rattle.model.specs.Basics.Choice.{Same, it, other, pick, same}

@@ -1,7 +1,6 @@
 -- Document 01, "The tables"; rule 4, secure (Definition 2): a named part for each sentence.
 use mathlib.Core.Bool.{Bool}
 use mathlib.Core.Logic.{_≢_}
-use mathlib.Core.Path.{_≡_}
 use Prim.Native.Nat.{_<_, ℕ}
 use lib.Dec.{T}
 use Rattle.model.specs.Basics.Tests.{imp}

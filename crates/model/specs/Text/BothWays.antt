@@ -19,7 +19,7 @@ use Rattle.model.specs.Text.LineLaws.{length-line}
 use Rattle.model.specs.Text.Lines.{line}
 use Rattle.model.specs.Text.NearLaws.{read-bad}
 use Rattle.model.specs.Text.NumberLaws.{length-most}
-use Rattle.model.specs.Text.Numbers.{digitCount, digits, most, number}
+use Rattle.model.specs.Text.Numbers.{digitCount, digits, most}
 use Rattle.model.specs.Text.Reading.{Reads, lineIn, readNumber}
 use Rattle.model.specs.Text.References.{dotted, joined}
 use Rattle.model.specs.Text.Textual.{Textual}

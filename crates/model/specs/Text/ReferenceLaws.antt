@@ -11,7 +11,7 @@ use Rattle.model.specs.Request.Words.{nameCount}
 use Rattle.model.specs.Text.LineLaws.{Form, next-back}
 use Rattle.model.specs.Text.Lines.{lineEnd}
 use Rattle.model.specs.Text.NumberLaws.{Back, Stops, digits-first, number-back, number-there}
-use Rattle.model.specs.Text.Numbers.{digits, got, isDigit, most, number}
+use Rattle.model.specs.Text.Numbers.{digits, got, isDigit, number}
 use Rattle.model.specs.Text.References.{dotByte, dotted, further, joined, nameAnd, reference}
 use borrow.Author.Tests.{eqb-true}
 use Rattle.model.specs.Text.Textual.{AllFit}

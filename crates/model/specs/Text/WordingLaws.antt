@@ -1,16 +1,15 @@
 -- Reading a request's text and writing it are inverse, for the next seven lines of some bytes and for a whole text.
 use mathlib.Core.List.{List, [], _++_, _∷_, append-assoc, append-nil}
 use mathlib.Core.Path.{_∙_, _≡_, ap, refl, sym}
-use Prim.Native.Nat.{_+_, _<_, _≤_, ℕ}
+use Prim.Native.Nat.{_+_, _<_, ℕ}
 use native.Mathlib.Omega.{arith}
 use lib.ListN.{length, length-append}
-use Rattle.model.specs.Request.Words.{nameCount}
 use Rattle.model.specs.Text.LineLaws.{length-line, line-back, line-there, numbers}
 use Rattle.model.specs.Text.Lines.{line, readLine}
-use Rattle.model.specs.Text.Numbers.{Read, bad, digits, got, most, number}
+use Rattle.model.specs.Text.Numbers.{Read, bad, digits, got, number}
 use Rattle.model.specs.Text.ReferenceLaws.{references}
 use Rattle.model.specs.Text.References.{joined, reference}
-use Rattle.model.specs.Text.Textual.{AllFit, Written}
+use Rattle.model.specs.Text.Textual.{Written}
 use Rattle.model.specs.Text.Wording.{Lines, Wording, aKey, atEnd, bKey, badLine, cKey, lines, opKey, orLine, readSeven, readText}
 use Rattle.model.specs.Text.Wording.{ref2Key, refKey, textOf, userKey}
 

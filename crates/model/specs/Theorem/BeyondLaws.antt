@@ -8,7 +8,7 @@ use Prim.Native.Nat.{ℕ}
 use native.Mathlib.Omega.{arith}
 use lib.Dec.{eqb}
 use Rattle.model.specs.Basics.Agree.{agrees-eq}
-use Rattle.model.specs.Basics.Choice.{Same, it, other, pick, same}
+use Rattle.model.specs.Basics.Choice.{Same, it, other, same}
 use Rattle.model.specs.Basics.TestLaws.{is-false, is-true}
 use Rattle.model.specs.Effect.Places.{sortKind, sortType, vacant}
 use Rattle.model.specs.Effect.PlacesLaws.{sort-type, vacant-absent}

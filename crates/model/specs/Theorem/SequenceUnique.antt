@@ -13,7 +13,7 @@ use Rattle.model.specs.Basics.Agree.{Agrees}
 use Rattle.model.specs.Basics.Choice.{Same, it, other, same}
 use Rattle.model.specs.Request.Step.{afterOf, answerOf}
 use Rattle.model.specs.Tables.Layout.{tablesOf}
-use Rattle.model.specs.Tables.Words.{held, missed}
+use Rattle.model.specs.Tables.Words.{held}
 use Rattle.model.specs.Theorem.Sequence.{Acknowledged, FirstRefused, Held, Noticed, Refused, Steps, heldFor, refusals, refusedTest, missedFor}
 use Rattle.model.specs.Theorem.SequenceLaws.{refusedTest-agrees}
 use Rattle.model.specs.Theorem.SequenceStep.{held-same}
