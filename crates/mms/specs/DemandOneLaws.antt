@@ -7,7 +7,7 @@ use Prim.Native.Nat.{_*_, _<_, _≤_, ℕ}
 use native.Mathlib.Omega.{arith}
 use lib.Dec.{eqb}
 use lib.ListN.{drop, length}
-use Rattle.mms.specs.AnswerLaws.{check-range, list-answers, list-number, list-unchanged, read-answers, read-line, read-number}
+use Rattle.mms.specs.AnswerLaws.{list-answers, list-number, list-unchanged, read-answers, read-line, read-number}
 use Rattle.mms.specs.AnswerLaws.{read-unchanged, write-answers, write-number, write-unchanged}
 use Rattle.mms.specs.CallLaws.{answered-size, check-no, check-number, list-halves, passes-check, read-halves, step-call, step-left, step-no, step-number}
 use Rattle.mms.specs.CallLaws.{step-sequence, write-halves}
@@ -31,7 +31,7 @@ use Rattle.model.specs.Theorem.Definitions.{Quiet}
 use Rattle.model.specs.Theorem.SequenceLaws.{answerOf-range, sequence-noticed}
 use Rattle.model.specs.Theorem.SequenceStep.{others-noticed}
 use Rattle.model.specs.Theorem.Statements.{SameNotice}
-use Rattle.model.specs.Theorem.Steps.{afterOf-length, high-refusal-words, low-refusal-words}
+use Rattle.model.specs.Theorem.Steps.{afterOf-length, check-range, high-refusal-words, low-refusal-words}
 use Rattle.model.specs.Request.Refusals as refusal
 
 -- whatever meets a promise does so for C
