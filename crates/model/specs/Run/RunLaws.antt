@@ -8,8 +8,9 @@ use native.Mathlib.Omega.{arith}
 use lib.Dec.{T}
 use lib.ListN.{List·getD-append, drop, getD, length, take}
 use lib.Seq.{take-at}
-use Rattle.model.specs.Basics.Agree.{Agrees, agrees-and, agrees-eq, agrees-le}
+use Rattle.model.specs.Basics.Agree.{Agrees, agrees-and, agrees-eq, agrees-le, agrees-not}
 use Rattle.model.specs.Basics.Choice.{pick}
+use Rattle.model.specs.Basics.TestLaws.{pick-false, pick-true}
 use Rattle.model.specs.Request.Words.{requestWords}
 use Rattle.model.specs.Run.Requests.{Requests, requestCount, requestsIn}
 use Rattle.model.specs.Run.RequestsLaws.{requests-append, requests-are, requests-count, requests-in, requests-whole}
@@ -47,6 +48,27 @@ module _ (t w room : List ℕ) where
         through = through-steps t (requestsIn w);
         places = ap (λ (k : ℕ). answersTo t (requestsIn w) ++ drop k room) n;
       }
+
+  -- what is computed, where the sizes fit and where they do not
+  pub run-done : Sizes t w room
+      → (runAnswer t w room ≡ refusal.accepted) × (runTables t w room ≡ afterWords t (requestsIn w))
+      × (runRoom t w room ≡ answersTo t (requestsIn w) ++ drop (requestCount w) room)
+  unfolding runAnswer runTables runRoom
+  run-done z =
+      let h = sizes-agrees t w room .from z in (
+        pick-true (sizes t w room) refusal.accepted refusal.badLength h,
+        pick-true (sizes t w room) (afterWords t (requestsIn w)) t h,
+        pick-true (sizes t w room) (answersTo t (requestsIn w) ++ drop (requestCount w) room) room h,
+      )
+
+  pub run-other : (Sizes t w room → ⊥) → (runAnswer t w room ≡ refusal.badLength) × (runTables t w room ≡ t) × (runRoom t w room ≡ room)
+  unfolding runAnswer runTables runRoom
+  run-other n =
+      let h = agrees-not (sizes-agrees t w room) .from n in (
+        pick-false (sizes t w room) refusal.accepted refusal.badLength h,
+        pick-false (sizes t w room) (afterWords t (requestsIn w)) t h,
+        pick-false (sizes t w room) (answersTo t (requestsIn w) ++ drop (requestCount w) room) room h,
+      )
 
   -- Rule 15: what is computed is a run,
   pub run-computed : Run t w room (runAnswer t w room) (runTables t w room) (runRoom t w room)
