@@ -29,6 +29,14 @@ pub struct Answer {
 extern "C" {
     fn mms_check(tables: *const u32, tables_len: usize) -> u64;
     fn mms_step(tables: *mut u32, tables_len: usize, request: *const u32, request_len: usize) -> u64;
+    fn mms_run(
+        tables: *mut u32,
+        tables_len: usize,
+        requests: *const u32,
+        requests_len: usize,
+        answers: *mut u32,
+        answers_len: usize,
+    ) -> u64;
     fn mms_list(tables: *const u32, tables_len: usize, user: u32, room: *mut u32, room_len: usize) -> u64;
     fn mms_read(text: *const u8, text_len: usize, request: *mut u32, request_len: usize) -> u64;
     fn mms_write(request: *const u32, request_len: usize, room: *mut u8, room_len: usize) -> u64;
@@ -73,6 +81,40 @@ pub fn check(tables: &[u32]) -> Answer {
 pub fn step(tables: &mut [u32], request: &[u32]) -> Answer {
     // SAFETY: each slice is lent as its pointer and its length; the borrows keep them apart.
     unpacked(unsafe { mms_step(tables.as_mut_ptr(), tables.len(), request.as_ptr(), request.len()) })
+}
+
+/// Requests in order, sixteen words each, on tables that are checked once: 0, and each request's answer, 0 to 16, in its
+/// own place at the front of `answers`. Answers and tables are those of as many steps. A refused request is an answer
+/// like any other: the next one follows.
+///
+/// It answers 1 where the tables are not 2,304 words, the requests not a multiple of 16, or the places fewer than the
+/// requests; then neither tables nor places change. Places beyond the requests never do.
+///
+/// ```
+/// use mms::words::{self, Answer};
+///
+/// fn main() {
+///     let mut tables = [0; 2304];
+///     tables[16] = 1; // there is a user 2, and no user 1
+///     let mut requests = [0; 48];
+///     requests[..2].copy_from_slice(&[2, 99]);
+///     requests[16..18].copy_from_slice(&[1, 99]);
+///     requests[32..34].copy_from_slice(&[2, 99]);
+///     let mut answers = [77; 4];
+///     assert_eq!(words::run(&mut tables, &requests, &mut answers), Answer { no: 0, number: 0 });
+///     assert_eq!(answers, [5, 4, 5, 77]);
+///     // user 2 missed two refusals with 5
+///     assert_eq!(tables[16 + 5..16 + 8], [5, 0, 2]);
+///     // three requests and two places
+///     assert_eq!(words::run(&mut tables, &requests, &mut answers[..2]).no, 1);
+/// }
+/// ```
+pub fn run(tables: &mut [u32], requests: &[u32], answers: &mut [u32]) -> Answer {
+    // SAFETY: as for `step`.
+    unpacked(unsafe {
+        let (words, places) = (tables.len(), answers.len());
+        mms_run(tables.as_mut_ptr(), words, requests.as_ptr(), requests.len(), answers.as_mut_ptr(), places)
+    })
 }
 
 /// The disclosure list of a user [rule 10], as entries of five words at the front of the room: 0 with their count, 17
