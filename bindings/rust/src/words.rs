@@ -83,12 +83,12 @@ pub fn step(tables: &mut [u32], request: &[u32]) -> Answer {
     unpacked(unsafe { mms_step(tables.as_mut_ptr(), tables.len(), request.as_ptr(), request.len()) })
 }
 
-/// Requests in order, sixteen words each, on tables that are checked once: 0, and each request's answer, 0 to 16, in its
-/// own place at the front of `answers`. Answers and tables are those of as many steps. A refused request is an answer
-/// like any other: the next one follows.
+/// Requests in order, sixteen words each: 0 or 1. With 0 the tables were checked once, and place i of `answers` has the
+/// bare answer of request i, 0 or 2 to 16. Tables and answers are those of as many steps: a refused request does not
+/// end the run, and places behind the last request stay.
 ///
-/// It answers 1 where the tables are not 2,304 words, the requests not a multiple of 16, or the places fewer than the
-/// requests; then neither tables nor places change. Places beyond the requests never do.
+/// With 1 the tables are not 2,304 words, the words of the requests no multiple of 16, or the places fewer than the
+/// requests, and neither tables nor places change.
 ///
 /// ```
 /// use mms::words::{self, Answer};
