@@ -15,6 +15,8 @@
 //!     assert_eq!(words::step(&mut tables, &request), Answer { no: 4, number: 0 });
 //! }
 //! ```
+use crate::{Request, REQUEST_WORDS};
+use std::slice;
 
 /// What a call answers: the number of the rules, 0 to 18, and what goes with it [rule 8.6].
 #[derive(Clone, Copy, Debug, PartialEq, Eq, Hash)]
@@ -40,6 +42,12 @@ extern "C" {
     fn mms_list(tables: *const u32, tables_len: usize, user: u32, room: *mut u32, room_len: usize) -> u64;
     fn mms_read(text: *const u8, text_len: usize, request: *mut u32, request_len: usize) -> u64;
     fn mms_write(request: *const u32, request_len: usize, room: *mut u8, room_len: usize) -> u64;
+}
+
+/// The words of requests, one request behind the other, where they lie.
+pub(crate) fn of(requests: &[Request]) -> &[u32] {
+    // SAFETY: a request is laid out as its words, so all that the slice has are as many for each; they are only read.
+    unsafe { slice::from_raw_parts(requests.as_ptr().cast(), requests.len() * REQUEST_WORDS) }
 }
 
 /// The answer is the upper half of what a call returns, and its number the lower.
