@@ -15,6 +15,8 @@
 //!     assert_eq!(words::step(&mut tables, &request), Answer { no: 4, number: 0 });
 //! }
 //! ```
+use crate::{Request, REQUEST_WORDS};
+use std::slice;
 
 /// What a call answers: the number of the rules, 0 to 18, and what goes with it [rule 8.6].
 #[derive(Clone, Copy, Debug, PartialEq, Eq, Hash)]
@@ -29,9 +31,23 @@ pub struct Answer {
 extern "C" {
     fn mms_check(tables: *const u32, tables_len: usize) -> u64;
     fn mms_step(tables: *mut u32, tables_len: usize, request: *const u32, request_len: usize) -> u64;
+    fn mms_run(
+        tables: *mut u32,
+        tables_len: usize,
+        requests: *const u32,
+        requests_len: usize,
+        answers: *mut u32,
+        answers_len: usize,
+    ) -> u64;
     fn mms_list(tables: *const u32, tables_len: usize, user: u32, room: *mut u32, room_len: usize) -> u64;
     fn mms_read(text: *const u8, text_len: usize, request: *mut u32, request_len: usize) -> u64;
     fn mms_write(request: *const u32, request_len: usize, room: *mut u8, room_len: usize) -> u64;
+}
+
+/// The words of requests, one request behind the other, where they lie.
+pub(crate) fn of(requests: &[Request]) -> &[u32] {
+    // SAFETY: a request is laid out as its words, so all that the slice has are as many for each; they are only read.
+    unsafe { slice::from_raw_parts(requests.as_ptr().cast(), requests.len() * REQUEST_WORDS) }
 }
 
 /// The answer is the upper half of what a call returns, and its number the lower.
@@ -73,6 +89,40 @@ pub fn check(tables: &[u32]) -> Answer {
 pub fn step(tables: &mut [u32], request: &[u32]) -> Answer {
     // SAFETY: each slice is lent as its pointer and its length; the borrows keep them apart.
     unpacked(unsafe { mms_step(tables.as_mut_ptr(), tables.len(), request.as_ptr(), request.len()) })
+}
+
+/// Requests in order, sixteen words each: 0 or 1. With 0 the tables were checked once, and place i of `answers` has the
+/// bare answer of request i, 0 or 2 to 16. Tables and answers are those of as many steps: a refused request does not
+/// end the run, and places behind the last request stay.
+///
+/// With 1 the tables are not 2,304 words, the words of the requests no multiple of 16, or the places fewer than the
+/// requests, and neither tables nor places change.
+///
+/// ```
+/// use mms::words::{self, Answer};
+///
+/// fn main() {
+///     let mut tables = [0; 2304];
+///     tables[16] = 1; // there is a user 2, and no user 1
+///     let mut requests = [0; 48];
+///     requests[..2].copy_from_slice(&[2, 99]);
+///     requests[16..18].copy_from_slice(&[1, 99]);
+///     requests[32..34].copy_from_slice(&[2, 99]);
+///     let mut answers = [77; 4];
+///     assert_eq!(words::run(&mut tables, &requests, &mut answers), Answer { no: 0, number: 0 });
+///     assert_eq!(answers, [5, 4, 5, 77]);
+///     // user 2 missed two refusals with 5
+///     assert_eq!(tables[16 + 5..16 + 8], [5, 0, 2]);
+///     // three requests and two places
+///     assert_eq!(words::run(&mut tables, &requests, &mut answers[..2]).no, 1);
+/// }
+/// ```
+pub fn run(tables: &mut [u32], requests: &[u32], answers: &mut [u32]) -> Answer {
+    // SAFETY: as for `step`.
+    unpacked(unsafe {
+        let (words, places) = (tables.len(), answers.len());
+        mms_run(tables.as_mut_ptr(), words, requests.as_ptr(), requests.len(), answers.as_mut_ptr(), places)
+    })
 }
 
 /// The disclosure list of a user [rule 10], as entries of five words at the front of the room: 0 with their count, 17
