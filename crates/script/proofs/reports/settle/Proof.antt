@@ -9,12 +9,12 @@ on-checked-requires : tie.Need-on-checked-requires
 on-checked-requires c κs = search needs
 
 requester-requires : tie.Need-requester-requires
-requester-requires c κs = settled-known (c .before .before .before .before .on-checked .ensures) (inl (c .before .if1 .taken)) .0
+requester-requires c κs = c .before .before .before .before .before .before .before .before .pre .request
 
 full-requires : tie.Need-full-requires
 full-requires c κs =
     let s5 = c .before .before .before .before .before in
-    rw (c .requester .ensures) (settled-known (s5 .on-checked .ensures) (inl (c .before .before .if1 .taken)) .1)
+    rw (c .requester .ensures) (settled-known (s5 .on-checked .ensures) (inl (c .before .before .if1 .taken)))
 
 same-length : tie.Need-same-length
 same-length c = search needs
@@ -36,12 +36,12 @@ returns-2 c =
     settled-bare (s5 c .on-checked .ensures) _ (omega (arith, c .before .before .if1 .left)) (omega (arith, c .before .if2 .taken)) (c .bare .ensures)
 
 requester-requires-2 : tie.Need-requester-requires-2
-requester-requires-2 c κs = settled-known (c .before .before .before .before .before .on-checked .ensures) (inr (omega (arith, c .before .if2 .left))) .0
+requester-requires-2 c κs = c .before .before .before .before .before .before .before .before .before .pre .request
 
 full-requires-2 : tie.Need-full-requires-2
 full-requires-2 c κs =
     let s6 : _ → _ = λ _. c .before .before .before .before .before .before in
-    rw (c .requester2 .ensures) (settled-known (s6 c .on-checked .ensures) (inr (omega (arith, c .before .before .if2 .left))) .1)
+    rw (c .requester2 .ensures) (settled-known (s6 c .on-checked .ensures) (inr (omega (arith, c .before .before .if2 .left))))
 
 same-length-3 : tie.Need-same-length-3
 same-length-3 c = search needs
