@@ -1,6 +1,7 @@
 -- Case states and their cases, each table proved by one computation.
 pub mod Cases
 pub mod Opened
+pub mod Others
 pub mod S1
 pub mod S1Holds
 pub mod S1Words
@@ -11,6 +12,8 @@ pub mod CondemnedFlows
 pub mod Overreach
 pub mod CondemnedLists
 pub mod CondemnedRuns
+pub mod RunLaws
+pub mod CondemnedAnswers
 pub mod Damaged
 pub mod DamagedFound
 pub mod S2

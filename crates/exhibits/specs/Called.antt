@@ -1,16 +1,17 @@
--- What a case says of the exported step. The cases are those of Case/Cases, as they stand there: the requests of a case are calls one after another.
-use mathlib.Core.Bool.{Bool, _&&_, true}
-use mathlib.Core.List.{List, [], _∷_}
+-- What a case says of the exported step, and of the exported run. The cases are those of Case/Cases, as they stand there: the requests of a case are calls
+-- one after another, or one run.
+use mathlib.Core.List.{List, [], _++_, _∷_}
 use mathlib.Core.Path.{_≡_}
-use Prim.Native.Nat.{ℕ}
-use lib.Dec.{T, eqb}
-use lib.ListN.{length}
-use Rattle.mms.specs.Calls.{StepCall}
+use Prim.Native.Nat.{_≤_, ℕ}
+use lib.Dec.{T}
+use lib.ListN.{drop, length}
+use Rattle.mms.specs.Calls.{RunCall, StepCall}
 use Rattle.mms.specs.Contract.{exported}
 use Rattle.mms.specs.RoundTrip.{answering}
-use Rattle.cases.specs.Case.Cases.{Case, Exchange, Stands, _gets_, stand}
-use Rattle.model.specs.Request.Words.{requestWords}
+use Rattle.cases.specs.Case.Cases.{Case, Exchange, Stands, _gets_, asked, gotten, stand}
+use Rattle.model.specs.Basics.Together.{together}
 use Rattle.model.specs.Tables.Layout.{tablesOf}
+use Rattle.model.specs.Request.Refusals as refusal
 
 -- Calls on the words t, each on what the one before it left: whatever word and words meet the promise of a call, the word is that of the answer, which
 -- has no number beside it; and in what the last call leaves the words stand.
@@ -23,11 +24,12 @@ abbrev pub AllConfirmed : List ℕ → List Case → Type 0
 AllConfirmed t [] = Unit {0}
 AllConfirmed t (c ∷ cs) = Confirmed t (c .exchanges) (c .standing) × AllConfirmed t cs
 
--- every request has sixteen words
-abbrev pub inSixteen : List Exchange → Bool
-inSixteen [] = true
-inSixteen (q gets n ∷ es) = eqb (length q) requestWords && inSixteen es
+-- The same in one call of the run, in any room that has a place for each answer: it is accepted, the answers stand at the front of the room, which is as it
+-- was behind them, and in the tables that it leaves the words stand.
+abbrev pub InOneRun : List ℕ → List Exchange → List Stands → Type 0
+InOneRun t es ws = (room : List ℕ) → length es ≤ length room → (a : ℕ) (r s : List ℕ) → RunCall t (together (asked es)) room a r s
+    → (a ≡ exported (answering refusal.accepted 0)) × (s ≡ gotten es ++ drop (length es) room) × T (stand ws (tablesOf r))
 
-abbrev pub allInSixteen : List Case → Bool
-allInSixteen [] = true
-allInSixteen (c ∷ cs) = inSixteen (c .exchanges) && allInSixteen cs
+abbrev pub AllInOneRun : List ℕ → List Case → Type 0
+AllInOneRun t [] = Unit {0}
+AllInOneRun t (c ∷ cs) = InOneRun t (c .exchanges) (c .standing) × AllInOneRun t cs

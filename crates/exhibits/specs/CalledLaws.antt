@@ -1,20 +1,25 @@
 -- What the model computes of a case holds of the calls.
-use mathlib.Core.Bool.{Bool, false, true}
+use mathlib.Core.Bool.{true}
 use mathlib.Core.List.{List, [], _++_, _∷_}
 use mathlib.Core.Path.{_∙_, _≡_, ap, subst, sym}
 use Prim.Native.Nat.{ℕ}
+use native.Mathlib.Omega.{arith}
 use lib.Dec.{T, eqb, eqb→eq}
-use lib.ListN.{length}
-use Rattle.exhibits.specs.Called.{AllConfirmed, Confirmed, allInSixteen, inSixteen}
+use lib.ListN.{drop, length}
+use Rattle.exhibits.specs.Called.{AllConfirmed, AllInOneRun, Confirmed, InOneRun}
 use Rattle.mms.specs.Contract.{Exports, exported}
+use Rattle.mms.specs.MixedLaws.{through-run}
 use Rattle.mms.specs.RoundTrip.{answering}
+use Rattle.mms.specs.RunCallLaws.{run-number}
 use Rattle.mms.specs.declared.Answer.{Answer}
-use Rattle.cases.specs.Case.Cases.{Case, Exchange, Stands, _gets_, allPass, passesAt, stand}
-use Rattle.model.specs.Basics.TestLaws.{T-l, T-r, is-true}
+use Rattle.cases.specs.Case.Cases.{Case, Exchange, Stands, _gets_, allInSixteen, allPass, asked, gotten, inSixteen, passesAt, stand}
+use Rattle.cases.specs.Case.RunLaws.{asked-length, asked-sixteen, case-through, first-passes}
+use Rattle.model.specs.Basics.TestLaws.{T-l, T-r}
 use Rattle.model.specs.Request.After.{after}
 use Rattle.model.specs.Request.Ladder.{answer}
 use Rattle.model.specs.Request.Step.{afterOf, answerOf}
 use Rattle.model.specs.Request.Words.{requestOf, requestWords}
+use Rattle.model.specs.Run.ThroughLaws.{through-length}
 use Rattle.model.specs.Tables.Layout.{tablesOf, wordCount}
 use Rattle.model.specs.Tables.Words.{Tables}
 use Rattle.model.specs.Theorem.Steps.{afterOf-length, afterOf-tables, answerOf-sized, sized-agrees}
@@ -36,15 +41,6 @@ case-called t d (q gets n ∷ es) ws l e s p =
       subst (λ (u : List ℕ). Confirmed u es ws) (sym (x .called .words)) h,
     )
 
--- the first case of a table passes, and so do the others
-first-passes : (d : Tables) (c : Case) (cs : List Case) → allPass d (c ∷ cs) ≡ true → T (passesAt d (c .exchanges) (c .standing)) × (allPass d cs ≡ true)
-unfolding allPass
-first-passes d c cs p = go (passesAt d (c .exchanges) (c .standing)) p
-  where
-    go : (b : Bool) → elim b [ true ↦ allPass d cs | false ↦ false ] ≡ true → T b × (allPass d cs ≡ true)
-    go true z = (tt, z)
-    go false z = absurd (is-true false z)
-
 -- So it is with a table of cases,
 pub cases-called : (t : List ℕ) (d : Tables) (cs : List Case) → length t ≡ wordCount → tablesOf t ≡ d → T (allInSixteen cs) → allPass d cs ≡ true
     → AllConfirmed t cs
@@ -59,6 +55,32 @@ cases-called t d (c ∷ cs) l e s p =
 pub both-called : (t : List ℕ) (cs ds : List Case) → AllConfirmed t cs → AllConfirmed t ds → AllConfirmed t (cs ++ ds)
 both-called t [] ds h k = k
 both-called t (c ∷ cs) ds h k = (h .0, both-called t cs ds (h .1) k)
+
+-- In one run a case has the same answers, and leaves the same words.
+case-run : (t : List ℕ) (d : Tables) (es : List Exchange) (ws : List Stands) → length t ≡ wordCount → tablesOf t ≡ d → T (inSixteen es)
+    → T (passesAt d es ws) → InOneRun t es ws
+case-run t d es ws l e s p room h a r v x =
+    let z = case-through t d es ws l e s p in
+    let n = asked-length es in
+    let k = through-run (z .0) (asked-sixteen es s) l (omega arith) x in
+    let m : length (gotten es) ≡ length es = through-length (z .0) ∙ n in (
+      omega (arith, k .accepted, run-number x),
+      k .answers ∙ ap (λ (i : ℕ). gotten es ++ drop i room) m,
+      subst (λ (u : List ℕ). T (stand ws (tablesOf u))) (sym (k .tables)) (z .1),
+    )
+
+pub cases-run : (t : List ℕ) (d : Tables) (cs : List Case) → length t ≡ wordCount → tablesOf t ≡ d → T (allInSixteen cs) → allPass d cs ≡ true
+    → AllInOneRun t cs
+cases-run t d [] l e s p = tt
+cases-run t d (c ∷ cs) l e s p =
+    let f = first-passes d c cs p in (
+      case-run t d (c .exchanges) (c .standing) l e (T-l (inSixteen (c .exchanges)) (allInSixteen cs) s) (f .0),
+      cases-run t d cs l e (T-r (inSixteen (c .exchanges)) (allInSixteen cs) s) (f .1),
+    )
+
+pub both-run : (t : List ℕ) (cs ds : List Case) → AllInOneRun t cs → AllInOneRun t ds → AllInOneRun t (cs ++ ds)
+both-run t [] ds h k = k
+both-run t (c ∷ cs) ds h k = (h .0, both-run t cs ds (h .1) k)
 
 -- Where any answer that meets a promise is b and leaves s, C gets the word of b, and s is left.
 pub called-word : (P : Answer → List ℕ → Type 0) (b : Answer) (s : List ℕ) → ((a : Answer) (r : List ℕ) → P a r → (a ≡ b) × (r ≡ s))

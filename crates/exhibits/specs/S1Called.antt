@@ -1,18 +1,18 @@
 -- Rule 13: S1's cases hold of the linked calls. Each is said of whatever the exported call answers and leaves.
 use mathlib.Core.List.{List, [], _++_, _∷_}
 use mathlib.Core.Path.{_∙_, _≡_, ap, sym}
-use Prim.Native.Nat.{_*_, ℕ}
+use Prim.Native.Nat.{_*_, _≤_, ℕ}
 use native.Mathlib.Omega.{arith}
 use lib.Dec.{T}
-use lib.ListN.{getD, length}
-use Rattle.exhibits.specs.Called.{AllConfirmed, allInSixteen}
+use lib.ListN.{drop, getD, length}
+use Rattle.exhibits.specs.Called.{AllConfirmed, AllInOneRun}
 use Rattle.exhibits.specs.Listed.{called-1, called-2, called-2-short, called-unmarked}
 use Rattle.exhibits.specs.S1Exhibit.{S1Exhibit}
-use Rattle.exhibits.specs.CalledLaws.{both-called, called-word, cases-called}
-use Rattle.mms.specs.Calls.{StepCall}
+use Rattle.exhibits.specs.CalledLaws.{both-called, both-run, called-word, cases-called, cases-run}
+use Rattle.mms.specs.Calls.{RunCall, StepCall}
 use Rattle.mms.specs.Contract.{Stepping, checking, exported, numbers}
 use Rattle.mms.specs.RoundTrip.{answering}
-use Rattle.cases.specs.Case.Cases.{asking, expect, noted}
+use Rattle.cases.specs.Case.Cases.{allInSixteen, asking, expect, noted}
 use Rattle.cases.specs.Case.S1.{s1, starred, unstarred}
 use Rattle.cases.specs.Case.S1Holds.{starred-hold, unstarred-hold}
 use Rattle.cases.specs.Case.S1Script.{s1-script-only, s1-script-writes}
@@ -53,6 +53,29 @@ s1-acknowledged a b c d r s t u w x y z =
     let j = i .1 c t y in
     (h .0, i .0, j .0, j .1 d u z .0)
 
+-- Every case is one run too.
+unstarred-run : AllInOneRun s1Words unstarred
+unstarred-run = cases-run s1Words s1 unstarred s1Words-length s1Words-tables unstarred-sixteen unstarred-hold
+
+starred-run : AllInOneRun s1Words starred
+starred-run = cases-run s1Words s1 starred s1Words-length s1Words-tables starred-sixteen starred-hold
+
+pub s1-run : AllInOneRun s1Words (starred ++ unstarred)
+s1-run = both-run s1Words starred unstarred starred-run unstarred-run
+
+-- Two of them written out: user 1 takes on roles 5 and releases 6;
+pub s1-released-run : (room : List ℕ) → 2 ≤ length room → (a : ℕ) (r s : List ℕ)
+    → RunCall s1Words (asking 1 14 [] [] 1 5 0 ++ asking 1 19 (6 ∷ []) [] 0 0 0) room a r s → (a ≡ 0) × (s ≡ 0 ∷ 0 ∷ drop 2 room)
+unfolding starred expect noted asking padded
+s1-released-run room h a r s x = let z = starred-run .1 .1 .1 .1 .1 .1 .1 .1 .0 room h a r s x in (z .0, z .1)
+
+-- and user 2 is refused 9 and 15, acknowledges in vain and then rightly.
+pub s1-acknowledged-run : (room : List ℕ) → 4 ≤ length room → (a : ℕ) (r s : List ℕ)
+    → RunCall s1Words (asking 2 10 (4 ∷ 1 ∷ []) [] 3 0 0 ++ (asking 2 10 (5 ∷ []) [] 1 0 0 ++ (asking 2 20 [] [] 9 1 0 ++ asking 2 20 [] [] 9 3 0))) room a r s
+    → (a ≡ 0) × (s ≡ 9 ∷ 15 ∷ 16 ∷ 0 ∷ drop 4 room)
+unfolding unstarred expect noted asking padded
+s1-acknowledged-run room h a r s x = let z = unstarred-run .1 .1 .1 .1 .0 room h a r s x in (z .0, z .1)
+
 -- User 9 is answered 4, whatever is asked, and every word stays.
 pub s1-unknown-called : (q : List ℕ) → length q ≡ requestWords → getD q 0 0 ≡ 9 → (a : ℕ) (r : List ℕ) → StepCall s1Words q a r
     → (a ≡ exported (answering refusal.unknownRequester 0)) × (r ≡ s1Words)
@@ -74,6 +97,7 @@ pub s1-exhibit : S1Exhibit
 s1-exhibit = record {
   checked = sym s1-check-called;
   steps = s1-called;
+  runs = s1-run;
   userNine = s1-unknown-called;
   listOfTwo = called-2;
   shortOfTwo = called-2-short;

@@ -3,7 +3,7 @@ use mathlib.Core.List.{List, [], _++_, _∷_}
 use mathlib.Core.Path.{_≡_}
 use Prim.Native.Nat.{_*_, _<_, _≤_, ℕ}
 use lib.ListN.{drop, getD, length}
-use Rattle.exhibits.specs.Called.{AllConfirmed}
+use Rattle.exhibits.specs.Called.{AllConfirmed, AllInOneRun}
 use Rattle.mms.specs.Calls.{ListCall, Passes, StepCall}
 use Rattle.mms.specs.Contract.{exported}
 use Rattle.mms.specs.RoundTrip.{answering}
@@ -21,6 +21,8 @@ pub record S1Exhibit : Type 0 where
   pub checked : Passes s1Words
   -- Every case of a step, starred or not: each answer on the way, and the words that stand at the end.
   pub steps : AllConfirmed s1Words (starred ++ unstarred)
+  -- Every case of a step as one run from S1's words on: the same answers, each in its place, and the same words at the end.
+  pub runs : AllInOneRun s1Words (starred ++ unstarred)
   -- User 9 is answered 4, whatever the sixteen words ask, and nothing changes.
   pub userNine : (q : List ℕ) → length q ≡ requestWords → getD q 0 0 ≡ 9 → (a : ℕ) (r : List ℕ) → StepCall s1Words q a r
       → (a ≡ exported (answering refusal.unknownRequester 0)) × (r ≡ s1Words)

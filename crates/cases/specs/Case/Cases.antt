@@ -8,7 +8,7 @@ use lib.ListN.{length}
 use Rattle.model.specs.Level.{compartmentCount, levelCount}
 use Rattle.model.specs.Request.After.{after}
 use Rattle.model.specs.Request.Ladder.{answer}
-use Rattle.model.specs.Request.Words.{Request, nameCount, requestOf}
+use Rattle.model.specs.Request.Words.{Request, nameCount, requestOf, requestWords}
 use Rattle.model.specs.Tables.Sheet.{padded}
 use Rattle.model.specs.Tables.Words.{EntityWord, Tables, UserWord, held, heldOp, missed, placeCount}
 
@@ -80,3 +80,21 @@ passesAt d (q gets n ∷ es) ws = eqb (answer d (requestOf q)) n && passesAt (af
 unfoldable pub allPass : Tables → List Case → Bool
 allPass d [] = true
 allPass d (c ∷ cs) = elim (passesAt d (c .exchanges) (c .standing)) [ true ↦ allPass d cs | false ↦ false ]
+
+-- the requests of a case, and the answers that they get
+abbrev pub asked : List Exchange → List (List ℕ)
+asked [] = []
+asked (q gets n ∷ es) = q ∷ asked es
+
+abbrev pub gotten : List Exchange → List ℕ
+gotten [] = []
+gotten (q gets n ∷ es) = n ∷ gotten es
+
+-- every request has sixteen words
+abbrev pub inSixteen : List Exchange → Bool
+inSixteen [] = true
+inSixteen (q gets n ∷ es) = eqb (length q) requestWords && inSixteen es
+
+abbrev pub allInSixteen : List Case → Bool
+allInSixteen [] = true
+allInSixteen (c ∷ cs) = inSixteen (c .exchanges) && allInSixteen cs

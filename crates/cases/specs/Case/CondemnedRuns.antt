@@ -1,15 +1,14 @@
 -- Wrong runs of a script on case state S1, and that the statement of a script's reports rejects them. One of them would pass if the statement did not
 -- tie each report to the tables that the requests before it have left (rule 12.3), or did not say where a run ends (rules 12.2 and 12.4).
-use mathlib.Core.Bool.{Bool, _&&_, false, not, true}
+use mathlib.Core.Bool.{Bool, _&&_}
 use mathlib.Core.List.{List, [], _++_, _∷_, append-nil}
-use mathlib.Core.Logic.{_≢_}
 use mathlib.Core.Path.{_∙_, _≡_, ap, ap₂, refl, subst}
-use Prim.Native.Nat.{_<_, _≤_, suc, zero, ℕ}
+use Prim.Native.Nat.{_<_, _≤_, ℕ}
 use native.Mathlib.Omega.{arith}
-use lib.Dec.{T, T-not, eqb, eqb-refl}
+use lib.Dec.{T, eqb, eqb-refl}
 use lib.ListN.{getD, length, take}
-use Rattle.model.specs.Basics.TestLaws.{T-l, T-r}
 use Rattle.cases.specs.Case.Opened.{opened}
+use Rattle.cases.specs.Case.Others.{both, none-at, other}
 use Rattle.cases.specs.Case.S1.{s1, s1Sheet}
 use Rattle.cases.specs.Case.S1Words.{s1Words, s1Words-length, s1Words-tables}
 use Rattle.model.specs.Request.After.{after}
@@ -95,36 +94,13 @@ three-answered =
 
 -- ---- what is not its run
 
--- whether two lists of reports are the same, and that a list is the same as itself
-abbrev sameReports : List Report → List Report → Bool
-sameReports [] [] = true
-sameReports [] (q ∷ qs) = false
-sameReports (r ∷ rs) [] = false
-sameReports (r ∷ rs) (q ∷ qs) = eqb (r .answer) (q .answer) && (eqb (r .held) (q .held) && (eqb (r .missed) (q .missed) && sameReports rs qs))
+-- whether two reports are the same, and that a report is the same as itself
+abbrev sameReport : Report → Report → Bool
+sameReport r q = eqb (r .answer) (q .answer) && (eqb (r .held) (q .held) && eqb (r .missed) (q .missed))
 
-both : (a b : Bool) → T a → T b → T (a && b)
-both true b p q = q
-both false b p q = absurd p
-
-same-itself : (rs : List Report) → T (sameReports rs rs)
-same-itself [] = tt
-same-itself (r ∷ rs) =
-    both (eqb (r .answer) (r .answer)) _ (eqb-refl (r .answer))
-    (both (eqb (r .held) (r .held)) _ (eqb-refl (r .held))
-    (both (eqb (r .missed) (r .missed)) _ (eqb-refl (r .missed)) (same-itself rs)))
-
--- none of some lists of reports is this one
-abbrev noneIs : List Report → List (List Report) → Bool
-noneIs r [] = true
-noneIs r (w ∷ ws) = not (sameReports w r) && noneIs r ws
-
-other : (w r : List Report) → T (not (sameReports w r)) → w ≢ r
-other w r t e = T-not (sameReports w r) t (subst (λ l. T (sameReports w l)) e (same-itself w))
-
-none-at : (r : List Report) (ws : List (List Report)) → T (noneIs r ws) → (i : ℕ) → i < length ws → getD ws i [] ≢ r
-none-at r [] t i h = absurd (omega arith)
-none-at r (w ∷ ws) t zero h = other w r (T-l (not (sameReports w r)) (noneIs r ws) t)
-none-at r (w ∷ ws) t (suc i) h = none-at r ws (T-r (not (sameReports w r)) (noneIs r ws) t) i (omega arith)
+same-report : (r : Report) → T (sameReport r r)
+same-report r = both (eqb (r .answer) (r .answer)) _ (eqb-refl (r .answer))
+    (both (eqb (r .held) (r .held)) _ (eqb-refl (r .held)) (eqb-refl (r .missed)))
 
 -- ---- work at the wrong time
 
@@ -147,12 +123,12 @@ toldAlone d (m ∷ ms) = told d (requestOf (sixteen m)) ∷ toldAlone d ms
 -- beside each of them held 0 and missed 0.
 pub hurried-condemned : Answered s1Words (texts threeAsked) (beside (leftBy s1 threeAsked) 2 threeReports) → ⊥
 unfolding opened s1 s1Sheet sixteen
-hurried-condemned x = other (beside (leftBy s1 threeAsked) 2 threeReports) threeReports tt (answered-unique x three-answered)
+hurried-condemned x = other sameReport same-report (beside (leftBy s1 threeAsked) 2 threeReports) threeReports tt (answered-unique x three-answered)
 
 -- Rule 12.3: each request found the tables as they were at the start, and so the second refusal was held and the acknowledgement refused.
 pub stale-condemned : Answered s1Words (texts threeAsked) (toldAlone s1 threeAsked) → ⊥
 unfolding opened s1 s1Sheet sixteen untold
-stale-condemned x = other (toldAlone s1 threeAsked) threeReports tt (answered-unique x three-answered)
+stale-condemned x = other sameReport same-report (toldAlone s1 threeAsked) threeReports tt (answered-unique x three-answered)
 
 -- ---- other reports
 
@@ -184,7 +160,7 @@ wrongReports =
 
 -- each of these lists is rejected.
 pub reports-condemned : (i : ℕ) → i < length wrongReports → Answered s1Words (texts threeAsked) (getD wrongReports i []) → ⊥
-reports-condemned i h x = none-at threeReports wrongReports tt i h (answered-unique x three-answered)
+reports-condemned i h x = none-at sameReport same-report threeReports wrongReports tt i h (answered-unique x three-answered)
 
 -- ---- a request that cannot be read
 
@@ -226,4 +202,4 @@ wrongEnds =
 
 -- each of them is rejected, whatever follows the letter.
 pub ends-condemned : (x : List ℕ) (i : ℕ) → i < length wrongEnds → Answered s1Words (damagedScript x) (getD wrongEnds i []) → ⊥
-ends-condemned x i h a = none-at damagedReports wrongEnds tt i h (answered-unique a (damaged-answered x))
+ends-condemned x i h a = none-at sameReport same-report damagedReports wrongEnds tt i h (answered-unique a (damaged-answered x))
