@@ -8,6 +8,8 @@ pub trait Desk {
     fn check(&self, tables: &[u32]) -> Reply;
     /// Carries out one request, or refuses it.
     fn step(&self, tables: &mut [u32], request: &[u32]) -> Reply;
+    /// Carries out or refuses requests one after another.
+    fn run(&self, tables: &mut [u32], requests: &[u32], answers: &mut [u32]) -> Reply;
     /// Lists what a user could show.
     fn list(&self, tables: &[u32], user: u32, room: &mut [u32]) -> Reply;
     /// Turns a text into the words of a request.
@@ -15,7 +17,7 @@ pub trait Desk {
     /// Turns the words of a request into a text.
     fn write(&self, request: &[u32], room: &mut [u8]) -> Reply;
     /// Gives what the program writes for a script.
-    fn run(&self, state: &[u8], script: &[u8]) -> Vec<u8>;
+    fn script(&self, state: &[u8], script: &[u8]) -> Vec<u8>;
 }
 
 impl<R: Rules> Desk for R {
@@ -25,6 +27,10 @@ impl<R: Rules> Desk for R {
 
     fn step(&self, tables: &mut [u32], request: &[u32]) -> Reply {
         crate::step::<R>(tables, request)
+    }
+
+    fn run(&self, tables: &mut [u32], requests: &[u32], answers: &mut [u32]) -> Reply {
+        crate::run::<R>(tables, requests, answers)
     }
 
     fn list(&self, tables: &[u32], user: u32, room: &mut [u32]) -> Reply {
@@ -39,8 +45,8 @@ impl<R: Rules> Desk for R {
         crate::write::<R>(request, room)
     }
 
-    fn run(&self, state: &[u8], script: &[u8]) -> Vec<u8> {
-        crate::run::<R>(state, script)
+    fn script(&self, state: &[u8], script: &[u8]) -> Vec<u8> {
+        crate::script::<R>(state, script)
     }
 }
 
