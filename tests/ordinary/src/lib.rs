@@ -20,7 +20,7 @@ mod text;
 mod words;
 
 pub use refusal::Reply;
-pub use rules::{Desk, Right, Rules, Wrong, WRONG};
+pub use rules::{Calls, Desk, Right, Rules, Wrong, WRONG};
 pub use words::{ENTRY_WORDS, REQUEST_WORDS, TABLE_WORDS};
 
 use refusal::Refusal;
