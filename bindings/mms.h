@@ -1,19 +1,21 @@
 /*
- * The message desk for C and C++: the five calls of the proved archive,
+ * The message desk for C and C++: the six calls of the proved archive,
  * libmms.a, and names for the numbers that they take and give. Rules are cited
  * by their numbers in docs/RULES.md, which says all that the calls do.
  *
  * A slice is a pointer, then a length in elements (words or bytes). Any length
- * may be given: tables that are not 2,304 words and requests that are not 16 are
- * answered with 1, and a room that is too short with 17.
+ * may be given: tables that are not 2,304 words, requests that are not 16 words
+ * each and fewer places than requests are answered with 1, and a room that is
+ * too short with 17.
  *
  * The caller sees to two things. Nothing in C can look at them, and what is
  * proved of the calls rests on them:
  *
  *   - A pointer is valid and aligned for as many elements as its length says.
  *     With length 0 it is any pointer that is not null, to anything.
- *   - What a call may write to does not overlap the call's other slice: the
- *     tables of a step not its request, the room of a list not the tables, the
+ *   - What a call may write to does not overlap the call's other slices: the
+ *     tables of a step not its request, the tables and the places of a run not
+ *     each other and not its requests, the room of a list not the tables, the
  *     words that are read not their text, the text that is written not its
  *     words.
  *
@@ -59,6 +61,21 @@ uint64_t mms_check(const uint32_t *tables, size_t tables_len);
  * to 16 the requester's words 5 to 7 take the notice.
  */
 uint64_t mms_step(uint32_t *tables, size_t tables_len, const uint32_t *request, size_t request_len);
+
+/*
+ * Requests one behind the other, of MMS_REQUEST_WORDS words each: 0 or 1. With 0
+ * the tables were checked once, and each request was done on what those before
+ * it left: tables and answers are those of as many calls of mms_step. Place i of
+ * `answers` has the bare answer of request i, 0 or 2 to 16; places behind the
+ * last request stay. A refused request does not end the run. Where the tables
+ * fail the check, every answer is 2 or 3, and the tables stay.
+ *
+ * It is 1 where the tables are not MMS_TABLE_WORDS words, the words of the
+ * requests no multiple of MMS_REQUEST_WORDS, or the places fewer than the
+ * requests; then neither tables nor places change.
+ */
+uint64_t mms_run(uint32_t *tables, size_t tables_len, const uint32_t *requests, size_t requests_len, uint32_t *answers,
+                 size_t answers_len);
 
 /*
  * The disclosure list of a user (10): 0, 1 to 4, 6 or 17. With 0 the entries,
@@ -113,7 +130,7 @@ enum mms_size {
 
 enum mms_refusal {
     MMS_ACCEPTED = 0,          /* done */
-    MMS_BAD_LENGTH = 1,        /* tables or a request of another length */
+    MMS_BAD_LENGTH = 1,        /* tables or a request of another length, or too few places for answers */
     MMS_NOT_WELL_FORMED = 2,   /* the tables are not well-formed (3) */
     MMS_NOT_SECURE = 3,        /* the tables are not secure (4) */
     MMS_UNKNOWN_REQUESTER = 4, /* who asks is no present user */

@@ -2,7 +2,8 @@
 //!
 //! The desk keeps messages at different levels of secrecy. Its memory is [`Tables`]. A user sends a [`Request`] to
 //! [`Tables::step`], which does it, or refuses it with a [`Refusal`] and keeps a [`Notice`] for the user;
-//! [`Tables::list`] says what a user could be shown. Rules are cited by their numbers in `docs/RULES.md`.
+//! [`Tables::run`] does as many as there are in one call, and [`Tables::list`] says what a user could be shown. Rules
+//! are cited by their numbers in `docs/RULES.md`.
 //!
 //! ```
 //! use mms::{Entity, Level, Refusal, Request, Roles, Tables, User};
@@ -26,7 +27,7 @@
 //! }
 //! ```
 //!
-//! What is proved is the archive behind [`words`]: its five calls answer as the rules say, for any words and bytes. The
+//! What is proved is the archive behind [`words`]: its six calls answer as the rules say, for any words and bytes. The
 //! types here are ordinary Rust that hands words to those calls and takes them back. [`words`] is there for who has
 //! slices of their own.
 //!
@@ -48,7 +49,7 @@ mod request;
 mod sets;
 mod tables;
 mod triple;
-#[allow(unsafe_code)] // the one place where the archive is called
+#[allow(unsafe_code)] // the one place where the archive is called, and requests are taken as their words
 pub mod words;
 
 pub use layout::{ENTRY_WORDS, REQUEST_WORDS, STATE_BYTES, TABLE_WORDS, TEXT_MOST};

@@ -20,7 +20,7 @@ use std::{error::Error, fmt};
 /// ```
 #[derive(Clone, Copy, Debug, PartialEq, Eq, Hash, PartialOrd, Ord)]
 pub enum Refusal {
-    /// 1: tables or a request of another length.
+    /// 1: tables or a request of another length, or too few places for answers.
     BadLength,
     /// 2: the tables are not well-formed [rule 3].
     NotWellFormed,
@@ -121,7 +121,7 @@ impl Refusal {
     /// What happened, in words; of 17 and 18 without the number that goes with them.
     const fn reason(self) -> &'static str {
         match self {
-            Refusal::BadLength => "the tables are not 2,304 words, or the request is not 16",
+            Refusal::BadLength => "the tables are not 2,304 words, a request is not 16, or there are too few places",
             Refusal::NotWellFormed => "the tables are not well-formed",
             Refusal::NotSecure => "the tables are not secure",
             Refusal::UnknownRequester => "the requester is no present user",

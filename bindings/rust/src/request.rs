@@ -23,6 +23,7 @@ use crate::{words, BadLine, Operation, Reference, Refusal, User};
 /// }
 /// ```
 #[derive(Clone, Copy, Debug, PartialEq, Eq, Hash, PartialOrd, Ord)]
+#[repr(transparent)] // its words and nothing else, so that requests in a row are lent as words where they lie
 pub struct Request {
     words: [u32; REQUEST_WORDS],
 }

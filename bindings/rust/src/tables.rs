@@ -4,7 +4,8 @@ mod reading;
 pub use reading::Notice;
 
 use crate::layout::{ENTITY_WORDS, ENTRY_WORDS, STATE_BYTES, TABLE_WORDS, USERS, USER_WORDS, WORD_BYTES};
-use crate::{words, Entity, Reference, Refusal, Request, User};
+use crate::words::{self, Answer};
+use crate::{Entity, Reference, Refusal, Request, User};
 use std::fmt;
 
 /// The desk's whole memory: 2,304 words for 16 users and 64 entities [rule 2.1].
@@ -133,6 +134,60 @@ impl Tables {
     /// held there if none was; with 2 to 4 everything stays as it was.
     pub fn step(&mut self, request: &Request) -> Result<(), Refusal> {
         words::step(&mut self.words[..], request.as_words()).result().map(drop)
+    }
+
+    /// Requests in order, each with the answer that [`step`](Tables::step) would give it on what those before it left.
+    /// Tables and answers are those of as many steps, and so they are wherever the requests are cut into several runs;
+    /// but the tables are checked once. A refused request does not end the run.
+    ///
+    /// ```
+    /// use mms::{Level, Refusal, Request, Roles, Tables, User};
+    ///
+    /// fn main() -> Result<(), Box<dyn std::error::Error>> {
+    ///     let (user, nobody) = (User::try_from(2)?, User::try_from(3)?);
+    ///     let mut tables = Tables::empty();
+    ///     tables.put_user(user, Level::LOWEST, Roles::NONE);
+    ///     // the user is logged off, and acknowledges what comes of it
+    ///     let read = Request::acknowledge(user, Refusal::NotLoggedOn, 1);
+    ///     let answers = tables.run(&[Request::clear(user), Request::clear(nobody), read]);
+    ///     assert_eq!(answers, [Err(Refusal::NotLoggedOn), Err(Refusal::UnknownRequester), Ok(())]);
+    ///     assert_eq!(tables.notice(user), None);
+    ///
+    ///     // on tables that are not well-formed every request is refused
+    ///     tables.as_words_mut()[0] = 7;
+    ///     assert_eq!(tables.run(&[read, read]), [Err(Refusal::NotWellFormed); 2]);
+    ///     Ok(())
+    /// }
+    /// ```
+    pub fn run(&mut self, requests: &[Request]) -> Vec<Result<(), Refusal>> {
+        let mut answers = vec![0; requests.len()];
+        self.run_into(requests, &mut answers).expect("there is a place for each request");
+        answers.into_iter().map(|no| Answer { no, number: 0 }.result().map(drop)).collect()
+    }
+
+    /// The same run with its answers as numbers, 0 for accepted, at the front of places that are lent; those behind
+    /// stay as they were.
+    ///
+    /// # Errors
+    ///
+    /// [`Refusal::BadLength`] where there are fewer places than requests. Tables and places stay as they were.
+    ///
+    /// ```
+    /// use mms::{Refusal, Request, Tables, User};
+    ///
+    /// fn main() -> Result<(), Box<dyn std::error::Error>> {
+    ///     let requests = [Request::clear(User::try_from(1)?); 2];
+    ///     let mut answers = [77; 3];
+    ///     assert_eq!(Tables::empty().run_into(&requests, &mut answers[..1]), Err(Refusal::BadLength));
+    ///     assert_eq!(answers, [77; 3]);
+    ///     Tables::empty().run_into(&requests, &mut answers)?;
+    ///     // there is no user 1 in empty tables
+    ///     assert_eq!(answers, [4, 4, 77]);
+    ///     Ok(())
+    /// }
+    /// ```
+    pub fn run_into(&mut self, requests: &[Request], answers: &mut [u32]) -> Result<(), Refusal> {
+        words::run(&mut self.words[..], words::of(requests), answers).result().map(drop)
     }
 
     /// The disclosure list [rule 10]: every reference by which a show of value and label to this user would be

@@ -15,6 +15,8 @@
 //!     assert_eq!(words::step(&mut tables, &request), Answer { no: 4, number: 0 });
 //! }
 //! ```
+use crate::{Request, REQUEST_WORDS};
+use std::slice;
 
 /// What a call answers: the number of the rules, 0 to 18, and what goes with it [rule 8.6].
 #[derive(Clone, Copy, Debug, PartialEq, Eq, Hash)]
@@ -40,6 +42,12 @@ extern "C" {
     fn mms_list(tables: *const u32, tables_len: usize, user: u32, room: *mut u32, room_len: usize) -> u64;
     fn mms_read(text: *const u8, text_len: usize, request: *mut u32, request_len: usize) -> u64;
     fn mms_write(request: *const u32, request_len: usize, room: *mut u8, room_len: usize) -> u64;
+}
+
+/// The words of requests, one request behind the other, where they lie.
+pub(crate) fn of(requests: &[Request]) -> &[u32] {
+    // SAFETY: a request is laid out as its words, so all that the slice has are as many for each; they are only read.
+    unsafe { slice::from_raw_parts(requests.as_ptr().cast(), requests.len() * REQUEST_WORDS) }
 }
 
 /// The answer is the upper half of what a call returns, and its number the lower.
@@ -83,12 +91,12 @@ pub fn step(tables: &mut [u32], request: &[u32]) -> Answer {
     unpacked(unsafe { mms_step(tables.as_mut_ptr(), tables.len(), request.as_ptr(), request.len()) })
 }
 
-/// Requests in order, sixteen words each, on tables that are checked once: 0, and each request's answer, 0 to 16, in its
-/// own place at the front of `answers`. Answers and tables are those of as many steps. A refused request is an answer
-/// like any other: the next one follows.
+/// Requests in order, sixteen words each: 0 or 1. With 0 the tables were checked once, and place i of `answers` has the
+/// bare answer of request i, 0 or 2 to 16. Tables and answers are those of as many steps: a refused request does not
+/// end the run, and places behind the last request stay.
 ///
-/// It answers 1 where the tables are not 2,304 words, the requests not a multiple of 16, or the places fewer than the
-/// requests; then neither tables nor places change. Places beyond the requests never do.
+/// With 1 the tables are not 2,304 words, the words of the requests no multiple of 16, or the places fewer than the
+/// requests, and neither tables nor places change.
 ///
 /// ```
 /// use mms::words::{self, Answer};

@@ -1,4 +1,5 @@
-//! The header for C gives the same names the same numbers: each name that it has is compared, and none is left out.
+//! The header for C gives the same names the same numbers and declares the same calls: each name that it has is compared,
+//! and none is left out.
 use mms::{Kind, Level, Operation, Refusal, Roles, Shown, Sort, Type, Who};
 use std::collections::{BTreeMap, BTreeSet};
 use std::fmt::Debug;
@@ -9,8 +10,12 @@ use std::fmt::Debug;
 mod layout;
 
 type Numbers = BTreeMap<String, u32>;
+/// The parameters of each call, as Rust writes them.
+type Calls = BTreeMap<String, Vec<String>>;
 
 const HEADER: &str = include_str!("../../mms.h");
+/// Where the crate declares the calls.
+const WORDS: &str = include_str!("../src/words.rs");
 /// What keeps the header from being read twice, the one name that is no number.
 const GUARD: &str = "MMS_H";
 
@@ -136,4 +141,35 @@ fn every_name_of_the_header_has_its_number() {
     numbers.extend(positions().into_iter().map(|(name, at)| (name.to_string(), at as u32)));
     assert_eq!(enumerators(), numbers);
     assert_eq!(spoken_of(), numbers.keys().map(String::as_str).collect());
+}
+
+/// The calls that a source declares: each begins and ends so, with the rest of its name and the parameters between.
+fn declared(source: &str, begins: &str, ends: &str, parameter: impl Fn(&str) -> String) -> Calls {
+    let in_one_line = source.split_whitespace().collect::<Vec<_>>().join(" ");
+    let declarations = in_one_line.split(begins).skip(1);
+    let parts = declarations.map(|text| text.split_once(ends).expect("it ends").0.split_once('(').expect("parameters"));
+    let in_rust = |list: &str| list.split(',').map(str::trim).filter(|one| !one.is_empty()).map(&parameter).collect();
+    parts.map(|(name, list)| (name.to_string(), in_rust(list))).collect()
+}
+
+/// A parameter of C as Rust writes it: `const uint8_t *text` is `text: *const u8`.
+fn in_rust(parameter: &str) -> String {
+    let (sort, name) = parameter.split_at(parameter.rfind(|c: char| " *".contains(c)).expect("a type and a name") + 1);
+    let sort = match sort.trim() {
+        "size_t" => "usize",
+        "uint32_t" => "u32",
+        "uint32_t *" => "*mut u32",
+        "const uint32_t *" => "*const u32",
+        "uint8_t *" => "*mut u8",
+        "const uint8_t *" => "*const u8",
+        other => panic!("{} is the type of no parameter", other),
+    };
+    format!("{}: {}", name, sort)
+}
+
+#[test]
+fn every_call_of_the_header_is_declared_in_the_crate_and_takes_the_same() {
+    let calls = declared(HEADER, "uint64_t mms_", ");", in_rust);
+    assert_eq!(calls.keys().collect::<Vec<_>>(), ["check", "list", "read", "run", "step", "write"]);
+    assert_eq!(calls, declared(WORDS, "fn mms_", ") -> u64;", str::to_string));
 }

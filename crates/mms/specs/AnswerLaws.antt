@@ -39,18 +39,6 @@ has-member n (x ∷ l) t = go (eqb n x) (same n x) t (has-member n l)
     go true (it e) t more = List·Memᴰ·head e
     go false e t more = List·Memᴰ·tail (more t)
 
--- ---- the check
-
-pub check-range : (t : List ℕ) → check t ≤ refusal.notSecure
-unfolding check judge
-check-range t = go (eqb (length t) wordCount) (wellFormedTest (tablesOf t)) (secureTest (tablesOf t))
-  where
-    go : (a w s : Bool) → checked a w s ≤ refusal.notSecure
-    go true true true = omega arith
-    go true true false = omega arith
-    go true false s = omega arith
-    go false w s = omega arith
-
 -- ---- the list
 
 -- what the list can answer

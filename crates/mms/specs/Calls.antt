@@ -1,12 +1,13 @@
--- Document 01, "What a reader can rely on": the calls that are linked, as sentences about what was lent, the word that C gets and what stands
+-- Document 01, "What a reader can rely on"; document 02, M-100: the calls that are linked, as sentences about what was lent, the word that C gets and what stands
 -- afterwards. Each is what the call's contract in src/lib.rt ensures, under a name that can be read aloud.
-use mathlib.Core.List.{List, [], _++_}
+use mathlib.Core.List.{List, [], _++_, _∷_}
 use mathlib.Core.Logic.{_≢_, _⊎_}
 use mathlib.Core.Path.{_≡_}
 use Prim.Native.Nat.{_%_, _/_, _<_, _≤_, suc, ℕ}
-use lib.ListN.{getD, length}
-use Rattle.mms.specs.Contract.{Exports, Listing, Reading, Stepping, Writing, checking, exported, numbers}
+use lib.ListN.{getD, length, take}
+use Rattle.mms.specs.Contract.{Exports, Listing, Reading, Running, Stepping, Writing, checking, exported, numbers}
 use Rattle.model.specs.Request.Words.{requestOf}
+use Rattle.model.specs.Run.Requests.{Requests}
 use Rattle.model.specs.Script.Reports.{Report, unread}
 use Rattle.model.specs.Script.Runs.{requests, texts}
 use Rattle.model.specs.State.Secure.{Secure}
@@ -36,6 +37,10 @@ ReadCall s w a r = Exports (Reading s w) a r
 -- `mms_write`, lent the request w and a room, answers a and leaves r in the room.
 abbrev pub WriteCall : List ℕ → List ℕ → ℕ → List ℕ → Type 0
 WriteCall w room a r = Exports (Writing w room) a r
+
+-- `mms_run`, lent the tables t, the words w of requests and a room for answers, answers a, and leaves r in the tables and s in the room.
+abbrev pub RunCall : List ℕ → List ℕ → List ℕ → ℕ → List ℕ → List ℕ → Type 0
+RunCall t w room a r s = Exports (λ b u. Running t w room b u s) a r
 
 -- Rule 8.6: the answer in the word that C gets,
 abbrev pub noIn : ℕ → ℕ
@@ -68,6 +73,26 @@ pub data Unsound (t : List ℕ) : ℕ → Type 0 where
 -- Calls of `mms_step` one after another, m of them, each given what the last one left. A request may have any length.
 pub record StepCalls (m : ℕ) (tables requests : ℕ → List ℕ) (answers : ℕ → ℕ) : Type 0 where
   pub each : (i : ℕ) → i < m → StepCall (tables i) (requests i) (answers i) (tables (suc i))
+
+-- Rule 15.5: calls of `mms_step` and of `mms_run` in any order, each given what the last one left. From the tables t on they have put the requests qs to
+-- them, were answered ns, an answer for each, and have left u. A run that is refused has put nothing.
+pub data MixedCalls : List ℕ → List (List ℕ) → List ℕ → List ℕ → Type 0 where
+  noCall : {t : List ℕ} → MixedCalls t [] [] t
+  stepped : {t q r u : List ℕ} {a : ℕ} {qs : List (List ℕ)} {ns : List ℕ} → StepCall t q a r → MixedCalls r qs ns u → MixedCalls t (q ∷ qs) (noIn a ∷ ns) u
+  ran : {t w room r s u : List ℕ} {a : ℕ} {ps qs : List (List ℕ)} {ns : List ℕ} → RunCall t w room a r s → noIn a ≡ refusal.accepted → Requests w ps
+      → MixedCalls r qs ns u → MixedCalls t (ps ++ qs) (take (length ps) s ++ ns) u
+  runRefused : {t w room r s u : List ℕ} {a : ℕ} {qs : List (List ℕ)} {ns : List ℕ} → RunCall t w room a r s → noIn a ≢ refusal.accepted
+      → MixedCalls r qs ns u → MixedCalls t qs ns u
+
+-- The requests qs, put to the tables t by calls of `mms_step` alone: they are answered ns, and leave u.
+pub record SingleSteps (t : List ℕ) (qs : List (List ℕ)) (ns u : List ℕ) : Type 0 where
+  pub tables : ℕ → List ℕ
+  pub answers : ℕ → ℕ
+  pub starts : tables 0 ≡ t
+  pub calls : StepCalls (length qs) tables (λ i. getD qs i []) answers
+  pub answered : (i : ℕ) → i < length qs → noIn (answers i) ≡ getD ns i 0
+  pub many : length ns ≡ length qs
+  pub ends : tables (length qs) ≡ u
 
 -- Rule 8.2: r differs from t in words 5 to 7 of the user u, or in none.
 pub record OnlyNotice (t : List ℕ) (u : ℕ) (r : List ℕ) : Type 0 where

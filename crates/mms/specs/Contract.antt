@@ -1,11 +1,12 @@
--- Document 01, "The refusal ladder" and "What a reader can rely on"; rules 8.6 and 14.1: what the public calls promise, for all words. Every call
--- answers a pair; the check and the step have no number to give.
+-- Document 01, "The refusal ladder" and "What a reader can rely on"; document 02, M-100; rules 8.6 and 14.1: what the public calls promise, for all
+-- words. Every call answers a pair; the check, the step and the run have no number to give.
 use mathlib.Core.List.{List}
 use mathlib.Core.Path.{_≡_}
 use Prim.Native.Nat.{_*_, _+_, suc, ℕ}
 use Rattle.mms.specs.declared.Answer.{Answer}
 use Rattle.model.specs.List.Listing.{Lists}
 use Rattle.model.specs.Request.Step.{afterOf, answerOf}
+use Rattle.model.specs.Run.Run.{runAnswer, runRoom, runTables}
 use Rattle.model.specs.State.Check.{check}
 use Rattle.model.specs.Text.Numbers.{most}
 use Rattle.model.specs.Text.Reading.{Reads}
@@ -36,6 +37,12 @@ Reading s w a r = Reads s w (a .no) (a .number) r
 abbrev pub Writing : List ℕ → List ℕ → Answer → List ℕ → Type 0
 Writing w room a r = Writes w room (a .no) (a .number) r
 
+-- Rule 15: the answer a, the words r that stand in the tables afterwards, and the words s that stand in the room for answers. The requests w are only read.
+pub record Running (t w room : List ℕ) (a : Answer) (r s : List ℕ) : Type 0 where
+  pub answer : a ≡ record { no = runAnswer t w room; number = 0 }
+  pub tables : r ≡ runTables t w room
+  pub answers : s ≡ runRoom t w room
+
 -- how many numbers 32 bits can be
 abbrev pub numbers : ℕ
 numbers = suc most
@@ -44,7 +51,8 @@ numbers = suc most
 abbrev pub exported : Answer → ℕ
 exported a = a .no * numbers + a .number
 
--- A call that promises P of its answer and of what stands afterwards in the slice that it writes, for C: the answer comes in one word.
+-- A call that promises P of its answer and of what stands afterwards in the slice that it writes, for C: the answer comes in one word. The run
+-- writes two; there P speaks of both.
 pub record Exports (P : Answer → List ℕ → Type 0) (a : ℕ) (r : List ℕ) : Type 0 where
   pub answer : Answer
   pub called : P answer r

@@ -1,21 +1,22 @@
 -- Demand 1 is met.
 use mathlib.Core.Bool.{Bool, false, true}
-use mathlib.Core.List.{List, _++_}
+use mathlib.Core.List.{List, [], _++_}
 use mathlib.Core.Logic.{_≢_}
 use mathlib.Core.Path.{_∙_, _≡_, ap, refl, subst, sym}
 use Prim.Native.Nat.{_*_, _<_, _≤_, ℕ}
 use native.Mathlib.Omega.{arith}
 use lib.Dec.{eqb}
-use lib.ListN.{drop, length}
-use Rattle.mms.specs.AnswerLaws.{check-range, list-answers, list-number, list-unchanged, read-answers, read-line, read-number}
+use lib.ListN.{drop, getD, length}
+use Rattle.mms.specs.AnswerLaws.{list-answers, list-number, list-unchanged, read-answers, read-line, read-number}
 use Rattle.mms.specs.AnswerLaws.{read-unchanged, write-answers, write-number, write-unchanged}
 use Rattle.mms.specs.CallLaws.{answered-size, check-no, check-number, list-halves, passes-check, read-halves, step-call, step-left, step-no, step-number}
 use Rattle.mms.specs.CallLaws.{step-sequence, write-halves}
-use Rattle.mms.specs.Calls.{ListCall, OnlyNotice, ReadCall, StepCall, WriteCall, noIn, requester}
+use Rattle.mms.specs.Calls.{ListCall, MixedCalls, OnlyNotice, Passes, ReadCall, SingleSteps, StepCall, WriteCall, noIn, requester}
 use Rattle.mms.specs.Contract.{Exports, Listing, Reading, Writing, checking, exported}
-use Rattle.mms.specs.Demands.{DemandOne, OneAnswer}
+use Rattle.mms.specs.Demands.{DemandOne, OneAnswer, OneRun}
 use Rattle.mms.specs.NoticeWordLaws.{quiet-words}
-use Rattle.mms.specs.Unique.{exported-list-unique, exported-read-unique, exported-step-unique, exported-write-unique}
+use Rattle.mms.specs.RunCallLaws.{run-number, run-range, run-unchanged}
+use Rattle.mms.specs.Unique.{exported-list-unique, exported-read-unique, exported-run-unique, exported-step-unique, exported-write-unique}
 use Rattle.mms.specs.declared.Answer.{Answer}
 use Rattle.model.specs.Basics.Cases.{cases, lt-or-le}
 use Rattle.model.specs.Basics.Choice.{Same, it, other, same}
@@ -23,15 +24,17 @@ use Rattle.model.specs.List.Listing.{barred, entries, entryWords}
 use Rattle.model.specs.List.ListingLaws.{lists-refused, lists-short, lists-written}
 use Rattle.model.specs.List.Ways.{found}
 use Rattle.model.specs.Request.Step.{afterOf}
+use Rattle.model.specs.Run.Run.{runAnswer, runRoom, runTables}
 use Rattle.model.specs.Tables.Layout.{tablesOf}
 use Rattle.model.specs.Tables.Words.{firstNoticed}
 use Rattle.model.specs.Text.Reading.{readAnswer, readNumber, wordsAfter}
 use Rattle.model.specs.Text.Writing.{bytesAfter, writeAnswer, writeNumber}
 use Rattle.model.specs.Theorem.Definitions.{Quiet}
+use Rattle.model.specs.Theorem.Sequence.{Noticed}
 use Rattle.model.specs.Theorem.SequenceLaws.{answerOf-range, sequence-noticed}
 use Rattle.model.specs.Theorem.SequenceStep.{others-noticed}
 use Rattle.model.specs.Theorem.Statements.{SameNotice}
-use Rattle.model.specs.Theorem.Steps.{afterOf-length, high-refusal-words, low-refusal-words}
+use Rattle.model.specs.Theorem.Steps.{afterOf-length, check-range, high-refusal-words, low-refusal-words}
 use Rattle.model.specs.Request.Refusals as refusal
 
 -- whatever meets a promise does so for C
@@ -54,6 +57,21 @@ list-ends t u room = go (eqb (barred t u) refusal.accepted) (same (barred t u) r
 
 step-settled : (t q : List ℕ) → OneAnswer (StepCall t q)
 step-settled t q = record { ends = (_, afterOf t q, step-call t q); once = exported-step-unique t q }
+
+run-settled : (t w room : List ℕ) → OneRun t w room
+run-settled t w room = record {
+  ends = (
+    _,
+    runTables t w room,
+    runRoom t w room,
+    record {
+      answer = record { no = runAnswer t w room; number = 0 };
+      called = record { answer = refl; tables = refl; answers = refl };
+      word = refl;
+    },
+  );
+  once = exported-run-unique t w room;
+}
 
 list-settled : (t : List ℕ) (u : ℕ) (room : List ℕ) → OneAnswer (ListCall t u room)
 list-settled t u room = record { ends = list-ends t u room; once = exported-list-unique t u room }
@@ -89,15 +107,26 @@ module _ {t q : List ℕ} {a : ℕ} {r : List ℕ} (x : StepCall t q a r) where
   step-others : (y : ℕ) → y ≢ requester q → SameNotice (tablesOf t) (tablesOf r) y
   step-others y n = subst (λ (l : List ℕ). SameNotice (tablesOf t) (tablesOf l) y) (sym (step-left x)) (others-noticed t q y n)
 
+-- single steps of a mixture leave the notices that a sequence of steps leaves
+mixed-noticed : {t u : List ℕ} {qs : List (List ℕ)} {ns : List ℕ} → MixedCalls t qs ns u → Passes t → (k : SingleSteps t qs ns u)
+    → (x : ℕ) → Noticed (k .tables) (λ i. getD qs i []) (λ i. getD ns i 0) x (length qs)
+mixed-noticed {qs = qs} {ns = ns} m p k =
+    let s = step-sequence (length qs) (k .tables) (λ i. getD qs i []) (k .answers) (k .calls) in
+    sequence-noticed (k .tables) (λ i. getD qs i []) (λ i. getD ns i 0) (length qs)
+    (record { answered = λ i h. sym (k .answered i h) ∙ s .answered i h; left = s .left })
+    (passes-check (k .tables 0) (subst Passes (sym (k .starts)) p))
+
 pub demandOne : DemandOne
 demandOne = record {
   checkSettled = λ t. (exported (checking t), refl, λ b e. e);
   stepSettled = step-settled;
+  runSettled = run-settled;
   listSettled = list-settled;
   readSettled = read-settled;
   writeSettled = write-settled;
   checkAnswers = λ t a x. (omega (arith, check-no t a x, check-range t), check-number t a x);
   stepAnswers = λ {t} {q} x. (omega (arith, step-no x, answerOf-range t q), step-number x);
+  runAnswers = λ x. (run-range x, run-number x);
   listAnswers = λ x. list-answers (list-halves x);
   numberOfList = λ x. list-number (list-halves x);
   readAnswers = λ x. read-answers (read-halves x);
@@ -106,11 +135,13 @@ demandOne = record {
   writeAnswers = λ x. write-answers (write-halves x);
   numberOfWrite = λ x. write-number (write-halves x);
   stepUnchanged = step-unchanged;
+  runUnchanged = λ x. run-unchanged x;
   listUnchanged = λ x. list-unchanged (list-halves x);
   readUnchanged = λ x. read-unchanged (read-halves x);
   writeUnchanged = λ x. write-unchanged (write-halves x);
   stepNotice = step-only-notice;
   noticeKept = λ m tables requests answers c p.
       sequence-noticed tables requests (λ i. noIn (answers i)) m (step-sequence m tables requests answers c) (passes-check (tables 0) p);
+  noticeMixed = mixed-noticed;
   noticeOfOthers = step-others;
 }

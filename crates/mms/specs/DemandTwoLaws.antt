@@ -8,6 +8,8 @@ use Rattle.mms.specs.CheckLaws.{check-lowest}
 use Rattle.mms.specs.Demands.{DemandTwo}
 use Rattle.mms.specs.HistoryLaws.{calls-fixed, calls-history, calls-obey, calls-released, calls-sound, step-effect, step-released}
 use Rattle.mms.specs.HistoryLaws.{step-transform}
+use Rattle.mms.specs.MixedLaws.{mixed-history, mixed-through, through-run, through-singly}
+use Rattle.mms.specs.RunCallLaws.{run-accepts, run-nothing, run-refuses, run-spare, run-through, run-unsound}
 use Rattle.mms.specs.ScriptOutputLaws.{script-calls}
 use Rattle.mms.specs.TextCallLaws.{others-refused, read-length, read-names, read-only, read-refuses, read-text, read-written}
 use Rattle.mms.specs.TextCallLaws.{words-of-text, write-length, write-refuses, write-text, written-read}
@@ -15,6 +17,8 @@ use Rattle.model.specs.Request.Applies.{Lowest}
 use Rattle.model.specs.Request.AppliesLaws.{leads-operand, operand-leads}
 use Rattle.model.specs.Request.Step.{answerOf}
 use Rattle.model.specs.Request.Words.{requestOf}
+use Rattle.model.specs.Run.Requests.{requestsIn}
+use Rattle.model.specs.Run.RequestsLaws.{requests-are, requests-in}
 use Rattle.model.specs.State.Check.{check}
 use Rattle.model.specs.Tables.Layout.{tablesOf}
 use Rattle.model.specs.Theorem.Stated.{lowest-unique, words-stated}
@@ -35,6 +39,14 @@ demandTwo = record {
   callsSound = calls-sound;
   callsObey = calls-obey;
   callsHistory = calls-history;
+  runRefused = λ x. run-refuses x;
+  runAccepted = λ x. run-accepts x;
+  runRequests = λ w h. (requestsIn w, requests-in w h, λ ps r. requests-are r);
+  runSteps = λ x e p. (through-singly (run-through x e p), run-spare x e p .0);
+  runUnsound = λ {t} {w} {room} {r} {s} {a} {c} x e. run-unsound x e c;
+  runNothing = run-nothing;
+  mixedHistory = mixed-history;
+  mixedRun = λ m h l z x. through-run (mixed-through m) h l z x;
   onlyReleased = step-released;
   callsReleased = calls-released;
   callsFixed = calls-fixed;

@@ -1,13 +1,14 @@
--- Document 01, "What a reader can rely on": the client's three demands, each as one statement about the calls that are linked, with a part for each
+-- Document 01, "What a reader can rely on"; document 02, M-100: the client's three demands, each as one statement about the calls that are linked, with a part for each
 -- sentence. They are said of any slices, any lengths and any words. Who believes this page, the definitions that it cites and the toolchain need
 -- read no law and no code: demandOne, demandTwo and demandThree, in the law files beside this one, prove them.
 use mathlib.Core.List.{List, List·Memᴰ, [], _++_, _∷_}
 use mathlib.Core.Logic.{_↔_, _≢_, _⊎_}
 use mathlib.Core.Path.{_≡_}
-use Prim.Native.Nat.{_*_, _<_, _≤_, suc, ℕ}
+use Prim.Native.Nat.{_%_, _*_, _<_, _≤_, suc, ℕ}
 use lib.ListN.{drop, getD, length, take}
-use Rattle.mms.specs.Calls.{CheckCall, ListCall, NoRequest, OnlyNotice, Passes, ReadCall, ScriptCalls, Sound, StepCall, StepCalls, Unsound}
-use Rattle.mms.specs.Calls.{WriteCall, noIn, numberIn, requester}
+use Rattle.mms.specs.Calls.{CheckCall, ListCall, MixedCalls, NoRequest, OnlyNotice, Passes, ReadCall, RunCall, ScriptCalls, SingleSteps, Sound}
+use Rattle.mms.specs.Calls.{StepCall, StepCalls, Unsound, WriteCall, noIn, numberIn, requester}
+use Rattle.model.specs.Basics.Together.{together}
 use Rattle.model.specs.List.Admitted.{Admitted}
 use Rattle.model.specs.List.Listing.{entries, entryWords, showing}
 use Rattle.model.specs.List.Order.{Sorted}
@@ -18,7 +19,9 @@ use Rattle.model.specs.Request.Form.{Names}
 use Rattle.model.specs.Request.Operations.{Op}
 use Rattle.model.specs.Request.Reference.{Leads}
 use Rattle.model.specs.Request.Words.{nameCount, names, requestOf, requestWords}
-use Rattle.model.specs.Script.Reports.{Report, output, unread}
+use Rattle.model.specs.Run.Requests.{AllSixteen, Requests, requestCount}
+use Rattle.model.specs.Run.Run.{Sizes}
+use Rattle.model.specs.Script.Reports.{Report, answersIn, output, unread}
 use Rattle.model.specs.Script.Runs.{Outputs, requests}
 use Rattle.model.specs.Tables.Layout.{tablesOf, wordCount}
 use Rattle.model.specs.Tables.Words.{firstNoticed}
@@ -39,11 +42,17 @@ pub record OneAnswer (Call : ℕ → List ℕ → Type 0) : Type 0 where
   pub ends : (a : ℕ) × (r : List ℕ) × Call a r
   pub once : (a b : ℕ) (r s : List ℕ) → Call a r → Call b s → (a ≡ b) × (r ≡ s)
 
+-- The same of the run, which may write two things.
+pub record OneRun (t w room : List ℕ) : Type 0 where
+  pub ends : (a : ℕ) × (r s : List ℕ) × RunCall t w room a r s
+  pub once : (a b : ℕ) (r s u v : List ℕ) → RunCall t w room a r s → RunCall t w room b u v → (a ≡ b) × (r ≡ u) × (s ≡ v)
+
 -- Demand 1: every call ends with an answer, refusals change nothing but a notice, and a notice keeps the first unread refusal and a count.
 pub record DemandOne : Type 0 where
   -- Every call, lent any words or bytes, has one answer, and leaves one thing in what it may write; what it only reads, its signature keeps.
   pub checkSettled : (t : List ℕ) → (a : ℕ) × CheckCall t a × ((b : ℕ) → CheckCall t b → b ≡ a)
   pub stepSettled : (t q : List ℕ) → OneAnswer (StepCall t q)
+  pub runSettled : (t w room : List ℕ) → OneRun t w room
   pub listSettled : (t : List ℕ) (u : ℕ) (room : List ℕ) → OneAnswer (ListCall t u room)
   pub readSettled : (s w : List ℕ) → OneAnswer (ReadCall s w)
   pub writeSettled : (w room : List ℕ) → OneAnswer (WriteCall w room)
@@ -51,6 +60,8 @@ pub record DemandOne : Type 0 where
   pub checkAnswers : (t : List ℕ) (a : ℕ) → CheckCall t a → (noIn a ≤ refusal.notSecure) × (numberIn a ≡ 0)
   -- The step answers 0 to 16. No number goes with its answer.
   pub stepAnswers : {t q : List ℕ} {a : ℕ} {r : List ℕ} → StepCall t q a r → (noIn a ≤ refusal.notAcknowledged) × (numberIn a ≡ 0)
+  -- The run answers 0 or 1. No number goes with its answer.
+  pub runAnswers : {t w room r s : List ℕ} {a : ℕ} → RunCall t w room a r s → (noIn a ≤ refusal.badLength) × (numberIn a ≡ 0)
   -- The list answers 0, 1 to 4, 6 or 17. A number goes with 0 and 17 only.
   pub listAnswers : {t room r : List ℕ} {u a : ℕ} → ListCall t u room a r
       → List·Memᴰ (noIn a) (refusal.accepted ∷ refusal.badLength ∷ refusal.notWellFormed ∷ refusal.notSecure ∷ refusal.unknownRequester
@@ -69,6 +80,8 @@ pub record DemandOne : Type 0 where
       → numberIn a ≡ 0
   -- After a refusal 1 to 4 of the step the tables are as they were;
   pub stepUnchanged : {t q : List ℕ} {a : ℕ} {r : List ℕ} → StepCall t q a r → refusal.badLength ≤ noIn a → noIn a < firstNoticed → r ≡ t
+  -- after the refusal of a run the tables are, and so is the room for answers;
+  pub runUnchanged : {t w room r s : List ℕ} {a : ℕ} → RunCall t w room a r s → noIn a ≢ refusal.accepted → (r ≡ t) × (s ≡ room)
   -- after any refusal of the list, 6 and 17 among them, the room is;
   pub listUnchanged : {t room r : List ℕ} {u a : ℕ} → ListCall t u room a r → noIn a ≢ refusal.accepted → r ≡ room
   -- after any of the reader, 18 among them, the request is;
@@ -81,6 +94,9 @@ pub record DemandOne : Type 0 where
   -- last acknowledgement that was accepted, or what was held at the start; with its operation; and counts them, up to 65,535.
   pub noticeKept : (m : ℕ) (tables requests : ℕ → List ℕ) (answers : ℕ → ℕ) → StepCalls m tables requests answers → Passes (tables 0)
       → (u : ℕ) → Noticed tables requests (λ i. noIn (answers i)) u m
+  -- After any mixture of steps and runs it is the same, counted by requests: each request leaves the notice that a single step would leave.
+  pub noticeMixed : {t u : List ℕ} {qs : List (List ℕ)} {ns : List ℕ} → MixedCalls t qs ns u → Passes t → (k : SingleSteps t qs ns u)
+      → (x : ℕ) → Noticed (k .tables) (λ i. getD qs i []) (λ i. getD ns i 0) x (length qs)
   -- No request changes the notice of anybody but the requester.
   pub noticeOfOthers : {t q : List ℕ} {a : ℕ} {r : List ℕ} → StepCall t q a r → (x : ℕ) → x ≢ requester q
       → SameNotice (tablesOf t) (tablesOf r) x
@@ -103,6 +119,25 @@ pub record SecureHistory (tables requests : ℕ → List ℕ) : Type 0 where
   pub secure : HistorySecure after (λ i. tablesOf (tables i))
   pub system : SystemSecure after (tablesOf (tables 0))
 
+-- Rule 15.5: what any mixture of steps and runs is, which put the requests qs to the tables t, were answered ns, and left u.
+pub record MixedHistory (t : List ℕ) (qs : List (List ℕ)) (ns u : List ℕ) : Type 0 where
+  -- single steps have the same answers and leave the same words
+  pub singly : SingleSteps t qs ns u
+  -- from tables that the check passes the tables after each request are well-formed and secure,
+  pub sound : Passes t → (i : ℕ) → i ≤ length qs → Sound (singly .tables i)
+  -- and where every request has sixteen words, they are those of one secure history
+  pub history : Passes t → AllSixteen qs
+      → (tables requests : ℕ → List ℕ) × SecureHistory tables requests × ((i : ℕ) → i ≤ length qs → tables i ≡ singly .tables i)
+  -- whatever the tables were, each pair of them obeys Definitions 5 to 11
+  pub obeys : (i : ℕ) → i < length qs → Obeys (tablesOf (singly .tables i)) (requestOf (getD qs i [])) (tablesOf (singly .tables (suc i)))
+
+-- Rules 15.3 and 15.5: a run of the requests qs on t, in a room, answers a and leaves r and s; it is accepted, leaves u, and ns stand at the front of the
+-- room, behind which it is as it was.
+pub record RanAs (room : List ℕ) (ns u : List ℕ) (a : ℕ) (r s : List ℕ) : Type 0 where
+  pub accepted : noIn a ≡ refusal.accepted
+  pub tables : r ≡ u
+  pub answers : s ≡ ns ++ drop (length ns) room
+
 -- Rule 12: the output o of the script s on the tables t, as calls of the step. `Outputs`, of which it is said, is the relation that the parts of the
 -- program are proved to meet.
 pub record ScriptOutput (t s o : List ℕ) : Type 0 where
@@ -120,6 +155,10 @@ pub record ScriptOutput (t s o : List ℕ) : Type 0 where
   -- and they are those of a secure history
   pub history : Passes t
       → (tables requests : ℕ → List ℕ) × SecureHistory tables requests × ((i : ℕ) → i ≤ length before → tables i ≡ calls .tables i)
+  -- The run of the first i requests, on tables of the right size and with a place for each, has the answers that the first i reports tell, and leaves the
+  -- tables that they tell of; so it is with the run of all.
+  pub run : {room r v : List ℕ} {a : ℕ} → length t ≡ wordCount → (i : ℕ) → i ≤ length before → i ≤ length room
+      → RunCall t (together (take i (requests (calls .wordings)))) room a r v → RanAs room (take i (answersIn before)) (calls .tables i) a r v
   -- whatever the tables were, each pair of them obeys Definitions 5 to 11
   pub obeys : (i : ℕ) → i < length before
       → Obeys (tablesOf (calls .tables i)) (requestOf (getD (requests (calls .wordings)) i [])) (tablesOf (calls .tables (suc i)))
@@ -159,6 +198,24 @@ pub record DemandTwo : Type 0 where
   -- Calls that never end, with requests of sixteen words, are a secure history (Definitions 4, 13 and 14).
   pub callsHistory : (tables requests : ℕ → List ℕ) (answers : ℕ → ℕ) → ((m : ℕ) → StepCalls m tables requests answers) → Passes (tables 0)
       → ((i : ℕ) → length (requests i) ≡ requestWords) → SecureHistory tables requests
+  -- A run is refused exactly where a size does not fit: 2,304 words of tables, requests of sixteen words, a place for each answer;
+  pub runRefused : {t w room r s : List ℕ} {a : ℕ} → RunCall t w room a r s → (noIn a ≡ refusal.badLength) ↔ (Sizes t w room → ⊥)
+  pub runAccepted : {t w room r s : List ℕ} {a : ℕ} → RunCall t w room a r s → (noIn a ≡ refusal.accepted) ↔ Sizes t w room
+  -- the words of whole requests are such requests, and in one way only.
+  pub runRequests : (w : List ℕ) → length w % requestWords ≡ 0 → (qs : List (List ℕ)) × Requests w qs × ((ps : List (List ℕ)) → Requests w ps → ps ≡ qs)
+  -- Else its requests have the answers of single steps, each in its place, and leave what these leave; places to spare are as they were.
+  pub runSteps : {t w room r s : List ℕ} {a : ℕ} {qs : List (List ℕ)} → RunCall t w room a r s → noIn a ≡ refusal.accepted → Requests w qs
+      → SingleSteps t qs (take (length qs) s) r × (s ≡ take (length qs) s ++ drop (length qs) room)
+  -- Where the check does not pass the tables, they stay, and every request is answered with the check's number.
+  pub runUnsound : {t w room r s : List ℕ} {a c : ℕ} → RunCall t w room a r s → noIn a ≡ refusal.accepted → CheckCall t c → noIn c ≢ refusal.accepted
+      → (r ≡ t) × ((i : ℕ) → i < requestCount w → getD s i 0 ≡ noIn c)
+  -- No request at all is accepted, and nothing is written, whatever the 2,304 words are.
+  pub runNothing : {t room r s : List ℕ} {a : ℕ} → RunCall t [] room a r s → length t ≡ wordCount → (noIn a ≡ refusal.accepted) × (r ≡ t) × (s ≡ room)
+  -- Any mixture of steps and runs, each given what the last one left, is single steps and one secure history;
+  pub mixedHistory : {t u : List ℕ} {qs : List (List ℕ)} {ns : List ℕ} → MixedCalls t qs ns u → MixedHistory t qs ns u
+  -- and the run of all its requests is that mixture, so that a run may be cut into pieces anywhere.
+  pub mixedRun : {t u room r s : List ℕ} {qs : List (List ℕ)} {ns : List ℕ} {a : ℕ} → MixedCalls t qs ns u → AllSixteen qs → length t ≡ wordCount
+      → length qs ≤ length room → RunCall t (together qs) room a r s → RanAs room ns u a r s
   -- Beyond the Definitions: nothing becomes released but by a release of that very draft, created entities included;
   pub onlyReleased : {t q : List ℕ} {a : ℕ} {r : List ℕ} → StepCall t q a r → Passes t → OnlyReleased (tablesOf t) (requestOf q) (tablesOf r)
   -- what is released is never deleted, and stays released by the same user, through any calls;

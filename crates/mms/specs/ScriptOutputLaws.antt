@@ -1,67 +1,72 @@
--- Demand 2, the script: its output is that of calls, and those are a secure history.
+-- Demand 2, the script: its output is that of calls, which are a secure history and the run of its requests.
 use mathlib.Core.List.{List, [], _++_, _∷_}
 use mathlib.Core.Logic.{_≢_, _⊎_, inl, inr}
-use mathlib.Core.Path.{_∙_, _≡_, ap, ap₂, refl, subst, sym}
-use Prim.Native.Nat.{_*_, _+_, _<_, _≤_, ℕ, suc, zero}
+use mathlib.Core.Path.{_∙_, _≡_, ap, refl, subst, sym}
+use Prim.Native.Nat.{_<_, _≤_, ℕ, suc, zero}
 use native.Mathlib.Omega.{arith}
-use lib.ListN.{getD, length, replicate}
-use Rattle.mms.specs.CallLaws.{step-call, step-left}
-use Rattle.mms.specs.Calls.{NoRequest, Passes, ScriptCalls}
-use Rattle.mms.specs.Contract.{numbers}
-use Rattle.mms.specs.Demands.{ScriptOutput, SecureHistory}
-use Rattle.mms.specs.HistoryLaws.{calls-history, calls-obey, calls-sound}
+use lib.ListN.{getD, length, take}
+use lib.Seq.{length-take-le}
+use Rattle.mms.specs.Calls.{NoRequest, Passes, RunCall, ScriptCalls, SingleSteps}
+use Rattle.mms.specs.Demands.{RanAs, ScriptOutput, SecureHistory}
+use Rattle.mms.specs.HistoryLaws.{calls-obey, calls-sound}
+use Rattle.mms.specs.MixedLaws.{singly-history, singly-through, sixteen-take, through-run}
 use Rattle.mms.specs.ScriptLaws.{requests-length, runs-calls}
-use Rattle.model.specs.Request.Step.{afterOf, answerOf}
-use Rattle.model.specs.Request.Words.{requestWords}
-use Rattle.model.specs.Script.Reports.{Report, output, unread}
+use Rattle.model.specs.Basics.Together.{together}
+use Rattle.model.specs.Run.Requests.{AllSixteen}
+use Rattle.model.specs.Script.Reports.{Report, answersIn, output, unread}
 use Rattle.model.specs.Script.Runs.{Answered, Outputs, Runs, cut, requests, whole}
+use Rattle.model.specs.Tables.Layout.{wordCount}
 use Rattle.model.specs.Text.Wording.{Wording, badLine, lines, readSeven}
 use Rattle.model.specs.Text.WordingLaws.{text-there}
 use Rattle.model.specs.Text.WordsLaws.{sixteen-length}
 
--- a request of sixteen words, all zero
-abbrev nothing : List ℕ
-nothing = replicate requestWords 0
+-- the requests of wordings have sixteen words
+requests-sixteen : (ms : List Wording) → AllSixteen (requests ms)
+requests-sixteen [] = tt
+requests-sixteen (m ∷ ms) = (sixteen-length m, requests-sixteen ms)
 
--- what is within a list does not depend on what stands for the rest
-within-list : (l : List (List ℕ)) (i : ℕ) (a b : List ℕ) → i < length l → getD l i a ≡ getD l i b
-within-list [] i a b h = absurd (omega arith)
-within-list (q ∷ l) zero a b h = refl
-within-list (q ∷ l) (suc i) a b h = within-list l i a b (omega arith)
+-- as many answers as reports, and each report's own
+answersIn-length : (rs : List Report) → length (answersIn rs) ≡ length rs
+answersIn-length [] = refl
+answersIn-length (r ∷ rs) = ap suc (answersIn-length rs)
 
--- the requests of wordings have sixteen words, and so have those that follow them
-requests-sixteen : (ms : List Wording) (i : ℕ) → length (getD (requests ms) i nothing) ≡ requestWords
-requests-sixteen [] i = refl
-requests-sixteen (m ∷ ms) zero = sixteen-length m
-requests-sixteen (m ∷ ms) (suc i) = requests-sixteen ms i
+answersIn-at : (rs : List Report) (i : ℕ) → i < length rs → getD (answersIn rs) i 0 ≡ getD rs i unread .answer
+answersIn-at [] i h = absurd (omega arith)
+answersIn-at (r ∷ rs) zero h = refl
+answersIn-at (r ∷ rs) (suc i) h = answersIn-at rs i (omega arith)
 
--- the words after so many of endless requests
-going : List ℕ → (ℕ → List ℕ) → ℕ → List ℕ
-going t qs zero = t
-going t qs (suc i) = afterOf (going t qs i) (qs i)
+-- Rule 15.6: a script's calls are single steps with the answers that its reports tell; so they are a secure history, and the run of its requests.
+module _ {t s t′ s′ : List ℕ} {rs : List Report} (k : ScriptCalls t s rs t′ s′) where
+  as-many : length (requests (k .wordings)) ≡ length rs
+  as-many = requests-length (k .wordings) ∙ sym (k .many)
 
--- A script's calls go on for ever with requests that ask nothing, and are a secure history.
-module _ {t s t′ s′ : List ℕ} {rs : List Report} (p : Passes t) (k : ScriptCalls t s rs t′ s′) where
-  more : ℕ → List ℕ
-  more i = getD (requests (k .wordings)) i nothing
+  script-singly : SingleSteps t (requests (k .wordings)) (answersIn rs) t′
+  script-singly =
+      let n = as-many in record {
+        tables = k .tables;
+        answers = k .answers;
+        starts = k .starts;
+        calls = record { each = λ i h. k .calls .each i (omega arith) };
+        answered = λ i h. sym (k .tells i (omega arith) .answer) ∙ sym (answersIn-at rs i (omega arith));
+        many = answersIn-length rs ∙ sym n;
+        ends = ap (k .tables) n ∙ k .ends;
+      }
 
-  going-same : (i : ℕ) → i ≤ length rs → going t more i ≡ k .tables i
-  unfolding going more
-  going-same zero h = sym (k .starts)
-  going-same (suc i) h =
-      let l : length (requests (k .wordings)) ≡ length rs = requests-length (k .wordings) ∙ sym (k .many) in
-      let e = within-list (requests (k .wordings)) i nothing [] (omega arith) in
-      ap₂ afterOf (going-same i (omega arith)) e ∙ sym (step-left (k .calls .each i (omega arith)))
+  script-history : Passes t → (tables requests : ℕ → List ℕ) × SecureHistory tables requests × ((i : ℕ) → i ≤ length rs → tables i ≡ k .tables i)
+  unfolding script-singly
+  script-history p =
+      let n = as-many in
+      let z = singly-history p (requests-sixteen (k .wordings)) script-singly in
+      (z .0, z .1, z .2, λ i h. z .3 i (omega arith))
 
-  script-history : (tables requests : ℕ → List ℕ) × SecureHistory tables requests × ((i : ℕ) → i ≤ length rs → tables i ≡ k .tables i)
-  unfolding going more
-  script-history = (
-    going t more,
-    more,
-    calls-history (going t more) more (λ i. answerOf (going t more i) (more i) * numbers + 0)
-        (λ m. record { each = λ i h. step-call (going t more i) (more i) }) p (requests-sixteen (k .wordings)),
-    going-same,
-  )
+  script-run : {room r v : List ℕ} {a : ℕ} → length t ≡ wordCount → (i : ℕ) → i ≤ length rs → i ≤ length room
+      → RunCall t (together (take i (requests (k .wordings)))) room a r v → RanAs room (take i (answersIn rs)) (k .tables i) a r v
+  unfolding script-singly
+  script-run l i h z x =
+      let n = as-many in
+      let qs = requests (k .wordings) in
+      let m = length-take-le i qs (omega arith) in
+      through-run (singly-through script-singly i (omega arith)) (sixteen-take qs i (requests-sixteen (k .wordings))) l (omega arith) x
 
 -- where the seven lines cannot be read no request stands
 stuck-none : (y : List ℕ) (k : ℕ) → readSeven y ≡ badLine k → NoRequest y
@@ -85,7 +90,8 @@ module _ {t s o : List ℕ} where
         last = l;
         sound = λ p i h.
             calls-sound (length bs) (k .tables) (λ i. getD (requests (k .wordings)) i []) (k .answers) (k .calls) (subst Passes (sym (k .starts)) p) i h .1;
-        history = λ p. script-history p k;
+        history = script-history k;
+        run = script-run k;
         obeys = calls-obey (length bs) (k .tables) (λ i. getD (requests (k .wordings)) i []) (k .answers) (k .calls);
       }
 

@@ -5,12 +5,14 @@ use mathlib.Core.Path.{_∙_, _≡_, ap, sym}
 use Prim.Native.Nat.{_%_, _*_, _+_, _/_, _<_, ℕ}
 use native.Mathlib.Omega.{arith}
 use lib.ListN.{length}
-use Rattle.mms.specs.Contract.{Exports, Listing, Reading, Stepping, Writing, checking, exported, numbers}
+use Rattle.mms.specs.Contract.{Exports, Listing, Reading, Running, Stepping, Writing, checking, exported, numbers}
 use Rattle.mms.specs.declared.Answer.{Answer}
 use Rattle.model.specs.List.Complete.{Complete}
 use Rattle.model.specs.List.Listing.{barred, listAnswer, listNumber, opens, roomAfter}
 use Rattle.model.specs.List.ListingLaws.{lists-any, lists-small, lists-unique}
 use Rattle.model.specs.Request.Step.{Settles, afterOf, answerOf}
+use Rattle.model.specs.Run.Run.{Run}
+use Rattle.model.specs.Run.RunLaws.{run-computed, run-unique}
 use Rattle.model.specs.Text.BothWays.{read-number-small, reads-unique, write-number-small, writes-unique}
 use Rattle.model.specs.Theorem.Unique.{settles, settles-unique}
 
@@ -31,6 +33,20 @@ pub settles-step : (t q : List ℕ) (a : Answer) (r : List ℕ) → a .number �
 settles-step t q a r z s =
     let u = settles-unique t q (a .no) (answerOf t q) r (afterOf t q) s (settles t q) in
     record { answer = λ i. record { no = u .0 i; number = z i }; words = u .1 }
+
+-- The run has one answer, and leaves one list of words in the tables and one in the room.
+pub run-once : (t w room : List ℕ) (a b : Answer) (r s u v : List ℕ) → Running t w room a r s → Running t w room b u v → (a ≡ b) × (r ≡ u) × (s ≡ v)
+run-once t w room a b r s u v x y = (x .answer ∙ sym (y .answer), x .tables ∙ sym (y .tables), x .answers ∙ sym (y .answers))
+
+-- What the run promises is a run as the model states it,
+pub running-run : (t w room : List ℕ) (a : Answer) (r s : List ℕ) → Running t w room a r s → Run t w room (a .no) r s
+running-run t w room a r s x = rw (x .answer, x .tables, x .answers) (run-computed t w room)
+
+-- and whatever the model calls a run is promised: there is no other.
+pub run-running : (t w room : List ℕ) (a : Answer) (r s : List ℕ) → a .number ≡ 0 → Run t w room (a .no) r s → Running t w room a r s
+run-running t w room a r s z x =
+    let u = run-unique x (run-computed t w room) in
+    record { answer = λ i. record { no = u .0 i; number = z i }; tables = u .1; answers = u .2 }
 
 -- The list has one answer, and leaves one room.
 pub list-unique : (t : List ℕ) (u : ℕ) (room : List ℕ) (a b : Answer) (r s : List ℕ) → Listing t u room a r → Listing t u room b s → (a ≡ b) × (r ≡ s)
@@ -80,6 +96,13 @@ exports-parts P small a r x =
 -- So it is with the step,
 pub exported-step-unique : (t q : List ℕ) (a b : ℕ) (r s : List ℕ) → Exports (Stepping t q) a r → Exports (Stepping t q) b s → (a ≡ b) × (r ≡ s)
 exported-step-unique t q = exports-unique (Stepping t q) (step-unique t q)
+
+-- with the run,
+pub exported-run-unique : (t w room : List ℕ) (a b : ℕ) (r s u v : List ℕ) → Exports (λ c l. Running t w room c l s) a r
+    → Exports (λ c l. Running t w room c l v) b u → (a ≡ b) × (r ≡ u) × (s ≡ v)
+exported-run-unique t w room a b r s u v x y =
+    let z = run-once t w room (x .answer) (y .answer) r s u v (x .called) (y .called) in
+    (x .word ∙ ap (λ (c : Answer). exported c) (z .0) ∙ sym (y .word), z .1, z .2)
 
 -- with the list,
 pub exported-list-unique : (t : List ℕ) (u : ℕ) (room : List ℕ) (a b : ℕ) (r s : List ℕ) → Exports (Listing t u room) a r → Exports (Listing t u room) b s

@@ -1,8 +1,8 @@
 // The desk's public calls, and their C exports. Each takes any words or bytes, and asks nothing of them. An answer is a pair: document 01's
-// number, and a count, a need or a line that goes with some of these. The check and the step have no second number, and give 0.
+// number, and a count, a need or a line that goes with some of these. The check, the step and the run have no second number, and give 0.
 use names::text;
 ghost use mathlib.Core.Path.{_≡_};
-ghost use Rattle.mms.specs.Contract.{Exports, Listing, Reading, Stepping, Writing, checking, exported};
+ghost use Rattle.mms.specs.Contract.{Exports, Listing, Reading, Running, Stepping, Writing, checking, exported};
 
 // A call's answer: document 01's number, and what goes with it.
 pub struct Answer {
@@ -23,6 +23,15 @@ pub fn step(tables: &mut [u32], request: &[u32]) -> Answer
     ensures { λ r. ⌜ Stepping (now (tables .entry)) (now (request .entry)) r (now (tables .exit)) ⌝ }
 {
     let n = step::step(tables, request);
+    Answer { no: n, number: 0 }
+}
+
+// The run settles many requests in one call: the tables are checked once, and each request is put to what the requests before it left. Its answer
+// goes to its own place; places behind the last request's stay. A refused request is followed by the next. Where a size does not fit, nothing changes.
+pub fn run(tables: &mut [u32], requests: &[u32], answers: &mut [u32]) -> Answer
+    ensures { λ r. ⌜ Running (now (tables .entry)) (now (requests .entry)) (now (answers .entry)) r (now (tables .exit)) (now (answers .exit)) ⌝ }
+{
+    let n = run::run(tables, requests, answers);
     Answer { no: n, number: 0 }
 }
 
@@ -84,6 +93,16 @@ pub extern "C" fn mms_step(tables: &mut [u32], request: &[u32]) -> u64
     ensures { λ r. ⌜ Exports (Stepping (now (tables .entry)) (now (request .entry))) r (now (tables .exit)) ⌝ }
 {
     let a = step(tables, request);
+    packed(a.no, a.number)
+}
+
+// `run` for C.
+#[no_mangle]
+pub extern "C" fn mms_run(tables: &mut [u32], requests: &[u32], answers: &mut [u32]) -> u64
+    ensures { λ r. ⌜ Exports (λ a u. Running (now (tables .entry)) (now (requests .entry)) (now (answers .entry)) a u (now (answers .exit))) r
+        (now (tables .exit)) ⌝ }
+{
+    let a = run(tables, requests, answers);
     packed(a.no, a.number)
 }
 

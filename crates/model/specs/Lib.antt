@@ -11,5 +11,6 @@ pub mod Request
 pub mod List
 pub mod Text
 pub mod Theorem
+pub mod Run
 pub mod Script
 pub mod Figures

@@ -1,4 +1,4 @@
--- The first rungs: 1 by lengths, 2 and 3 by the state check, 4 the requester, 5 the form, 6 whether the requester is on a device; and the
+-- The first rungs: 1 by the request's length, 1 to 3 by the state check, 4 the requester, 5 the form, 6 whether the requester is on a device; and the
 -- step's own ends.
 use mathlib.Core.Bool.{Bool, _&&_, _||_, false, not, true}
 use mathlib.Core.List.{List}
@@ -12,28 +12,27 @@ use borrow.Author.Tests.{leb-true}
 use lib.ListN.{length}
 use Rattle.ladder.specs.ClimbLaws.{good-passed, passed-hit, passed-more}
 use Rattle.ladder.specs.Contract.{Judged, Passed, PastLogon, PastRequester, Ready, Stepped}
-use Rattle.laws.specs.Bools.{and-l, and-r, fails}
-use Rattle.model.specs.Basics.Agree.{every-at}
-use Rattle.model.specs.Basics.Choice.{pick}
+use Rattle.laws.specs.Bools.{and-l, and-r}
+use Rattle.model.specs.Basics.Agree.{agrees-eq, agrees-not, every-at}
 use Rattle.model.specs.Basics.TestLaws.{is-false}
 use Rattle.model.specs.Basics.Tests.{every}
 use Rattle.model.specs.Request.After.{noticedOp}
 use Rattle.model.specs.Request.AfterLaws.{after-unchanged}
 use Rattle.model.specs.Request.Ladder.{answer, applies, fits, ladder, never, notLoggedOn, notUnderstood, ofOp, rungAt, unknownUser}
-use Rattle.model.specs.Request.LadderLaws.{judge-answer, ofOp-some}
+use Rattle.model.specs.Request.LadderLaws.{ofOp-some}
 use Rattle.model.specs.Request.OperationLaws.{number-range, opOf-number}
 use Rattle.model.specs.Request.Operations.{Op, numberOf, opOf, openLoggedOff, operations, toAcknowledge, toLogin, withNumber}
 use Rattle.model.specs.Request.Refusals as refusal
 use Rattle.model.specs.Request.Step.{afterOf, sized}
 use Rattle.model.specs.Request.Words.{Request, requestOf, requestWords}
-use Rattle.model.specs.State.AgreeSecure.{judge-good}
-use Rattle.model.specs.State.Check.{judge, secureTest, wellFormedTest}
+use Rattle.model.specs.State.AgreeSecure.{check-agrees}
+use Rattle.model.specs.State.Check.{check}
+use Rattle.model.specs.State.Secure.{Good}
 use Rattle.model.specs.Tables.Layout.{tablesOf, wordCount}
-use Rattle.model.specs.Tables.LayoutLaws.{bounded}
 use Rattle.model.specs.Tables.Words.{device, operationCount, present, userCount}
 use Rattle.model.specs.Tables.WordsOfLaws.{tablesOf-injective}
-use Rattle.model.specs.Theorem.Steps.{afterOf-length, afterOf-tables, answerOf-sized, low-refusal-words, sized-agrees, unsized}
-use Rattle.step.specs.Contract.{Settled}
+use Rattle.model.specs.Theorem.Steps.{afterOf-length, afterOf-tables, answerOf-sized, check-refuses, sized-agrees, unsized}
+use Rattle.step.specs.Contract.{Checked, Settled}
 use Rattle.step.specs.DispatchLaws.{understood}
 use Rattle.tables.specs.Singles.{known}
 
@@ -136,38 +135,33 @@ noticed-none q op e h = go (opOf (q .operation)) refl
 
 -- ---- the step's ends
 
--- Rule 7.1: a slice of another length
-pub other-length : (t q : List ℕ) → ((length t ≡ wordCount) × (length q ≡ requestWords) → ⊥) → Settled t q refusal.badLength t
+-- Rule 7.1: a request of another length
+pub other-length : (t q : List ℕ) → length q ≢ requestWords → Settled t q refusal.badLength t
 other-length t q n =
-    let z = unsized t q (is-false (sized t q) (fails (sized t q) (λ h. n (sized-agrees t q .to h)))) in
+    let z = unsized t q (agrees-not (sized-agrees t q) .from (λ h. n (h .1))) in
     record { answer = sym (z .0); words = sym (z .1) }
 
-module _ (t q : List ℕ) (a : length t ≡ wordCount) (b : length q ≡ requestWords) where
-  whole : T (sized t q)
-  whole = sized-agrees t q .from (a, b)
+module _ (t q : List ℕ) (c : ℕ) (k : Checked t q c) where
+  -- Rules 7.1 to 7.3: the state check has refused, and nothing changes
+  pub checked-settled : c ≢ refusal.accepted → Settled t q c t
+  checked-settled n =
+      let z = check-refuses t q (k .request) (λ e. n (k .said ∙ e)) in
+      record { answer = k .said ∙ sym (z .0); words = sym (z .1) }
 
-  -- Rules 7.2 and 7.3: the state check refuses, and nothing has changed
-  judge-low : judge (tablesOf t) ≤ refusal.notSecure
-  unfolding judge
-  judge-low = go (wellFormedTest (tablesOf t)) (secureTest (tablesOf t))
-    where
-      go : (x y : Bool) → pick x (pick y refusal.accepted refusal.notSecure) refusal.notWellFormed ≤ refusal.notSecure
-      go true true = omega arith
-      go true false = omega arith
-      go false y = omega arith
+  module _ (e : c ≡ refusal.accepted) where
+    passed : (length t ≡ wordCount) × Good (tablesOf t)
+    passed = check-agrees t .to (agrees-eq (check t) refusal.accepted .from (sym (k .said) ∙ e))
 
-  pub judged-settled : (n : ℕ) → n ≡ judge (tablesOf t) → n ≢ 0 → Settled t q n t
-  judged-settled n e z =
-      let w = answerOf-sized t q whole ∙ judge-answer (tablesOf t) (requestOf q) (λ h. z (e ∙ h)) in
-      record { answer = e ∙ sym w; words = sym (low-refusal-words t q (omega arith) (omega (arith, judge-low))) }
+    whole : T (sized t q)
+    whole = sized-agrees t q .from (passed .0, k .request)
 
-  -- the state check passes, and the ladder goes on
-  pub judged-ready : (n : ℕ) → n ≡ judge (tablesOf t) → n ≡ 0 → Ready t q
-  judged-ready n e z = record { whole = a; request = b; good = judge-good (tablesOf t) (bounded t) (sym e ∙ z) }
+    -- it has passed, and the ladder goes on
+    pub checked-ready : Ready t q
+    checked-ready = record { whole = passed .0; request = k .request; good = passed .1 }
 
-  -- what the ladder leaves is what the step promises
-  pub stepped-settled : (r : ℕ) (n : List ℕ) → length n ≡ length t → Stepped t q r n → Settled t q r n
-  stepped-settled r n l s = record {
-    answer = s .answer ∙ sym (answerOf-sized t q whole);
-    words = tablesOf-injective n (afterOf t q) (l ∙ a) (afterOf-length t q ∙ a) (s .tables ∙ sym (afterOf-tables t q whole));
-  }
+    -- what the ladder leaves is what the step promises
+    pub stepped-settled : (r : ℕ) (n : List ℕ) → length n ≡ length t → Stepped t q r n → Settled t q r n
+    stepped-settled r n l s = record {
+      answer = s .answer ∙ sym (answerOf-sized t q whole);
+      words = tablesOf-injective n (afterOf t q) (l ∙ passed .0) (afterOf-length t q ∙ passed .0) (s .tables ∙ sym (afterOf-tables t q whole));
+    }

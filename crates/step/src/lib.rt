@@ -1,5 +1,4 @@
-// The step: rung 1 by lengths, the state check (2 and 3), then the ladder from rung 4 on, the effect and the notice. These stand apart, so that
-// a run of many requests need check its tables once only.
+// The step: the state check and the request's length (1 to 3), then the ladder from rung 4 on, the effect and the notice.
 use ladder::operands::Operand;
 use ladder::operands::Pair;
 use names::op;
@@ -17,7 +16,7 @@ ghost use Rattle.ladder.specs.Contract.{First, Judged, PastLogon, PastMarks, Pa
 ghost use Rattle.ladder.specs.Path.{arityOf};
 ghost use Rattle.model.specs.Request.After.{noticedOp};
 ghost use Rattle.model.specs.Request.Words.{requestOf, requestWords};
-ghost use Rattle.step.specs.Contract.{Settled};
+ghost use Rattle.step.specs.Contract.{Checked, Settled};
 
 // Judges rungs 10 to 16 of a request with one operand, and does it. The number of its operation chooses who does so.
 fn act_one(t: &mut [u32], q: &[u32], u: User, o: u32, e: Entity) -> u32
@@ -141,19 +140,25 @@ pub fn advance(t: &mut [u32], q: &[u32]) -> u32
     r
 }
 
+// The step on words of which the check has said c: those that failed are refused with c, and the others go up the ladder. So a run of many
+// requests need check its tables once only.
+pub fn on_checked(t: &mut [u32], q: &[u32], c: u32) -> u32
+    requires { ⌜ Checked (now t) (now q) c ⌝ }
+    ensures { λ r. ⌜ Settled (now (t .entry)) (now (q .entry)) r (now (t .exit)) ⌝ }
+{
+    if c != refusal::ACCEPTED {
+        return c;
+    }
+    advance(t, q)
+}
+
 // The step on any words: the answer and the words afterwards are the model's.
 pub fn step(t: &mut [u32], q: &[u32]) -> u32
     ensures { λ r. ⌜ Settled (now (t .entry)) (now (q .entry)) r (now (t .exit)) ⌝ }
 {
-    if t.len() != size::TABLE_WORDS {
-        return refusal::BAD_LENGTH;
-    }
     if q.len() != size::REQUEST_WORDS {
         return refusal::BAD_LENGTH;
     }
-    let n = state::judged(t);
-    if n != refusal::ACCEPTED {
-        return n;
-    }
-    advance(t, q)
+    let c = state::checked(t);
+    on_checked(t, q, c)
 }

@@ -8,12 +8,13 @@ use Prim.Native.Nat.{_<_, _≤_, suc, zero, ℕ}
 use native.Mathlib.Omega.{arith}
 use lib.Dec.{eqb}
 use lib.ListN.{length}
+use Rattle.model.specs.Basics.Together.{together}
 use Rattle.model.specs.Basics.Cases.{cases, lt-or-le}
 use Rattle.model.specs.Script.Reports.{Report, output}
 use Rattle.model.specs.Script.Runs.{Answered}
 use Rattle.model.specs.Script.RunsLaws.{answered-unique, runs-shorter}
 use Rattle.model.specs.Script.WindowLaws.{fed-answered, ran-rest-short, ran-runs}
-use Rattle.model.specs.Script.Windows.{Fed, again, done, over, piece, ran, reportBytes, together}
+use Rattle.model.specs.Script.Windows.{Fed, again, done, over, piece, ran, reportBytes}
 use borrow.Author.Tests.{eqb-false, eqb-true}
 
 -- ---- the end of the script

@@ -59,3 +59,8 @@ reportText r = line answerKey (digits (r .answer)) ++ (line heldKey (digits (r .
 unfoldable pub output : List Report → List ℕ
 output [] = []
 output (r ∷ rs) = reportText r ++ output rs
+
+-- the answers that reports tell
+abbrev pub answersIn : List Report → List ℕ
+answersIn [] = []
+answersIn (r ∷ rs) = r .answer ∷ answersIn rs

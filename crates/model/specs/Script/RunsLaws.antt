@@ -1,13 +1,19 @@
 -- The laws of runs: one run after another, further bytes after a run, and that every script has exactly one list of reports, in which each
 -- report is that of the tables after exactly the requests before it.
+use mathlib.Core.Bool.{Bool, false, true}
 use mathlib.Core.List.{List, [], _++_, _∷_, append-assoc, append-nil}
 use mathlib.Core.Path.{_∙_, _≡_, ap, ap₂, refl, sym}
 use Prim.Native.Nat.{_+_, _<_, _≤_, suc, zero, ℕ}
 use native.Mathlib.Omega.{arith}
 use lib.ListN.{getD, length, take}
-use Rattle.model.specs.Request.Step.{afterOf}
-use Rattle.model.specs.Script.Reports.{Report, output, report, unread}
+use Rattle.model.specs.Basics.Choice.{pick}
+use Rattle.model.specs.Request.Step.{afterOf, answerOf}
+use Rattle.model.specs.Request.Words.{requestOf}
+use Rattle.model.specs.Run.Through.{answersTo}
+use Rattle.model.specs.Script.Reports.{Report, answersIn, bare, output, report, unread, untold}
 use Rattle.model.specs.Script.Runs.{Answered, Outputs, Reported, Runs, cut, requests, stay, texts, turn, whole}
+use Rattle.model.specs.Tables.Layout.{tablesOf}
+use Rattle.model.specs.Tables.Words.{held, missed}
 use Rattle.model.specs.Text.Lines.{readLine}
 use Rattle.model.specs.Text.NearLaws.{read-longer, read-shorter}
 use Rattle.model.specs.Text.Textual.{AllWritten}
@@ -154,6 +160,25 @@ pub runs-report : {t s t′ s′ : List ℕ} {rs : List Report} → Runs t s rs 
 unfolding afterWords
 runs-report stay = record { wordings = []; written = tt; text = refl; many = refl; each = λ i h. absurd (omega arith); after = refl }
 runs-report (turn e r) = reported-turn e (runs-report r)
+
+-- the answer that a report of a request tells is the step's
+report-answer : (t q : List ℕ) → report t q .answer ≡ answerOf t q
+unfolding report
+report-answer t q = go (untold (answerOf t q))
+  where
+    go : (b : Bool) → pick b (bare (answerOf t q)) (record {
+      answer = answerOf t q;
+      held = tablesOf (afterOf t q) .user (requestOf q .user) held;
+      missed = tablesOf (afterOf t q) .user (requestOf q .user) missed;
+    }) .answer ≡ answerOf t q
+    go true = refl
+    go false = refl
+
+-- Rules 12.3 and 15.6: the answers that a script's reports tell are those of its requests one after another.
+pub runs-answers : {t s t′ s′ : List ℕ} {rs : List Report} (x : Runs t s rs t′ s′) → answersIn rs ≡ answersTo t (requests (runs-report x .wordings))
+unfolding answersTo runs-report reported-turn
+runs-answers stay = refl
+runs-answers (turn {t = t} {m = m} e r) = ap₂ _∷_ (report-answer t (sixteen m)) (runs-answers r)
 
 -- the reports of wordings, each on the tables that those before it leave
 abbrev pub reportsOf : List ℕ → List Wording → List Report

@@ -8,6 +8,7 @@ use Prim.Native.Nat.{_-_, _<_, _≤_, suc, zero, ℕ}
 use native.Mathlib.Omega.{arith}
 use lib.Dec.{eqb, ltb}
 use lib.ListN.{length, length-append}
+use Rattle.model.specs.Basics.Together.{together}
 use Rattle.model.specs.Basics.Cases.{cases, true-or-false}
 use Rattle.model.specs.Basics.Choice.{pick}
 use Rattle.model.specs.Request.Step.{afterOf}
@@ -16,7 +17,7 @@ use Rattle.model.specs.Script.Reports.{Report, output, report, reportTex
 use Rattle.model.specs.Script.Runs.{Answered, Runs, cut, stay, turn, whole}
 use Rattle.model.specs.Script.RunsLaws.{runs-answered, runs-longer}
 use Rattle.model.specs.Script.Windows.{Fed, Ran, again, broken, done, waiting, onward, over, piece, preceded, ran, reportBytes, run}
-use Rattle.model.specs.Script.Windows.{stopped, together}
+use Rattle.model.specs.Script.Windows.{stopped}
 use Rattle.model.specs.Text.NearLaws.{read-bad, read-near-bad, read-shorter}
 use Rattle.model.specs.Text.Unfinished.{unfinished}
 use Rattle.model.specs.Text.Wording.{Lines, Wording, badLine, lines, readSeven, sixteen}

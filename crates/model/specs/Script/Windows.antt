@@ -54,11 +54,6 @@ run (suc k) last t s n = pick (waiting n s) (stopped t s) (onward (run k last) t
 unfoldable pub ran : List ℕ → List ℕ → Bool → ℕ → Ran
 ran t s last n = run (length s) last t s n
 
--- the bytes of pieces, one piece after another
-abbrev pub together : List (List ℕ) → List ℕ
-together [] = []
-together (c ∷ cs) = c ++ together cs
-
 -- Fed n t w cs rs: with room for n bytes of reports at a time, the program holds the bytes w, gets the pieces cs one after another and then finds
 -- the end of the script; rs is all that it reports. Each time it appends what came to what it holds, runs that, and keeps the rest; it ends with a
 -- request that could not be read, or at the end of the script with nothing left.

@@ -20,7 +20,7 @@ use Rattle.model.specs.Theorem.SequenceStep.{held-same}
 use Rattle.model.specs.Theorem.Statements.{SameNotice, afterWords}
 
 -- the words after one request more of a list
-afterWords-next : (t : List ℕ) (qs : List (List ℕ)) (i : ℕ) → i < length qs
+pub afterWords-next : (t : List ℕ) (qs : List (List ℕ)) (i : ℕ) → i < length qs
     → afterWords t (take (suc i) qs) ≡ afterOf (afterWords t (take i qs)) (getD qs i [])
 unfolding afterWords
 afterWords-next t [] i h = absurd (omega arith)

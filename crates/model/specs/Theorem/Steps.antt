@@ -6,11 +6,12 @@ use mathlib.Core.Option.{some}
 use mathlib.Core.Path.{_∙_, _≡_, ap, refl, subst, sym}
 use Prim.Native.Nat.{_<_, _≤_, ℕ}
 use native.Mathlib.Omega.{arith}
-use lib.Dec.{T, eqb→eq}
+use lib.Dec.{T, eqb, eqb→eq}
 use lib.ListN.{length}
-use Rattle.model.specs.Basics.Agree.{Agrees, agrees-and, agrees-eq}
-use Rattle.model.specs.Basics.Choice.{pick}
+use Rattle.model.specs.Basics.Agree.{Agrees, agrees-and, agrees-eq, agrees-not}
+use Rattle.model.specs.Basics.Choice.{Same, it, other, pick, same}
 use Rattle.model.specs.Basics.TestLaws.{is-false, is-true, pick-false, pick-true}
+use Rattle.model.specs.List.Further.{checked}
 use Rattle.model.specs.Request.After.{after}
 use Rattle.model.specs.Request.AfterLaws.{after-accepted, after-each, after-noticed}
 use Rattle.model.specs.Request.Allowed.{Accepted}
@@ -21,8 +22,8 @@ use Rattle.model.specs.Request.Operations.{Op, opOf}
 use Rattle.model.specs.Request.Step.{afterOf, answerOf, sized}
 use Rattle.model.specs.Request.Words.{Request, requestOf, requestWords}
 use Rattle.model.specs.State.Agree.{wellFormed-bounded}
-use Rattle.model.specs.State.AgreeSecure.{check-agrees, check-tables}
-use Rattle.model.specs.State.Check.{check}
+use Rattle.model.specs.State.AgreeSecure.{check-agrees, check-other, check-tables}
+use Rattle.model.specs.State.Check.{check, judge, secureTest, wellFormedTest}
 use Rattle.model.specs.State.Secure.{Good}
 use Rattle.model.specs.Tables.Layout.{Bounded, tablesOf, wordCount}
 use Rattle.model.specs.Tables.LayoutLaws.{bounded}
@@ -136,6 +137,47 @@ pub check-answer : (t q : List ℕ) → T (sized t q) → check t ≢ refusal.ac
 check-answer t q h n =
     let c = check-tables t (sized-agrees t q .to h .0) in
     answerOf-sized t q h ∙ judge-answer (tablesOf t) (requestOf q) (λ z. n (c ∙ z)) ∙ sym c
+
+-- The state check answers 0 to 3.
+pub check-range : (t : List ℕ) → check t ≤ refusal.notSecure
+unfolding check judge
+check-range t = go (eqb (length t) wordCount) (wellFormedTest (tablesOf t)) (secureTest (tablesOf t))
+  where
+    go : (a w s : Bool) → checked a w s ≤ refusal.notSecure
+    go true true true = omega arith
+    go true true false = omega arith
+    go true false s = omega arith
+    go false w s = omega arith
+
+-- Words that fail the state check, however many there are, are answered with its number by any request of sixteen words, and stay.
+pub check-refuses : (t q : List ℕ) → length q ≡ requestWords → check t ≢ refusal.accepted → (answerOf t q ≡ check t) × (afterOf t q ≡ t)
+check-refuses t q h n = go (eqb (length t) wordCount) (same (length t) wordCount)
+  where
+    go : (b : Bool) → Same (length t) wordCount b → (answerOf t q ≡ check t) × (afterOf t q ≡ t)
+    go true (it e) =
+        let a = check-answer t q (sized-agrees t q .from (e, h)) n in
+        (a, low-refusal-words t q (omega (arith, n)) (omega (arith, check-range t)))
+    go false (other m) =
+        let u = unsized t q (agrees-not (sized-agrees t q) .from (λ z. m (z .0))) in
+        (u .0 ∙ sym (check-other t m), u .1)
+
+-- What the state check says of words stays so, whatever is asked.
+pub check-stays : (t q : List ℕ) → check (afterOf t q) ≡ check t
+check-stays t q = go (eqb (check t) refusal.accepted) (same (check t) refusal.accepted)
+  where
+    go : (b : Bool) → Same (check t) refusal.accepted b → check (afterOf t q) ≡ check t
+    go true (it e) = check-kept t q e ∙ sym e
+    go false (other n) = ap check (kept (eqb (length q) requestWords) (same (length q) requestWords))
+      where
+        kept : (b : Bool) → Same (length q) requestWords b → afterOf t q ≡ t
+        kept true (it e) = check-refuses t q e n .1
+        kept false (other m) = unsized t q (agrees-not (sized-agrees t q) .from (λ z. m (z .1))) .1
+
+-- and so after every list of requests.
+pub list-stays : (t : List ℕ) (qs : List (List ℕ)) → check (afterWords t qs) ≡ check t
+unfolding afterWords
+list-stays t [] = refl
+list-stays t (q ∷ qs) = list-stays (afterOf t q) qs ∙ check-stays t q
 
 -- Refusals 5 to 16 change the requester's notice in the words, and nothing else.
 pub high-refusal-words : (t q : List ℕ) → firstNoticed ≤ answerOf t q → Quiet (tablesOf t) (requestOf q .user) (tablesOf (afterOf t q))
