@@ -2,8 +2,8 @@
 
     python3 -B bench/program.py FOLDER REPETITIONS ORDINARY PROVED [OTHER...]
 
-FOLDER has `state.words` and `script`. ORDINARY is the program written by hand, PROVED the proved one, and each OTHER one
-that is to be held against them, such as that of an older build. From the environment:
+FOLDER has `state.words` and `script`. ORDINARY is the program written by hand, PROVED the proved one, and each OTHER is
+held against them too, such as that of an older build. From the environment:
 
     UNDER   what each of them is started with where the machine is not x86-64, such as an emulator and its options
 
