@@ -7,7 +7,7 @@ ghost use mathlib.Core.Bool.{true};
 ghost use mathlib.Core.Path.{_≡_};
 ghost use Prim.Native.Nat.{_<_, _≤_};
 ghost use lib.ListN.{length, take};
-ghost use Rattle.model.specs.Text.Unfinished.{longest};
+ghost use Rattle.desk.specs.Serving.{ServeReady};
 
 // Reads the bytes of the state file to the front of the room, and answers how many there are: none where there is no such file, or it cannot be
 // read.
@@ -49,9 +49,10 @@ fn put(reports: &[u8]) -> bool {
 }
 
 // Runs what arrives of the script, piece by piece, and writes the reports of each piece before it asks for the next. A loop must be seen to
-// end, and nothing says that input does. So it counts down from a number that no script uses up.
-fn serve(tables: &mut [u32], window: &mut [u8], out: &mut [u8])
-    requires { ⌜ longest < length (now window) ⌝ }
+// end, and nothing says that input does. So it counts down from a number that no script uses up. What the check has said of the tables, c, goes
+// from run to run.
+fn serve(tables: &mut [u32], window: &mut [u8], out: &mut [u8], c: u32)
+    requires { ⌜ ServeReady (now tables) (now window) c ⌝ }
 {
     let mut turns = u64::MAX;
     let mut len: usize = 0;
@@ -60,7 +61,7 @@ fn serve(tables: &mut [u32], window: &mut [u8], out: &mut [u8])
     while turns > 0 {
         let filled = fetch(window, len, wanted);
         last = last | wanted & (filled == len);
-        let r = script::runs::run(tables, &window[..filled], last, out);
+        let r = script::runs::run(tables, &window[..filled], last, out, c);
         if !put(&out[..r.bytes]) {
             return;
         }
@@ -74,13 +75,15 @@ fn serve(tables: &mut [u32], window: &mut [u8], out: &mut [u8])
     }
 }
 
-// The file has room for a byte too many, so that a longer file is seen.
+// The file has room for a byte too many, so that a longer file is seen. The tables are checked here and nowhere else: what the check says of them
+// stays so whatever is asked.
 fn main() {
     let mut file = [0u8; size::STATE_BYTES + 1];
     let size = read_state(&mut file);
     let mut tables = [0u32; size::TABLE_WORDS];
     let n = script::state::load(&file[..size], &mut tables);
+    let c = state::checked(&tables[..n]);
     let mut window = io::large_buffer();
     let mut out = io::large_buffer();
-    serve(&mut tables[..n], &mut window, &mut out);
+    serve(&mut tables[..n], &mut window, &mut out, c);
 }

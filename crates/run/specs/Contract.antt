@@ -1,7 +1,7 @@
 -- What a run asks and promises, over the words that it is lent: the tables t, the words w of the requests and the room for the answers.
 use mathlib.Core.List.{List, _++_}
 use mathlib.Core.Path.{_≡_}
-use Prim.Native.Nat.{_%_, _*_, _≤_, ℕ}
+use Prim.Native.Nat.{_%_, _*_, _+_, _≤_, ℕ}
 use lib.ListN.{drop, length, take}
 use Rattle.model.specs.Request.Words.{requestWords}
 use Rattle.model.specs.Run.Requests.{requestCount, requestsIn}
@@ -21,9 +21,10 @@ pub record AnsweredAll (t w room r s : List ℕ) : Type 0 where
   pub tables : r ≡ afterWords t (requestsIn w)
   pub answers : s ≡ answersTo t (requestsIn w) ++ drop (requestCount w) room
 
--- The same after i requests: the tables are now r, the room is s, and the next request begins at an index of the words.
-pub record Going (t w room : List ℕ) (c at i : ℕ) (r s : List ℕ) : Type 0 where
-  pub place : at ≡ requestWords * i
+-- The same after i requests: the tables are now r, the room is s, and another request begins at an index of the words and ends before the next.
+pub record Going (t w room : List ℕ) (c at next i : ℕ) (r s : List ℕ) : Type 0 where
+  pub begins : at ≡ requestWords * i
+  pub ends : next ≡ at + requestWords
   pub within : i ≤ requestCount w
   pub said : c ≡ check r
   pub tables : r ≡ afterWords t (take i (requestsIn w))

@@ -19,11 +19,11 @@ use Rattle.model.specs.Theorem.Steps.{check-stays}
 use Rattle.run.specs.Contract.{AnsweredAll, Going, Ready}
 use Rattle.step.specs.Contract.{Checked, Settled}
 
-pub going-start : (t w room : List ℕ) (c : ℕ) → Ready t w room c → Going t w room c 0 0 t room
+pub going-start : (t w room : List ℕ) (c : ℕ) → Ready t w room c → Going t w room c 0 requestWords 0 t room
 unfolding afterWords answersTo
-going-start t w room c k = record { place = refl; within = omega arith; said = k .said; tables = refl; answers = refl }
+going-start t w room c k = record { begins = refl; ends = omega arith; within = omega arith; said = k .said; tables = refl; answers = refl }
 
-module _ {t w room : List ℕ} {c at i : ℕ} {r s : List ℕ} (k : Ready t w room c) (g : Going t w room c at i r s) where
+module _ {t w room : List ℕ} {c at next i : ℕ} {r s : List ℕ} (k : Ready t w room c) (g : Going t w room c at next i r s) where
   -- the room has its length
   pub going-length : length s ≡ length room
   going-length =
@@ -39,30 +39,27 @@ module _ {t w room : List ℕ} {c at i : ℕ} {r s : List ℕ} (k : Ready t w ro
         k .places,
       )
 
-  module _ (h : at < length w) where
-    -- a request begins here, and ends within the words
+  module _ (h : next ≤ length w) where
+    -- another request stands here, whole
     pub going-more : i < requestCount w
-    going-more = omega (arith, g .place, k .whole)
-
-    pub going-fits : at + requestWords ≤ length w
-    going-fits = omega (arith, g .place, k .whole)
+    going-more = omega (arith, g .begins, g .ends, h)
 
     -- the part of the words that is lent to the step
-    module _ (q : List ℕ) (part : q ≡ take (at + requestWords - at) (drop at w)) where
-      e : q ≡ take requestWords (drop at w)
-      e = let n : at + requestWords - at ≡ requestWords = omega arith in part ∙ ap (λ (k : ℕ). take k (drop at w)) n
+    module _ (q : List ℕ) (part : q ≡ take (next - at) (drop at w)) where
+      sixteen : q ≡ take requestWords (drop at w)
+      sixteen = let n : next - at ≡ requestWords = omega (arith, g .ends) in part ∙ ap (λ (k : ℕ). take k (drop at w)) n
 
       request-is : q ≡ getD (requestsIn w) i []
-      request-is = e ∙ ap (λ (n : ℕ). take requestWords (drop n w)) (g .place) ∙ sym (cut-at (requestCount w) w i going-more)
+      request-is = sixteen ∙ ap (λ (n : ℕ). take requestWords (drop n w)) (g .begins) ∙ sym (cut-at (requestCount w) w i going-more)
 
       pub going-checked : Checked r q c
       going-checked = record {
         said = g .said;
-        request = ap length e ∙ length-take-le requestWords (drop at w) (omega (arith, length-drop at w, going-fits));
+        request = ap length sixteen ∙ length-take-le requestWords (drop at w) (omega (arith, length-drop at w, g .ends, h));
       }
 
       -- Rules 15.3 and 15.4: its answer stands in its place, and the next request finds what it left
-      one-more : (n : ℕ) (u : List ℕ) → Settled r q n u → Going t w room c (at + requestWords) (suc i) u (set s i n)
+      one-more : (n : ℕ) (u : List ℕ) → Settled r q n u → Going t w room c next (next + requestWords) (suc i) u (set s i n)
       one-more n u x =
           let qs = requestsIn w in
           let h : i < length qs = omega (arith, going-more, cut-length (requestCount w) w) in
@@ -76,20 +73,21 @@ module _ {t w room : List ℕ} {c at i : ℕ} {r s : List ℕ} (k : Ready t w ro
           let more : answersTo t (take (suc i) qs) ≡ answersTo t (take i qs) ++ (n ∷ []) =
           answers-next t qs i h ∙ ap (λ (y : ℕ). answersTo t (take i qs) ++ (y ∷ [])) (sym a) in
           record {
-            place = omega (arith, g .place);
+            begins = omega (arith, g .begins, g .ends);
+            ends = refl;
             within = omega (arith, going-more);
             said = g .said ∙ sym (check-stays r q) ∙ ap check (sym (x .words));
             tables = b ∙ sym (afterWords-next t qs i h);
             answers = put ∙ sym (ap (λ y. y ++ drop (suc i) room) more ∙ append-assoc (answersTo t (take i qs)) (n ∷ []) (drop (suc i) room));
           }
 
-      pub going-on : (n : ℕ) (u : List ℕ) → Settled r q n u → Going t w room c (at + requestWords) (i + 1) u (set s i n)
+      pub going-on : (n : ℕ) (u : List ℕ) → Settled r q n u → Going t w room c next (next + requestWords) (i + 1) u (set s i n)
       going-on n u x = rw (add-one i) (one-more n u x)
 
   -- at the end of the words every request has its answer
-  pub going-end : length w ≤ at → AnsweredAll t w room r s
+  pub going-end : length w < next → AnsweredAll t w room r s
   going-end h =
-      let n : i ≡ requestCount w = omega (arith, g .place, g .within, k .whole) in
+      let n : i ≡ requestCount w = omega (arith, g .begins, g .ends, g .within, k .whole) in
       let all : take i (requestsIn w) ≡ requestsIn w = take-all i (requestsIn w) (omega (arith, cut-length (requestCount w) w)) in
       record {
         tables = g .tables ∙ ap (afterWords t) all;

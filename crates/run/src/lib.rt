@@ -11,12 +11,13 @@ fn answer_all(t: &mut [u32], requests: &[u32], answers: &mut [u32], c: u32)
     ensures { λ _. ⌜ AnsweredAll (now (t .entry)) (now (requests .entry)) (now (answers .entry)) (now (t .exit)) (now (answers .exit)) ⌝ }
 {
     let mut at: usize = 0;
+    let mut next = size::REQUEST_WORDS;
     let mut i: usize = 0;
-    while at < requests.len() {
-        let next = at + size::REQUEST_WORDS;
+    while next <= requests.len() {
         answers[i] = step::on_checked(t, &requests[at..next], c);
         i += 1;
         at = next;
+        next += size::REQUEST_WORDS;
     }
 }
 

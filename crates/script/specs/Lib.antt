@@ -10,3 +10,4 @@ pub mod EndsLaws
 pub mod RunLaws
 pub mod GoingLaws
 pub mod WholeLaws
+pub mod StaysLaws

@@ -14,7 +14,7 @@ use Rattle.model.specs.Request.Allowed.{Known}
 use Rattle.model.specs.Request.Ladder.{applies, ladder, rungAt, unknownUser}
 use Rattle.model.specs.Request.RungLaws.{unknownUser-fails}
 use Rattle.model.specs.Request.Step.{Settles, afterOf, answerOf, sized}
-use Rattle.model.specs.Request.Words.{requestOf, requestWords}
+use Rattle.model.specs.Request.Words.{requestOf}
 use Rattle.model.specs.Script.ReportLaws.{report-length}
 use Rattle.model.specs.Script.Reports.{answerKey, bare, heldKey, missedKey, report, reportText, untold}
 use Rattle.model.specs.Script.Windows.{reportBytes}
@@ -35,9 +35,9 @@ unfolding applies rungAt ladder
 rung-known t q = refl
 
 module _ (t q : List ℕ) where
-  -- a request that is not answered 1 to 4 has sixteen words, and its requester is a user
+  -- the requester of a request that is not answered 1 to 4 is a user
   abbrev pub Told : Type 0
-  Told = (length q ≡ requestWords) × UserIn (afterOf t q) (requestOf q .user)
+  Told = UserIn (afterOf t q) (requestOf q .user)
 
   pub told-if : (answerOf t q ≡ refusal.accepted) ⊎ (refusal.unknownRequester < answerOf t q) → Told
   told-if h = cases (true-or-false (sized t q)) sized-case (λ e. absurd (no-size e))
@@ -58,7 +58,7 @@ module _ (t q : List ℕ) where
           let no : unknownUser (tablesOf t) (requestOf q) ≡ false = sym (rung-known t q) ∙ four in
           let k : Known (tablesOf t) (requestOf q .user) =
           unknownUser-fails (tablesOf t) (requestOf q) .to (is-false (unknownUser (tablesOf t) (requestOf q)) no) in
-          (sizes .1, (afterOf-length t q ∙ sizes .0, k .low, k .high))
+          (afterOf-length t q ∙ sizes .0, k .low, k .high)
 
   -- the report of an answer from 1 to 4 is the answer alone,
   pub report-bare : 1 ≤ answerOf t q → answerOf t q ≤ refusal.unknownRequester → report t q ≡ bare (answerOf t q)
@@ -83,8 +83,8 @@ module _ {t q n : List ℕ} {a : ℕ} (s : step.Settled t q a n) where
   told-of = subst (λ (k : ℕ). (k ≡ refusal.accepted) ⊎ (refusal.unknownRequester < k)) (s .answer)
 
   -- its requester is a user in these words
-  pub settled-known : (a ≡ refusal.accepted) ⊎ (refusal.unknownRequester < a) → (length q ≡ requestWords) × UserIn n (requestOf q .user)
-  settled-known h = let k = told-if t q (told-of h) in (k .0, subst (λ (l : List ℕ). UserIn l (requestOf q .user)) (sym (s .words)) (k .1))
+  pub settled-known : (a ≡ refusal.accepted) ⊎ (refusal.unknownRequester < a) → UserIn n (requestOf q .user)
+  settled-known h = subst (λ (l : List ℕ). UserIn l (requestOf q .user)) (sym (s .words)) (told-if t q (told-of h))
 
   -- and is told what these words hold,
   pub settled-full : (r : Report) → (a ≡ refusal.accepted) ⊎ (refusal.unknownRequester < a)

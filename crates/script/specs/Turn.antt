@@ -1,10 +1,11 @@
 -- Rules 12.2 to 12.4: one turn of a script s at a place, on the tables t.
 use mathlib.Core.List.{List}
 use mathlib.Core.Path.{_≡_}
-use Prim.Native.Nat.{_-_, ℕ}
+use Prim.Native.Nat.{_-_, _≤_, ℕ}
 use lib.ListN.{drop, length}
 use Rattle.model.specs.Request.Step.{afterOf}
 use Rattle.model.specs.Script.Reports.{report, unread}
+use Rattle.model.specs.State.Check.{check}
 use Rattle.model.specs.Text.Wording.{Lines, badLine, lines, readSeven, sixteen}
 use Rattle.script.specs.Reported.{inCode}
 use Rattle.script.specs.declared.reports.Report.{Report}
@@ -26,6 +27,11 @@ turnedOf t s p = turnedBy t (length s) p (readSeven (drop (p .at) s))
 
 abbrev pub leftOf : List ℕ → List ℕ → Place → List ℕ
 leftOf t s p = leftBy t (readSeven (drop (p .at) s))
+
+-- What a turn asks: the place is within the script, and c is what the check says of the tables. So the turn need not check them again.
+pub record TurnReady (t s : List ℕ) (p : Place) (c : ℕ) : Type 0 where
+  pub within : p .at ≤ length s
+  pub said : c ≡ check t
 
 -- A turn by value gives r, and leaves the tables u.
 pub record Turns (t s : List ℕ) (p : Place) (r : Turned) (u : List ℕ) : Type 0 where

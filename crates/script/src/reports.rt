@@ -9,6 +9,7 @@ ghost use Rattle.lines.specs.Onto.{Puts, Wrote};
 ghost use Rattle.model.specs.Script.Reports.{reportText};
 ghost use Rattle.model.specs.Script.Windows.{reportBytes};
 ghost use Rattle.script.specs.Reported.{Settled, fromCode, holding};
+ghost use Rattle.step.specs.Contract.{Checked};
 ghost use Rattle.tables.specs.Singles.{UserIn};
 
 // What is told of a request: its answer, the refusal that its requester holds, and how many were missed.
@@ -42,12 +43,13 @@ fn full(tables: &[u32], user: u32, answer: u32) -> Report
     }
 }
 
-// Settles one request on the tables and reports it: the step's answer, and, where the request was accepted or leaves a notice, what the
-// requester holds.
-pub fn settle(tables: &mut [u32], request: &[u32]) -> Report
+// Settles one request on the tables, of which the check has said c, and reports it: the step's answer, and, where the request was accepted or
+// leaves a notice, what the requester holds.
+pub fn settle(tables: &mut [u32], request: &[u32], c: u32) -> Report
+    requires { ⌜ Checked (now tables) (now request) c ⌝ }
     ensures { λ r. ⌜ Settled (now (tables .entry)) (now (request .entry)) r (now (tables .exit)) ⌝ }
 {
-    let answer = step::step(tables, request);
+    let answer = step::on_checked(tables, request, c);
     if answer == refusal::ACCEPTED {
         return full(tables, request::requester(request), answer);
     }

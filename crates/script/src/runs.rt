@@ -10,6 +10,7 @@ ghost use Rattle.lines.specs.Onto.{Puts};
 ghost use Rattle.model.specs.Basics.Choice.{pick};
 ghost use Rattle.model.specs.Script.Reports.{reportText};
 ghost use Rattle.model.specs.Script.Windows.{reportBytes};
+ghost use Rattle.model.specs.State.Check.{check};
 ghost use Rattle.model.specs.Text.Lines.{lineEnd};
 ghost use Rattle.model.specs.Text.Unfinished.{ends, unfinished};
 ghost use Rattle.script.specs.Reported.{fromCode};
@@ -85,8 +86,10 @@ fn halt(script: &[u8], last: bool, out: &mut [u8], n: usize, at: usize, t: Turne
 }
 
 // Settles the requests of script from its front on, each on the tables that the one before it left, and puts their reports at the front of out.
-// Where out has no room left for the longest report, no further request is begun. `last` says that nothing will follow script.
-pub fn run(tables: &mut [u32], script: &[u8], last: bool, out: &mut [u8]) -> Ran
+// Where out has no room left for the longest report, no further request is begun. `last` says that nothing will follow script, and c is what the
+// check has said of the tables, which it would say of what every request leaves.
+pub fn run(tables: &mut [u32], script: &[u8], last: bool, out: &mut [u8], c: u32) -> Ran
+    requires { ⌜ c ≡ check (now tables) ⌝ }
     ensures { λ r. ⌜ RunsOn (now (tables .entry)) (now (script .entry)) last (now (out .entry)) r (now (tables .exit)) (now (out .exit)) ⌝ }
 {
     let mut at: usize = 0;
@@ -98,7 +101,7 @@ pub fn run(tables: &mut [u32], script: &[u8], last: bool, out: &mut [u8]) -> Ran
                 bytes: n,
             };
         }
-        let t = crate::turns::one_turn(tables, script, Place { at, line: 0 });
+        let t = crate::turns::one_turn(tables, script, Place { at, line: 0 }, c);
         let next = t.place;
         if next.line != 0 {
             return halt(script, last, out, n, at, t);

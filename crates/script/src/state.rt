@@ -27,7 +27,7 @@ fn word_in(bytes: &[u8], i: usize) -> u32
 }
 
 // Loads the tables of a state file into a room for them, and answers how many words they have. A file of another size has none, and then the
-// step finds none.
+// check says so.
 pub fn load(bytes: &[u8], room: &mut [u32]) -> usize
     requires { ⌜ length (now room) ≡ wordCount ⌝ }
     ensures { λ r. ⌜ (take r (now (room .exit)) ≡ stateOf (now (bytes .entry))) × (r ≤ wordCount) ⌝ }

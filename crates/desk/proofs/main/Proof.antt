@@ -23,6 +23,17 @@ slice-aggregate-load-2 c = search needs
 load-requires : tie.Need-load-requires
 load-requires c κs = search needs
 
+array-share-prefix-tables : tie.Need-array-share-prefix-tables
+array-share-prefix-tables c = search needs
+
+slice-aggregate-checked : tie.Need-slice-aggregate-checked
+slice-aggregate-checked c =
+    let s2 : _ → _ = λ _. c .before .before in
+    sym (length-take-le _ _ (omega (arith, s2 c .load .ensures .1, s2 c .load .kept .1 .0)))
+
+checked-requires : tie.Need-checked-requires
+checked-requires c κs = search needs
+
 large-buffer-requires : tie.Need-large-buffer-requires
 large-buffer-requires c κs = search needs
 
@@ -34,8 +45,8 @@ array-borrow-prefix-tables c = search needs
 
 slice-aggregate-serve : tie.Need-slice-aggregate-serve
 slice-aggregate-serve c =
-    let s4 : _ → _ = λ _. c .before .before .before .before in
-    sym (length-take-le _ _ (omega (arith, s4 c .load .ensures .1, s4 c .load .kept .1 .0)))
+    let s6 : _ → _ = λ _. c .before .before .before .before .before .before in
+    sym (length-take-le _ _ (omega (arith, s6 c .load .ensures .1, s6 c .load .kept .1 .0)))
 
 slice-aggregate-serve-2 : tie.Need-slice-aggregate-serve-2
 slice-aggregate-serve-2 c = search needs
@@ -44,7 +55,7 @@ slice-aggregate-serve-3 : tie.Need-slice-aggregate-serve-3
 slice-aggregate-serve-3 c = search needs
 
 serve-requires : tie.Need-serve-requires
-serve-requires c κs = search needs
+serve-requires c κs = record { roomy = search needs; said = c .before .before .before .before .before .checked .ensures }
 
 returns : tie.Need-returns
 returns c = search needs
@@ -59,6 +70,9 @@ main-spec =
     slice-aggregate-load
     slice-aggregate-load-2
     load-requires
+    array-share-prefix-tables
+    slice-aggregate-checked
+    checked-requires
     large-buffer-requires
     large-buffer-requires-2
     array-borrow-prefix-tables

@@ -5,21 +5,25 @@ use Prim.Native.Nat.{_<_, _≤_}
 use lib.ListN.{length}
 use lib.Seq.{length-take-le}
 use borrow.Author.Needs.{needs}
+use Rattle.model.specs.State.Check.{check}
 use Rattle.script.specs.RunLaws.{runs-within}
+use Rattle.script.specs.StaysLaws.{runs-stay}
 use Rattle.script.specs.WholeLaws.{wanted-short}
 use Rattle.desk.proofs.serve.Statement.{statement}
 use Rattle.desk.proofs.serve.Tie as tie
 
 abbrev Inv-loop : tie.InvT-loop
-Inv-loop tables₀ window₀ out₀ turns₀ len₀ wanted₀ last₀ tables window out turns len wanted last =
+Inv-loop tables₀ window₀ out₀ c turns₀ len₀ wanted₀ last₀ tables window out turns len wanted last =
     (len ≤ length window) × (wanted ≡ true → len < length window)
     × (length tables ≡ length tables₀) × (length window ≡ length window₀) × (length out ≡ length out₀) × (turns ≤ 18446744073709551615)
+    × (c ≡ check tables)
 
 abbrev μ-loop : tie.MeasureT-loop
-μ-loop tables₀ window₀ out₀ turns₀ len₀ wanted₀ last₀ tables window out turns len wanted last = turns
+μ-loop tables₀ window₀ out₀ c turns₀ len₀ wanted₀ last₀ tables window out turns len wanted last = turns
 
 loop-holds : tie.Need-loop-holds Inv-loop μ-loop
-loop-holds c = (omega arith, λ _. omega (arith, c .before .before .before .pre), refl, refl, refl, omega arith)
+loop-holds c =
+    (omega arith, λ _. omega (arith, c .before .before .before .pre .roomy), refl, refl, refl, omega arith, c .before .before .before .pre .said)
 
 fetch-requires : tie.Need-fetch-requires Inv-loop μ-loop
 fetch-requires c κs = (c .before .before .loop .inv .0, c .before .before .loop .inv .1)
@@ -33,7 +37,7 @@ slice-aggregate-run c =
     sym (length-take-le _ _ (omega (arith, s4 c .fetch .ensures .1, s4 c .fetch .kept .0)))
 
 run-requires : tie.Need-run-requires Inv-loop μ-loop
-run-requires c κs = search needs
+run-requires c κs = c .before .before .before .before .before .before .before .before .loop .inv .6
 
 slice-reshare-prefix-put : tie.Need-slice-reshare-prefix-put Inv-loop μ-loop
 slice-reshare-prefix-put c =
@@ -130,13 +134,13 @@ loop-again c =
         c .before .before .keep .kept .0,
         s21 c .fetch .kept .0,
         s24 c .loop .inv .3,
-        s28 c .pre,
+        s28 c .pre .roomy,
       )),
       s15 c .run .kept .0 ∙ s24 c .loop .inv .2,
       c .before .before .keep .kept .0 ∙ s21 c .fetch .kept .0 ∙ s24 c .loop .inv .3,
       s15 c .run .kept .1 .1 .1 .0 ∙ s24 c .loop .inv .4,
-      omega
-          (arith, s24 c .loop .inv .5),
+      omega (arith, s24 c .loop .inv .5),
+      runs-stay (s15 c .run .ensures) (s24 c .loop .inv .6),
     )
 
 same-length-7 : tie.Need-same-length-7 Inv-loop μ-loop

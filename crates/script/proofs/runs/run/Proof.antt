@@ -2,19 +2,22 @@ use mathlib.Core.Path.{_∙_, _≡_, refl}
 use native.Mathlib.Omega.{arith}
 use Prim.Native.Nat.{_-_}
 use lib.ListN.{length}
+use Rattle.model.specs.State.Check.{check}
 use Rattle.script.specs.Going.{Going}
 use Rattle.script.specs.GoingLaws.{going-end, going-full, going-halt, going-length, going-start, going-turn, turn-further}
+use Rattle.script.specs.StaysLaws.{turn-stays}
 use Rattle.script.proofs.runs.run.Statement.{statement}
 use Rattle.script.proofs.runs.run.Tie as tie
 
 abbrev Inv-loop : tie.InvT-loop
-Inv-loop tables₀ script last out₀ at₀ n₀ tables out at n = Going tables₀ script last out₀ tables at out n × (length tables ≡ length tables₀)
+Inv-loop tables₀ script last out₀ c at₀ n₀ tables out at n =
+    Going tables₀ script last out₀ tables at out n × (length tables ≡ length tables₀) × (c ≡ check tables)
 
 abbrev μ-loop : tie.MeasureT-loop
-μ-loop tables₀ script last out₀ at₀ n₀ tables out at n = length script - at
+μ-loop tables₀ script last out₀ c at₀ n₀ tables out at n = length script - at
 
 loop-holds : tie.Need-loop-holds Inv-loop μ-loop
-loop-holds c = (going-start _ _ _ _, refl)
+loop-holds c = (going-start _ _ _ _, refl, c .before .before .before .pre)
 
 sub-if1 : tie.Need-sub-if1 Inv-loop μ-loop
 sub-if1 c = omega (arith, going-length (c .before .loop .inv .0), c .before .loop .inv .0 .fits)
@@ -29,7 +32,9 @@ returns : tie.Need-returns Inv-loop μ-loop
 returns c = going-full (c .before .before .loop .inv .0) (omega (arith, going-length (c .before .before .loop .inv .0), c .if1 .taken))
 
 one-turn-requires : tie.Need-one-turn-requires Inv-loop μ-loop
-one-turn-requires c κs = c .before .before .before .loop .inv .0 .within
+one-turn-requires c κs =
+    let s3 = c .before .before .before in
+    record { within = s3 .loop .inv .0 .within; said = s3 .loop .inv .2 }
 
 halt-requires : tie.Need-halt-requires Inv-loop μ-loop
 halt-requires c κs =
@@ -81,8 +86,8 @@ loop-again c =
     let s14 : _ → _ = λ _. s13 c .before in (
       going-turn (s14 c .loop .inv .0) _ _ _ _ (s13 c .loop-test .taken) (omega (arith, going-length (s14 c .loop .inv .0), s12 c .if1 .left))
           (s10 c .one-turn .ensures) (omega (arith, s5 c .if2 .left)) (c .before .before .put-report .ensures),
-      s10 c .one-turn .kept .0 ∙ s14
-          c .loop .inv .1,
+      s10 c .one-turn .kept .0 ∙ s14 c .loop .inv .1,
+      turn-stays (s10 c .one-turn .ensures) (s14 c .loop .inv .2),
     )
 
 same-length-5 : tie.Need-same-length-5 Inv-loop μ-loop

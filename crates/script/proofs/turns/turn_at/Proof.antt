@@ -22,7 +22,10 @@ slice-aggregate-settled : tie.Need-slice-aggregate-settled
 slice-aggregate-settled c = search needs
 
 settled-requires : tie.Need-settled-requires
-settled-requires c κs = search needs
+settled-requires c κs =
+    let s6 = c .before .before .before .before .before .before in
+    let s10 = s6 .before .before .before .before in
+    record { said = s10 .pre .said; request = s6 .read-seven .kept .1 .1 .0 }
 
 returns : tie.Need-returns
 returns c =
