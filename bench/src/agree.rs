@@ -2,7 +2,7 @@
 //! different things is worth nothing.
 use crate::contest::Contest;
 use crate::sides::{ORDINARY, PROVED};
-use bench::load::{Load, Rooms};
+use bench::load::{Call, Load, Rooms};
 use bench::side::{answer_of, number_of, Outcome};
 
 /// What a side works on.
@@ -29,6 +29,12 @@ impl Agreed {
         self.accepted += usize::from(answer_of(outcome) == 0);
         self.numbers += u64::from(number_of(outcome));
     }
+
+    /// Takes in a run that both sides answered alike. Of its requests each counts by itself.
+    fn note_run(&mut self, rooms: &Rooms) {
+        self.sum = self.sum.wrapping_add(rooms.answered());
+        self.accepted = rooms.answers.iter().filter(|&&answer| answer == 0).count();
+    }
 }
 
 /// Call number `at` by both sides, and what came of it if nothing differs: the outcome, the tables of the call, and all rooms.
@@ -52,6 +58,9 @@ pub fn agree(contest: &Contest, load: &Load) -> Result<Agreed, String> {
             Some(outcome) => agreed.note(outcome),
             None => return Err(format!("{}: the sides differ at call {} of the load", contest.name(), at)),
         }
+    }
+    if contest.call == Call::Run {
+        agreed.note_run(&proved.rooms);
     }
     match proved.tables == ordinary.tables {
         true => Ok(agreed),

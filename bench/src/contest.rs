@@ -2,7 +2,7 @@
 use crate::sides::PROVED;
 use bench::load::{Call, Load};
 use bench::requests::Wanted;
-use bench::{requests, tables, texts};
+use bench::{requests, runs, tables, texts};
 use generate::layout::OPERATION_MOST;
 use generate::{dice_for, full, Dice};
 
@@ -81,6 +81,8 @@ pub struct Contest {
     pub kind: Kind,
 }
 
+/// A run of requests of all operations.
+pub const RUN: Contest = Contest { call: Call::Run, kind: Kind::Mixed };
 /// The step without the check on requests of all operations.
 pub const MIX: Contest = Contest { call: Call::Advance, kind: Kind::Mixed };
 
@@ -93,7 +95,7 @@ pub fn all() -> Vec<Contest> {
     [
         of(Call::Check, &tables),
         of(Call::Step, &[Kind::Mixed]),
-        vec![MIX],
+        vec![RUN, MIX],
         of(Call::Advance, &operations),
         of(Call::List, &tables),
         of(Call::Read, &texts),
@@ -121,6 +123,7 @@ impl Contest {
             Call::Check => self.check_load(&mut dice, tables),
             Call::List => self.list_load(&mut dice, tables),
             Call::Step | Call::Advance => self.request_load(&mut dice, tables),
+            Call::Run => runs::prepare(&mut dice),
             Call::Read | Call::Write => self.text_load(&mut dice, tables),
         };
         self.checked(load)

@@ -33,6 +33,7 @@ pub fn count(contest: &Contest, side: &Side, calls: usize, file: &Path) -> Resul
     if calls > load.calls(contest.call) {
         return Err(format!("{}: there are {} calls at most", contest.name(), load.calls(contest.call)));
     }
-    let mut tables = load.tables.clone();
-    Ok(load.pass(calls, contest.call, side, &mut tables, &mut Rooms::new()))
+    let (mut tables, mut rooms) = (load.tables.clone(), Rooms::new());
+    let sum = load.pass(calls, contest.call, side, &mut tables, &mut rooms);
+    Ok(sum.wrapping_add(rooms.answered()))
 }

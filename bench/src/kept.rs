@@ -13,6 +13,7 @@ pub fn bytes_of(load: &Load) -> Vec<u8> {
     put(&mut bytes, &load.requests, |bytes, request| put_words(bytes, request));
     put(&mut bytes, &load.users, |bytes, &user| put_words(bytes, &[user]));
     put(&mut bytes, &load.texts, |bytes, text| put(bytes, text, |bytes, &byte| bytes.push(byte)));
+    put(&mut bytes, &load.run, |bytes, &word| put_words(bytes, &[word]));
     bytes
 }
 
@@ -36,6 +37,7 @@ pub fn load_of(bytes: &[u8]) -> Option<Load> {
         requests: left.things(|left| Request::try_from(left.words(REQUEST_WORDS)?).ok())?,
         users: left.things(Left::number)?,
         texts: left.things(|left| left.number().and_then(|length| Some(left.next(length as usize)?.to_vec())))?,
+        run: left.things(Left::number)?,
     };
     Some(load).filter(|load| left.bytes.is_empty() && load.places.iter().all(|&place| place < load.tables.len()))
 }
@@ -86,6 +88,7 @@ mod tests {
             requests: vec![[7; REQUEST_WORDS]],
             users: vec![2, 3],
             texts: vec![b"user=2\n".to_vec(), Vec::new()],
+            run: vec![8; 2 * REQUEST_WORDS],
         }
     }
 

@@ -4,6 +4,8 @@ pub mod figures;
 pub mod kept;
 pub mod load;
 pub mod requests;
+pub mod runs;
 pub mod side;
+mod standing;
 pub mod tables;
 pub mod texts;

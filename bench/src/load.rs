@@ -6,6 +6,9 @@ use generate::layout::{ENTRY_WORDS, REQUEST_WORDS};
 /// The bytes of the longest text.
 pub const TEXT_MOST: usize = 166;
 
+/// The requests of a run.
+pub const RUN_REQUESTS: usize = 10_000;
+
 /// The words of a request.
 pub type Request = [u32; REQUEST_WORDS];
 
@@ -15,6 +18,7 @@ pub enum Call {
     Check,
     Step,
     Advance,
+    Run,
     List,
     Read,
     Write,
@@ -27,6 +31,7 @@ impl Call {
             Call::Check => "check",
             Call::Step => "step",
             Call::Advance => "advance",
+            Call::Run => "run",
             Call::List => "list",
             Call::Read => "read",
             Call::Write => "write",
@@ -34,19 +39,26 @@ impl Call {
     }
 }
 
-/// Lent to calls to write to: large enough for any list, any text and any request.
+/// Lent to calls to write to: large enough for any list, any text, any request and the answers of any run.
 #[derive(Clone, PartialEq, Eq)]
 pub struct Rooms {
     pub entries: Vec<u32>,
     pub text: Vec<u8>,
     pub request: Request,
+    pub answers: Vec<u32>,
 }
 
 impl Rooms {
     /// Rooms with nothing in them.
     pub fn new() -> Rooms {
         let entries = vec![0; ENTRIES_MOST as usize * ENTRY_WORDS];
-        Rooms { entries, text: vec![0; TEXT_MOST], request: [0; REQUEST_WORDS] }
+        let answers = vec![0; RUN_REQUESTS];
+        Rooms { entries, text: vec![0; TEXT_MOST], request: [0; REQUEST_WORDS], answers }
+    }
+
+    /// The sum of the answers that the last run has left; no other call writes there.
+    pub fn answered(&self) -> Outcome {
+        self.answers.iter().map(|&answer| Outcome::from(answer)).sum()
     }
 }
 
@@ -60,6 +72,8 @@ pub struct Load {
     pub requests: Vec<Request>,
     pub users: Vec<u32>,
     pub texts: Vec<Vec<u8>>,
+    /// The words of all requests of a run, which is one call, on the first tables.
+    pub run: Vec<u32>,
 }
 
 impl Load {
@@ -68,6 +82,7 @@ impl Load {
         match call {
             Call::Check => self.places.len(),
             Call::Step | Call::Advance | Call::Write => self.requests.len(),
+            Call::Run => usize::from(!self.run.is_empty()),
             Call::List => self.users.len(),
             Call::Read => self.texts.len(),
         }
@@ -80,6 +95,7 @@ impl Load {
             Call::Check => (side.check)(&tables[self.places[at]]),
             Call::Step => (side.step)(&mut tables[self.places[at]], &self.requests[at]),
             Call::Advance => (side.advance)(&mut tables[self.places[at]], &self.requests[at]),
+            Call::Run => (side.run)(&mut tables[self.places[at]], &self.run, &mut rooms.answers),
             Call::List => (side.list)(&tables[self.places[at]], self.users[at], &mut rooms.entries),
             Call::Read => (side.read)(&self.texts[at], &mut rooms.request),
             Call::Write => (side.write)(&self.requests[at], &mut rooms.text),
@@ -94,6 +110,7 @@ impl Load {
             Call::Check => sum(calls, |at| self.call(at, Call::Check, side, tables, rooms)),
             Call::Step => sum(calls, |at| self.call(at, Call::Step, side, tables, rooms)),
             Call::Advance => sum(calls, |at| self.call(at, Call::Advance, side, tables, rooms)),
+            Call::Run => sum(calls, |at| self.call(at, Call::Run, side, tables, rooms)),
             Call::List => sum(calls, |at| self.call(at, Call::List, side, tables, rooms)),
             Call::Read => sum(calls, |at| self.call(at, Call::Read, side, tables, rooms)),
             Call::Write => sum(calls, |at| self.call(at, Call::Write, side, tables, rooms)),

@@ -6,6 +6,7 @@ mod contest;
 mod count;
 mod machine;
 mod print;
+mod script;
 mod sides;
 mod timing;
 
@@ -15,7 +16,8 @@ use std::{env, process};
 const USAGE: &str = "usage:
   bench time SEED REPETITIONS               both sides timed on the same loads, as a table
   bench keep FOLDER [SEED]                  the loads to count with, kept in FOLDER: prints call, load, number of calls and file of each
-  bench count CALL LOAD SIDE CALLS FILE     so many calls of one side (proved or ordinary) on the load in FILE, and nothing else";
+  bench count CALL LOAD SIDE CALLS FILE     so many calls of one side (proved or ordinary) on the load in FILE, and nothing else
+  bench script FOLDER SEED                  the requests of the run as a script, and their tables as state.words, left in FOLDER";
 /// The seed where none is given.
 const SEED: u64 = 1;
 /// The status of a run that found something wrong, and of one that was not asked for anything that there is.
@@ -77,6 +79,13 @@ fn count(words: [&str; 5]) -> Result<(), Stop> {
     Ok(())
 }
 
+/// Leaves the script of the run in a folder, and says on what machine this is.
+fn left_in(folder: &str, seed: u64) -> Result<(), Stop> {
+    script::keep(seed, Path::new(folder))?;
+    println!("Machine: {}. Seed {seed}.", machine::describe());
+    Ok(())
+}
+
 /// Does what the command line asks for.
 fn run(words: &[&str]) -> Result<(), Stop> {
     match *words {
@@ -87,6 +96,7 @@ fn run(words: &[&str]) -> Result<(), Stop> {
         ["keep", folder] => keep(folder, SEED),
         ["keep", folder, seed] => keep(folder, number(seed)?),
         ["count", call, load, side, calls, file] => count([call, load, side, calls, file]),
+        ["script", folder, seed] => left_in(folder, number(seed)?),
         _ => Err(Stop::Usage),
     }
 }

@@ -2,11 +2,11 @@
 use crate::machine;
 use crate::timing::{Report, LEAST};
 use bench::figures::{nanoseconds, whole, Spread};
-use bench::load::Call;
+use bench::load::{Call, RUN_REQUESTS};
 
 /// What the names in the first two columns mean.
 const NAMES: &str = "
-- check, step, list, read, write: the five calls. advance: the step without the check.
+- check, step, run, list, read, write: the six calls. A run has 10,000 requests to one tables. advance: the step without the check.
 - s1: case state S1 alone, again and again; the list is that of user 2.
 - middle: tables made by dice, some entities absent and some users off. full: all entities present and all users on, levels and triples
   by dice. fullest: the tables that have the longest list there is.
@@ -43,9 +43,13 @@ fn a_pass(report: &Report) -> String {
         Call::List => format!(", {mean:.1} entries each"),
         Call::Write => format!(", {mean:.1} bytes each"),
         Call::Step | Call::Advance => format!(", {} accepted", whole(report.agreed.accepted as u64)),
+        Call::Run => {
+            format!(" of {} requests, {} accepted", whole(RUN_REQUESTS as u64), whole(report.agreed.accepted as u64))
+        }
         Call::Check | Call::Read => String::new(),
     };
-    format!("{} calls{about}", whole(report.calls as u64))
+    let calls = if report.calls == 1 { "call" } else { "calls" };
+    format!("{} {calls}{about}", whole(report.calls as u64))
 }
 
 /// The line of a contest. The clock of a processor may change during a run: two repetitions next to each other find it much the same, so

@@ -9,6 +9,7 @@ pub struct Side {
     pub check: fn(&[u32]) -> Outcome,
     pub step: fn(&mut [u32], &[u32]) -> Outcome,
     pub advance: fn(&mut [u32], &[u32]) -> Outcome,
+    pub run: fn(&mut [u32], &[u32], &mut [u32]) -> Outcome,
     pub list: fn(&[u32], u32, &mut [u32]) -> Outcome,
     pub read: fn(&[u8], &mut [u32]) -> Outcome,
     pub write: fn(&[u32], &mut [u8]) -> Outcome,

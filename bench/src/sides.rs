@@ -5,7 +5,7 @@ use crate::advance;
 use bench::side::{packed, Outcome, Side};
 use ordinary::Right;
 
-/// One of the five calls of a desk, kept out of line.
+/// One of the six calls of a desk, kept out of line.
 macro_rules! call {
     ($name:ident, $desk:path, $answer:ident, ($($given:ident: $kind:ty),*)) => {
         #[inline(never)]
@@ -18,12 +18,14 @@ macro_rules! call {
 
 call!(proved_check, mms::words::check, no, (tables: &[u32]));
 call!(proved_step, mms::words::step, no, (tables: &mut [u32], request: &[u32]));
+call!(proved_run, mms::words::run, no, (tables: &mut [u32], requests: &[u32], answers: &mut [u32]));
 call!(proved_list, mms::words::list, no, (tables: &[u32], user: u32, room: &mut [u32]));
 call!(proved_read, mms::words::read, no, (text: &[u8], request: &mut [u32]));
 call!(proved_write, mms::words::write, no, (request: &[u32], room: &mut [u8]));
 
 call!(ordinary_check, ordinary::check::<Right>, answer, (tables: &[u32]));
 call!(ordinary_step, ordinary::step::<Right>, answer, (tables: &mut [u32], request: &[u32]));
+call!(ordinary_run, ordinary::run::<Right>, answer, (tables: &mut [u32], requests: &[u32], answers: &mut [u32]));
 call!(ordinary_list, ordinary::list::<Right>, answer, (tables: &[u32], user: u32, room: &mut [u32]));
 call!(ordinary_read, ordinary::read::<Right>, answer, (text: &[u8], request: &mut [u32]));
 call!(ordinary_write, ordinary::write::<Right>, answer, (request: &[u32], room: &mut [u8]));
@@ -46,6 +48,7 @@ pub static PROVED: Side = Side {
     check: proved_check,
     step: proved_step,
     advance: proved_advance,
+    run: proved_run,
     list: proved_list,
     read: proved_read,
     write: proved_write,
@@ -57,6 +60,7 @@ pub static ORDINARY: Side = Side {
     check: ordinary_check,
     step: ordinary_step,
     advance: ordinary_advance,
+    run: ordinary_run,
     list: ordinary_list,
     read: ordinary_read,
     write: ordinary_write,

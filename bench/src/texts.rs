@@ -34,7 +34,7 @@ fn longest(dice: &mut Dice) -> Request {
 }
 
 /// The text of a request, if it has one.
-fn text(request: &Request) -> Option<Vec<u8>> {
+pub fn text(request: &Request) -> Option<Vec<u8>> {
     let mut room = vec![0; TEXT_MOST];
     let reply = ordinary::write::<Right>(request, &mut room);
     room.truncate(reply.number as usize);

@@ -36,14 +36,14 @@ impl<'a> Bout<'a> {
 
     /// Puts the tables back to where a pass starts; calls that only read them leave them there.
     fn restore(&mut self) {
-        if matches!(self.call, Call::Step | Call::Advance) {
+        if matches!(self.call, Call::Step | Call::Advance | Call::Run) {
             for (now, before) in self.tables.iter_mut().zip(&self.load.tables) {
                 now.copy_from_slice(before);
             }
         }
     }
 
-    /// Passes until they have taken long enough. Putting back the tables is not timed.
+    /// Passes until they have taken long enough. Putting back the tables and summing up the answers of a run are not timed.
     fn repetition(&mut self, side: &Side) -> Repetition {
         let calls = self.load.calls(self.call);
         let mut done = Repetition::default();
@@ -53,7 +53,7 @@ impl<'a> Bout<'a> {
             let sum = self.load.pass(calls, self.call, side, &mut self.tables, &mut self.rooms);
             done.time += start.elapsed();
             done.passes += 1;
-            done.sum = done.sum.wrapping_add(sum);
+            done.sum = done.sum.wrapping_add(sum).wrapping_add(self.rooms.answered());
         }
         done
     }

@@ -38,8 +38,14 @@ def pieces(trial):
 
 
 def turns(trial):
-    """Each report comes before the next request is sent."""
+    """Each report comes before the next request is sent, also of tables that fail the check."""
     state, script = trial.maker.script(3, 30)
+    in_turn(trial, "a report before the next request", state, script)
+    in_turn(trial, "a report of bad tables before the next request", b"\2" + state[1:], script)
+
+
+def in_turn(trial, what, state, script):
+    """Sends each request when the report of the one before is there."""
     wanted = trial.same("a script at once", state, script)
     folder, running = start(trial, state)
     got, sent = b"", 0
@@ -47,9 +53,9 @@ def turns(trial):
         if got.count(b"\n") == REPORT_LINES * sent and running.send(request):
             sent += 1
             got += running.lines(REPORT_LINES)
-    trial.expect("a report before the next request", got == wanted, f"{got!r} instead of {wanted!r}")
+    trial.expect(what, got == wanted, f"{got!r} instead of {wanted!r}")
     running.process.stdin.close()
-    trial.ended_well("a report before the next request", folder, *running.end())
+    trial.ended_well(what, folder, *running.end())
 
 
 def bad_requests(trial):

@@ -9,7 +9,7 @@ from programs import PATIENCE, PIECE, Folder, Running
 from scripts import LINES, REPORT_LINES
 
 MEGABYTES = int(os.environ.get("MEGABYTES", "20"))
-WITH_TABLES = 20  # times shorter: a step takes far longer than a refusal
+WITH_TABLES = 4  # times shorter: a step takes longer than a refusal
 WARM_UP = 1000  # copies of the script after which the memory is first looked at
 MORE_MEMORY = 512  # kB that may come to it afterwards; an emulator takes some
 TIMED = 20_000  # requests in the script that is timed

@@ -27,6 +27,7 @@ GROUPS = [
     ("fixed scripts", whole.fixed),
     ("cut scripts", whole.cut),
     ("state files", whole.states),
+    ("bad tables", whole.bad_tables),
     ("random scripts", whole.random_scripts),
     ("damaged scripts", whole.damaged_scripts),
     ("pieces", arriving.pieces),

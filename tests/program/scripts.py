@@ -7,6 +7,7 @@ LINES = 7  # in a request text
 REPORT_LINES = 3
 SCRIPTS = 1000  # with numbers below this each seed has its own
 SEEDS = 2**64  # a seed of the maker is below this
+BAD_EVERY = 8  # the maker's tables may be bad with the last of every so many seeds
 ODD_BYTES = b"\n\r\0 .=+-09azAZ\x80\xff"
 LARGEST = b"4294967295"
 KEYS = (b"user", b"op", b"ref", b"ref2", b"a", b"b", b"c")
@@ -25,6 +26,11 @@ def longest():
     """The longest text that there is."""
     names = b".".join([LARGEST] * 4)
     return b"".join(b"%s=%s\n" % (key, names if key.startswith(b"ref") else LARGEST) for key in KEYS)
+
+
+def request(user, op, ref=b"", a=0, b=0):
+    """The text of a request with one operand or none."""
+    return b"user=%d\nop=%d\nref=%s\nref2=\na=%d\nb=%d\nc=0\n" % (user, op, ref, a, b)
 
 
 def split(script):
@@ -64,6 +70,11 @@ class Maker:
     def script(self, number, requests):
         """Tables and requests to them."""
         return self.make(str((SCRIPTS * self.seed + number) % SEEDS), str(requests))
+
+    def bad_script(self, number, requests):
+        """Tables that may be bad, and requests to them."""
+        first = (BAD_EVERY - 1 - SCRIPTS * self.seed) % BAD_EVERY
+        return self.script(first + BAD_EVERY * number, requests)
 
     def make(self, *words):
         """What the maker gives for these words: the bytes of tables, and behind them a script."""

@@ -1,11 +1,13 @@
 """Scripts that are there as a whole when the program starts."""
 from collections import Counter
 
-from scripts import LINES, NOT_READ, REPORT_LINES, damage, longest, report, split
+from scripts import LINES, NOT_READ, REPORT_LINES, damage, longest, report, request, split
 
 RANDOM_TABLES = 40
 REQUESTS = 300
 DAMAGED = 300
+BAD_TABLES = 40
+BAD_REQUESTS = 50
 LONG_LINE = 10_000
 
 # What is reported for the script of S1, by its first request and by both.
@@ -15,9 +17,15 @@ BOTH_REPORTS = FIRST_REPORT + report(0, held=9, missed=1)
 # What random scripts must be answered: all that a step can say of tables that are well-formed and secure.
 ANSWERS = {0, *range(4, 17)}
 
-# Words of S1's tables, by their number [rules 2.1 to 2.3]: whether user 1 is present, and the maximum of entity 1, a device.
+# Words of S1's tables, by their number [rules 2.1 to 2.3]: whether user 1 is present, the current roles of user 2 and how
+# many refusals that user missed, and the maximum of entity 1, a device.
 PRESENT = 0
+CURRENT = 16 + 3
+MISSED = 16 + 7
 MAXIMUM = 256 + 6
+
+# Operations [rules 6.10 to 6.14].
+SHOW, CLEAR, LOGIN, CURRENT_ROLES = 10, 11, 12, 14
 
 
 def fixed(trial):
@@ -66,9 +74,41 @@ def states(trial):
         trial.same(what + ", damaged script", state, script + b"user=1\n", ones + NOT_READ, mode)
         trial.same(what + ", empty script", state, b"", b"", mode)
     trial.same("a state file that may only be read", s1, script, BOTH_REPORTS, 0o444)
-    trial.same("tables that are not well-formed", changed(s1, PRESENT, 2), script, report(2) * 2)
-    trial.same("tables with the highest byte of each word first", swapped(s1), script, report(2) * 2)
-    trial.same("tables that are not secure", changed(s1, MAXIMUM, 0), script, report(3) * 2)
+
+
+def bad_tables(trial):
+    """Tables are checked once, when they are loaded. Where they fail every request is answered alike, from the first to
+    the last, also behind such as would have made them good [rules 7.2, 7.3]."""
+    s1, script = trial.maker.s1()
+    requests = [*split(script), request(1, CURRENT_ROLES, a=2), request(2, CURRENT_ROLES, a=2), request(2, CLEAR),
+                request(3, LOGIN, b"3"), request(9, SHOW, b"5", a=3), request(2, 99), longest(), *split(script)]
+    for what, state, answer in [
+            ("neither present nor absent", changed(s1, PRESENT, 2), 2),
+            ("the highest byte of each word first", swapped(s1), 2),
+            ("refusals missed and none held, which a refusal mends", changed(s1, MISSED, 5), 2),
+            ("a device above its maximum", changed(s1, MAXIMUM, 0), 3),
+            ("a role without authority, which new roles mend", changed(s1, CURRENT, 1), 3)]:
+        trial.same(what, state, b"".join(requests), report(answer) * len(requests))
+        trial.same(what + ", one request", state, requests[0], report(answer))
+        trial.same(what + ", damaged script", state, requests[0] * 2 + b"user=1\n", report(answer) * 2 + NOT_READ)
+        trial.same(what + ", empty script", state, b"", b"")
+    met = {answer for number in range(BAD_TABLES) for answer in random_bad_tables(trial, number)}
+    trial.expect("answers to random tables that may be bad", {0, 2, 3} <= met, f"only {sorted(met)}")
+
+
+def random_bad_tables(trial, number):
+    """Where one request is answered 2 or 3 all are; the answers that were given are returned."""
+    state, script = trial.maker.bad_script(number, BAD_REQUESTS)
+    wrote = trial.same(f"tables that may be bad, {number}", state, script)
+    answers = answers_in(wrote)
+    alike = not {2, 3} & set(answers) or wrote == report(answers[0]) * BAD_REQUESTS
+    trial.expect(f"answers of tables that may be bad, {number}", alike, f"{answers}")
+    return set(answers)
+
+
+def answers_in(wrote):
+    """The answers that a program has written, in order."""
+    return [int(line.partition(b"=")[2]) for line in wrote.splitlines() if line.startswith(b"answer=")]
 
 
 def changed(state, word, value):
@@ -89,7 +129,7 @@ def random_scripts(trial):
         wrote = trial.same(f"tables and script {number}", state, script)
         trial.expect(f"requests of script {number}", script.count(b"\n") == LINES * REQUESTS)
         trial.expect(f"reports of script {number}", wrote.count(b"\n") == REPORT_LINES * REQUESTS)
-        answers.update(int(line.partition(b"=")[2]) for line in wrote.splitlines() if line.startswith(b"answer="))
+        answers.update(answers_in(wrote))
     print("answers to random scripts:", ", ".join(f"{answer}: {answers[answer]}" for answer in sorted(answers)))
     trial.expect("answers to random scripts", ANSWERS <= set(answers), f"never {sorted(ANSWERS - set(answers))}")
 

@@ -27,6 +27,8 @@ impl Filler for u8 {
 const GUARD: usize = 16;
 /// Bytes that the widest instruction in the archive takes at once; some of those fault where they meet no multiple of it.
 const WIDEST: usize = 16;
+/// As many places can words start at, from one multiple of it to the next.
+pub const WORD_OFFSETS: usize = WIDEST / size_of::<u32>();
 
 thread_local! {
     /// The dice that say where slices start. They are none of those that requests are thrown with, so that they change no request.
@@ -92,6 +94,11 @@ impl<T: Filler> Guarded<T> {
         &self.block[self.start..self.start + self.length]
     }
 
+    /// How many words or bytes behind the multiple of `WIDEST` before it the slice starts.
+    pub fn offset(&self) -> usize {
+        self.words().as_ptr() as usize % WIDEST / size_of::<T>()
+    }
+
     /// Do these words stand in it, and the guards around them?
     pub fn holds(&self, words: &[T]) -> bool {
         self.words() == words && self.guards_stand()
@@ -153,7 +160,9 @@ mod tests {
         let mut slice = Guarded::<T>::room(3);
         let mut start = || {
             slice.empty(3);
-            slice.lent().as_ptr() as usize % WIDEST
+            let start = slice.lent().as_ptr() as usize % WIDEST;
+            assert_eq!(slice.offset() * size_of::<T>(), start);
+            start
         };
         (0..1_000).map(|_| start()).collect()
     }

@@ -1,13 +1,15 @@
 //! The proved desk against one written by hand: the same tables, requests and texts go to both, and everything that either leaves is compared.
+mod difference;
 mod guarded;
 mod outcome;
+mod runs;
 mod script;
 mod side;
 mod tables;
 mod texts;
 mod wrong;
 
-use ordinary::{Right, Wrong, WRONG};
+use ordinary::{Calls, Right, Wrong, WRONG};
 use outcome::{Out, Outcome};
 use side::ByHand;
 use std::process::exit;
@@ -17,6 +19,7 @@ use wrong::Effort;
 const USAGE: &str = "\
 usage: differential tables SEED STEPS [wrong=NAME] [table=NUMBER]
        differential texts SEED ROUNDS [wrong=NAME]
+       differential runs SEED ROUNDS [wrong=NAME] [round=NUMBER]
        differential s1
        differential rooms SEED
        differential wrong SEED STEPS ROUNDS
@@ -25,15 +28,16 @@ usage: differential tables SEED STEPS [wrong=NAME] [table=NUMBER]
 
 tables: check, step and list of tables good and bad; table=NUMBER replays one of them alone
 texts:  request texts read and written, good ones and damaged ones
+runs:   requests in one run, in pieces and in single steps, and runs of odd lengths; round=NUMBER replays one round alone
 s1:     the answers that document 01 lists for case state S1
 rooms:  lists of S1, of S1 with something amiss and of full tables, in rooms of every length
-wrong:  every wrong desk through tables or texts, where it must be noticed
+wrong:  every wrong desk through tables, texts or runs, where it must be noticed
 script: tables as state.words has them, then a script of requests to them
 
 A seed is a number below 2^64, and everything follows from it. The status is 1 if anything differed or was not reached, and 2 if it is not
 clear what is wanted. With wrong=NAME the desk written by hand is one of these:";
 
-/// Differences after which a run of tables is given up.
+/// Differences after which a comparison of tables or of runs is given up.
 const DIFFERENCES_MOST: u64 = 5;
 
 /// What is not understood.
@@ -55,24 +59,36 @@ fn number(word: &str) -> Result<u64, Unclear> {
     }
 }
 
-/// Options behind the numbers of a run.
+/// Options behind the numbers of a comparison.
 struct Options {
     wrong: Option<&'static Wrong>,
-    table: Option<u64>,
+    /// The only table or round.
+    only: Option<u64>,
 }
 
-/// A wrong desk by its name, for the texts or for the tables.
-fn wrong_desk(name: &str, text: bool) -> Result<&'static Wrong, Unclear> {
-    WRONG.iter().find(|wrong| wrong.name == name && wrong.text == text).ok_or(Unclear)
+/// A wrong desk by its name, for these calls.
+fn wrong_desk(name: &str, calls: Calls) -> Result<&'static Wrong, Unclear> {
+    WRONG.iter().find(|wrong| wrong.name == name && wrong.calls == calls).ok_or(Unclear)
+}
+
+/// What one of many is called that can be replayed alone.
+fn one_of_many(calls: Calls) -> Option<&'static str> {
+    match calls {
+        Calls::Tables => Some("table"),
+        Calls::Texts => None,
+        Calls::Runs => Some("round"),
+    }
 }
 
 /// Reads options; each may come once or not at all.
-fn options(words: &[&str], text: bool) -> Result<Options, Unclear> {
-    let mut options = Options { wrong: None, table: None };
+fn options(words: &[&str], calls: Calls) -> Result<Options, Unclear> {
+    let mut options = Options { wrong: None, only: None };
     for word in words {
         match word.split_once('=') {
-            Some(("wrong", name)) if options.wrong.is_none() => options.wrong = Some(wrong_desk(name, text)?),
-            Some(("table", which)) if options.table.is_none() && !text => options.table = Some(number(which)?),
+            Some(("wrong", name)) if options.wrong.is_none() => options.wrong = Some(wrong_desk(name, calls)?),
+            Some((one, which)) if options.only.is_none() && Some(one) == one_of_many(calls) => {
+                options.only = Some(number(which)?)
+            }
             _ => return Err(Unclear),
         }
     }
@@ -93,11 +109,11 @@ impl Options {
 
 /// Compares check, step and list.
 fn run_tables(seed: &str, steps: &str, rest: &[&str]) -> Result<Outcome, Unclear> {
-    let options = options(rest, false)?;
+    let options = options(rest, Calls::Tables)?;
     let what = tables::Comparison {
         seed: number(seed)?,
         steps: number(steps)?,
-        only: options.table,
+        only: options.only,
         stepping: options.desk(),
         listing: options.desk(),
         options: options.words(),
@@ -108,7 +124,7 @@ fn run_tables(seed: &str, steps: &str, rest: &[&str]) -> Result<Outcome, Unclear
 
 /// Compares the reader and the writer.
 fn run_texts(seed: &str, rounds: &str, rest: &[&str]) -> Result<Outcome, Unclear> {
-    let options = options(rest, true)?;
+    let options = options(rest, Calls::Texts)?;
     let what = texts::Comparison {
         seed: number(seed)?,
         rounds: number(rounds)?,
@@ -116,6 +132,27 @@ fn run_texts(seed: &str, rounds: &str, rest: &[&str]) -> Result<Outcome, Unclear
         options: options.words(),
     };
     Ok(texts::run(&what, Out::LOUD))
+}
+
+/// Compares runs of requests.
+fn run_runs(seed: &str, rounds: &str, rest: &[&str]) -> Result<Outcome, Unclear> {
+    let options = options(rest, Calls::Runs)?;
+    let what = runs::Comparison {
+        seed: number(seed)?,
+        rounds: number(rounds)?,
+        only: options.only,
+        desk: options.desk(),
+        options: options.words(),
+        most_differences: DIFFERENCES_MOST,
+    };
+    Ok(runs::run(&what, Out::LOUD))
+}
+
+/// What document 01 says of S1, in single requests and in runs.
+fn run_s1() -> Outcome {
+    let (single, runs) = (tables::s1::run(Out::LOUD), runs::s1::run(Out::LOUD));
+    let (differences, amiss) = (single.differences + runs.differences, single.amiss + runs.amiss);
+    Outcome { differences, amiss, first: single.first.or(runs.first) }
 }
 
 /// Tries every wrong desk.
@@ -140,7 +177,8 @@ fn run(words: &[&str]) -> Result<Outcome, Unclear> {
     match words {
         ["tables", seed, steps, rest @ ..] => run_tables(seed, steps, rest),
         ["texts", seed, rounds, rest @ ..] => run_texts(seed, rounds, rest),
-        ["s1"] => Ok(tables::s1::run(Out::LOUD)),
+        ["runs", seed, rounds, rest @ ..] => run_runs(seed, rounds, rest),
+        ["s1"] => Ok(run_s1()),
         ["rooms", seed] => Ok(tables::rooms::run(number(seed)?, Out::LOUD)),
         ["wrong", seed, steps, rounds] => run_wrong(seed, steps, rounds),
         ["script", rest @ ..] => run_script(rest),

@@ -26,20 +26,20 @@ fn text(request: &[u32; REQUEST_WORDS]) -> Option<Vec<u8>> {
     Some(room).filter(|_| reply.answer == refusal::ACCEPTED)
 }
 
-/// Tables, and a script of so many requests to them, each made with the tables in view that those before it leave. A request that has no text
-/// is left out.
+/// Tables, and a script of so many requests to them, each made with the tables in view that those before it leave. Where the tables may be bad,
+/// the requests are made for what they were before they were damaged. A request that has no text is left out.
 pub fn generated(seed: u64, requests: u64) -> io::Result<()> {
     let mut dice = dice_for(seed, 0);
     let mut tables = generate::tables(&mut dice);
-    let may_be_bad = seed % DAMAGE_EVERY == DAMAGE_EVERY - 1;
-    if may_be_bad {
-        generate::damage(&mut dice, &mut tables);
+    let mut given = tables.clone();
+    if seed % DAMAGE_EVERY == DAMAGE_EVERY - 1 {
+        generate::damage(&mut dice, &mut given);
     }
     let mut out = io::BufWriter::new(io::stdout());
-    out.write_all(&state(&tables))?;
+    out.write_all(&state(&given))?;
     let mut written = 0;
     while written < requests {
-        let any = may_be_bad || dice.chance(ANY_WORDS);
+        let any = dice.chance(ANY_WORDS);
         let request = if any { cases::good(&mut dice) } else { generate::request(&mut dice, &tables) };
         if let Some(text) = text(&request) {
             out.write_all(&text)?;

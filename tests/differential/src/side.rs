@@ -37,6 +37,14 @@ impl Side<'_> {
         }
     }
 
+    /// Requests one after another.
+    pub fn run(self, tables: &mut [u32], requests: &[u32], answers: &mut [u32]) -> Reply {
+        match self {
+            Side::Ordinary(desk) => desk.run(tables, requests, answers),
+            Side::Proved => reply(words::run(tables, requests, answers)),
+        }
+    }
+
     /// The disclosure list of a user.
     pub fn list(self, tables: &[u32], user: u32, room: &mut [u32]) -> Reply {
         match self {

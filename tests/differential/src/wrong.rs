@@ -1,8 +1,8 @@
 //! Every wrong desk must be found out, and by a difference: what a wrong desk fails to reach is no proof against it.
 use crate::outcome::{Out, Outcome};
 use crate::side::ByHand;
-use crate::{tables, texts};
-use ordinary::{Right, Wrong, WRONG};
+use crate::{runs, tables, texts};
+use ordinary::{Calls, Right, Wrong, WRONG};
 
 /// How much is tried with each.
 pub struct Effort {
@@ -26,12 +26,19 @@ impl Effort {
         texts::run(&texts::Comparison { seed, rounds, desk, options: String::new() }, Out::QUIET).first
     }
 
-    /// Where a wrong desk is noticed first: each of its calls is tried alone, since a wrong list would hide a wrong step.
+    /// The first difference of a desk's runs with the proved ones.
+    fn of_runs(&self, desk: ByHand) -> Option<String> {
+        let Effort { seed, rounds, .. } = *self;
+        let (only, options) = (None, String::new());
+        runs::run(&runs::Comparison { seed, rounds, only, desk, options, most_differences: 1 }, Out::QUIET).first
+    }
+
+    /// Where a wrong desk is noticed first: step and list are tried one without the other, since a wrong list would hide a wrong step.
     fn noticed(&self, wrong: &Wrong) -> Vec<String> {
-        let found = if wrong.text {
-            vec![self.of_texts(wrong.desk)]
-        } else {
-            vec![self.of_tables(wrong.desk, &Right), self.of_tables(&Right, wrong.desk)]
+        let found = match wrong.calls {
+            Calls::Tables => vec![self.of_tables(wrong.desk, &Right), self.of_tables(&Right, wrong.desk)],
+            Calls::Texts => vec![self.of_texts(wrong.desk)],
+            Calls::Runs => vec![self.of_runs(wrong.desk)],
         };
         found.into_iter().flatten().collect()
     }

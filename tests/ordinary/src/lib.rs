@@ -12,6 +12,7 @@ mod list;
 mod reference;
 mod refusal;
 mod rules;
+mod run;
 mod script;
 mod set;
 mod tables;
@@ -19,7 +20,7 @@ mod text;
 mod words;
 
 pub use refusal::Reply;
-pub use rules::{Desk, Right, Rules, Wrong, WRONG};
+pub use rules::{Calls, Desk, Right, Rules, Wrong, WRONG};
 pub use words::{ENTRY_WORDS, REQUEST_WORDS, TABLE_WORDS};
 
 use refusal::Refusal;
@@ -40,6 +41,12 @@ pub fn step<R: Rules>(tables: &mut [u32], request: &[u32]) -> Reply {
         Ok(answer) => Reply { answer, number: 0 },
         Err(refusal) => Reply::to(Err(refusal)),
     }
+}
+
+/// Answers requests one after another as `step` does, each in its place of the answers, and checks the tables once. It
+/// refuses with 1 alone, and then leaves both.
+pub fn run<R: Rules>(tables: &mut [u32], requests: &[u32], answers: &mut [u32]) -> Reply {
+    Reply::to(run::whole::<R>(tables, requests, answers).map(|()| 0))
 }
 
 /// Answers a request as `step` does, for tables that `check` has passed; both slices must have their right lengths.
@@ -78,8 +85,8 @@ pub fn write<R: Rules>(request: &[u32], room: &mut [u8]) -> Reply {
 }
 
 /// Gives what the program writes for the bytes of `state.words` (none if it is missing) and a script.
-pub fn run<R: Rules>(state: &[u8], script: &[u8]) -> Vec<u8> {
-    script::run::<R>(state, script)
+pub fn script<R: Rules>(state: &[u8], script: &[u8]) -> Vec<u8> {
+    script::whole::<R>(state, script)
 }
 
 /// Both slices as what they should be, or rung 1.

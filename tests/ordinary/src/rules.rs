@@ -8,6 +8,8 @@ pub trait Desk {
     fn check(&self, tables: &[u32]) -> Reply;
     /// Carries out one request, or refuses it.
     fn step(&self, tables: &mut [u32], request: &[u32]) -> Reply;
+    /// Carries out or refuses requests one after another.
+    fn run(&self, tables: &mut [u32], requests: &[u32], answers: &mut [u32]) -> Reply;
     /// Lists what a user could show.
     fn list(&self, tables: &[u32], user: u32, room: &mut [u32]) -> Reply;
     /// Turns a text into the words of a request.
@@ -15,7 +17,7 @@ pub trait Desk {
     /// Turns the words of a request into a text.
     fn write(&self, request: &[u32], room: &mut [u8]) -> Reply;
     /// Gives what the program writes for a script.
-    fn run(&self, state: &[u8], script: &[u8]) -> Vec<u8>;
+    fn script(&self, state: &[u8], script: &[u8]) -> Vec<u8>;
 }
 
 impl<R: Rules> Desk for R {
@@ -25,6 +27,10 @@ impl<R: Rules> Desk for R {
 
     fn step(&self, tables: &mut [u32], request: &[u32]) -> Reply {
         crate::step::<R>(tables, request)
+    }
+
+    fn run(&self, tables: &mut [u32], requests: &[u32], answers: &mut [u32]) -> Reply {
+        crate::run::<R>(tables, requests, answers)
     }
 
     fn list(&self, tables: &[u32], user: u32, room: &mut [u32]) -> Reply {
@@ -39,16 +45,24 @@ impl<R: Rules> Desk for R {
         crate::write::<R>(request, room)
     }
 
-    fn run(&self, state: &[u8], script: &[u8]) -> Vec<u8> {
-        crate::run::<R>(state, script)
+    fn script(&self, state: &[u8], script: &[u8]) -> Vec<u8> {
+        crate::script::<R>(state, script)
     }
 }
 
-/// A wrong desk: its name, what it does wrong, whether that is an error of the request text, and the desk.
+/// Calls that are compared together: check, step and list; read and write; run.
+#[derive(Clone, Copy, Debug, PartialEq, Eq)]
+pub enum Calls {
+    Tables,
+    Texts,
+    Runs,
+}
+
+/// A wrong desk: its name, what it does wrong, the calls where that must be noticed, and the desk.
 pub struct Wrong {
     pub name: &'static str,
     pub error: &'static str,
-    pub text: bool,
+    pub calls: Calls,
     pub desk: &'static (dyn Desk + Sync),
 }
 
@@ -59,7 +73,7 @@ impl Rules for Right {}
 
 /// Makes, of one row for each error, the constant of `Rules`, the desk that sets it and the line of `WRONG`.
 macro_rules! errors {
-    ($($constant:ident, $desk:ident, $name:literal, text: $text:literal, $error:literal;)*) => {
+    ($($constant:ident, $desk:ident, $name:literal, $calls:ident, $error:literal;)*) => {
         /// Which errors a desk makes; by default none. They are constants, so that the right desk pays nothing.
         pub trait Rules {
             $(#[doc = $error] const $constant: bool = false;)*
@@ -74,26 +88,39 @@ macro_rules! errors {
         )*
 
         /// One wrong desk for each error.
-        pub static WRONG: &[Wrong] = &[$(Wrong { name: $name, error: $error, text: $text, desk: &$desk }),*];
+        pub static WRONG: &[Wrong] =
+            &[$(Wrong { name: $name, error: $error, calls: Calls::$calls, desk: &$desk }),*];
     };
 }
 
 errors! {
-    LEVELS, Levels, "levels", text: false, "a level is taken to be lower wherever its number is";
-    MARK, Mark, "mark", text: false, "a mark bars what bears it, and not what lies behind it";
-    ROLES, Roles, "roles", text: false, "a role counts that is authorised, current or not";
-    NOTICE, Notice, "notice", text: false, "a later refusal takes the place of the one that is held";
-    ROOM, Room, "room", text: false, "a move within a full container is refused for want of a place";
-    DEVICES, Devices, "devices", text: false, "the list forgets references that go through a device";
-    NAMED, Named, "named", text: false, "in the list a mark bars what bears it, and not what lies behind it";
-    EARLY, Early, "early", text: false, "the list writes entries before it knows that the room suffices";
-    COUNT, Count, "count", text: false, "the list counts one entry more than there are";
-    SCREEN, Screen, "screen", text: false, "the list leaves off what a full screen has no place for";
-    ZEROS, Zeros, "zeros", text: false, "the list leaves a longer reference's names behind a shorter one's length";
-    LEADING, Leading, "leading", text: true, "the reader accepts a leading zero";
-    WRAPPED, Wrapped, "wrapped", text: true, "the reader takes a number beyond 32 bits for what is left of it";
-    LINE, Line, "line", text: true, "the reader counts its lines from 0";
-    BEHIND, Behind, "behind", text: true, "the reader accepts bytes behind the seventh line";
-    TAIL, Tail, "tail", text: true, "the writer does not look at name words behind a reference's length";
-    BYTE, Byte, "byte", text: true, "the writer accepts a room that is one byte too short";
+    LEVELS, Levels, "levels", Tables, "a level is taken to be lower wherever its number is";
+    MARK, Mark, "mark", Tables, "a mark bars what bears it, and not what lies behind it";
+    ROLES, Roles, "roles", Tables, "a role counts that is authorised, current or not";
+    NOTICE, Notice, "notice", Tables, "a later refusal takes the place of the one that is held";
+    ROOM, Room, "room", Tables, "a move within a full container is refused for want of a place";
+    DEVICES, Devices, "devices", Tables, "the list forgets references that go through a device";
+    NAMED, Named, "named", Tables, "in the list a mark bars what bears it, and not what lies behind it";
+    EARLY, Early, "early", Tables, "the list writes entries before it knows that the room suffices";
+    COUNT, Count, "count", Tables, "the list counts one entry more than there are";
+    SCREEN, Screen, "screen", Tables, "the list leaves off what a full screen has no place for";
+    ZEROS, Zeros, "zeros", Tables, "the list leaves a longer reference's names behind a shorter one's length";
+    LEADING, Leading, "leading", Texts, "the reader accepts a leading zero";
+    WRAPPED, Wrapped, "wrapped", Texts, "the reader takes a number beyond 32 bits for what is left of it";
+    LINE, Line, "line", Texts, "the reader counts its lines from 0";
+    BEHIND, Behind, "behind", Texts, "the reader accepts bytes behind the seventh line";
+    TAIL, Tail, "tail", Texts, "the writer does not look at name words behind a reference's length";
+    BYTE, Byte, "byte", Texts, "the writer accepts a room that is one byte too short";
+    LATE, Late, "late", Runs, "a run writes each answer one place late";
+    STOPS, Stops, "stops", Runs, "a run ends at the first request that is refused";
+    BACK, Back, "back", Runs, "a run with a request that is refused puts its tables back";
+    SILENT, Silent, "silent", Runs, "a request that is refused in a run leaves no notice";
+    AHEAD, Ahead, "ahead", Runs, "a run does all at its first request, and answers from the tables at the end";
+    BEFORE, Before, "before", Runs, "a run answers all from the tables at the start";
+    LAST, Last, "last", Runs, "a run leaves its last request out";
+    TRUSTS, Trusts, "trusts", Runs, "a run does not check its tables";
+    ITSELF, Itself, "itself", Runs, "a run is itself refused with 2 or 3 where its tables fail the check";
+    FITS, Fits, "fits", Runs, "a run with too few places writes the answers that fit";
+    REST, Rest, "rest", Runs, "a run passes over words that are less than a request";
+    SPARE, Spare, "spare", Runs, "a run writes 0 to the places behind its answers";
 }

@@ -3,23 +3,10 @@
 mod common;
 
 use common::*;
-use generate::layout::op::{ACKNOWLEDGE, COPY, CREATE, CURRENT_ROLES, LOGIN, RELEASE, SET_LEVEL, SHOW};
+use generate::layout::op::{COPY, CREATE, CURRENT_ROLES, LOGIN, RELEASE, SET_LEVEL, SHOW};
 use generate::layout::{entity, request, NAMES};
 use generate::{s1, s1_unmarked};
-use ordinary::{advance, check, list, read, run, step, write, Reply, Right, ENTRY_WORDS, REQUEST_WORDS};
-
-/// What show asks for where a case does not say.
-const VALUE_AND_LABEL: u32 = 3;
-
-/// A request to show so much of what the names lead to.
-fn show(user: u32, names: &[u32], sum: u32) -> Vec<u32> {
-    request(user, SHOW, names, &[], [sum, 0, 0])
-}
-
-/// An acknowledgement of this refusal, and of so many missed.
-fn acknowledge(user: u32, held: u32, missed: u32) -> Vec<u32> {
-    request(user, ACKNOWLEDGE, &[], &[], [held, missed, 0])
-}
+use ordinary::{advance, check, list, read, script, step, write, Reply, Right, ENTRY_WORDS, REQUEST_WORDS};
 
 /// The answer to a request; `advance` must agree, and the tables must be in order afterwards.
 fn answer(tables: &mut Tables, request: &[u32]) -> u32 {
@@ -152,7 +139,7 @@ fn the_script() {
     let state: Vec<u8> = s1().iter().flat_map(|word| word.to_le_bytes()).collect();
     let first = text(&show(2, &[4, 1], VALUE_AND_LABEL));
     assert_eq!(first, b"user=2\nop=10\nref=4.1\nref2=\na=3\nb=0\nc=0\n");
-    let script = [first, text(&show(2, &[5], VALUE_AND_LABEL))].concat();
-    let output = run::<Right>(&state, &script);
+    let both = [first, text(&show(2, &[5], VALUE_AND_LABEL))].concat();
+    let output = script::<Right>(&state, &both);
     assert_eq!(output, b"answer=9\nheld=9\nmissed=1\nanswer=0\nheld=9\nmissed=1\n");
 }

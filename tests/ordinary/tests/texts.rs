@@ -1,8 +1,11 @@
 //! Texts that are requests and texts that are not, and rooms of every length.
 
-use ordinary::{read, run, write, Reply, Right, REQUEST_WORDS};
+use generate::layout::{entity, entity_base};
+use ordinary::{read, script, write, Reply, Right, REQUEST_WORDS};
 
 const UNTOUCHED: u32 = 77;
+/// What is reported of a request that can't be read.
+const UNREADABLE: &str = "answer=18\nheld=0\nmissed=0\n";
 const TEXT: &str = "user=2\nop=10\nref=4.1\nref2=\na=3\nb=0\nc=0\n";
 const LONGEST: &str = "user=4294967295\nop=4294967295\nref=4294967295.4294967295.4294967295.4294967295\n\
     ref2=4294967295.4294967295.4294967295.4294967295\na=4294967295\nb=4294967295\nc=4294967295\n";
@@ -111,15 +114,31 @@ fn lengths_are_looked_at_first() {
 #[test]
 fn a_script_without_tables_ends_at_what_cannot_be_read() {
     let refused = "answer=1\nheld=0\nmissed=0\n";
-    let unreadable = "answer=18\nheld=0\nmissed=0\n";
-    let output = |state: &[u8], script: &str| String::from_utf8(run::<Right>(state, script.as_bytes())).unwrap();
+    let output = |state: &[u8], text: &str| String::from_utf8(script::<Right>(state, text.as_bytes())).unwrap();
     assert_eq!(output(&[], ""), "");
-    assert_eq!(output(&[], "x"), unreadable);
+    assert_eq!(output(&[], "x"), UNREADABLE);
     for size in [0, 1, 9_215, 9_217] {
         let state = vec![0; size];
         assert_eq!(output(&state, &[TEXT, TEXT].concat()), refused.repeat(2));
-        assert_eq!(output(&state, &[TEXT, "\n", TEXT].concat()), [refused, unreadable].concat());
-        assert_eq!(output(&state, &[TEXT, "user=2\nop=1"].concat()), [refused, unreadable].concat());
+        assert_eq!(output(&state, &[TEXT, "\n", TEXT].concat()), [refused, UNREADABLE].concat());
+        assert_eq!(output(&state, &[TEXT, "user=2\nop=1"].concat()), [refused, UNREADABLE].concat());
     }
     assert_eq!(output(&[0; 9_216], TEXT), "answer=4\nheld=0\nmissed=0\n");
+}
+
+#[test]
+fn a_script_to_bad_tables_is_refused_throughout() {
+    // A user who is neither present nor absent; and S1 with a device above its maximum.
+    let not_well_formed = [&[2; 1][..], &[0; 2303]].concat();
+    let mut not_secure = generate::s1();
+    not_secure[entity_base(2) + entity::MAXIMUM] = 256;
+    for (tables, answer) in [(not_well_formed, 2), (not_secure, 3)] {
+        let state: Vec<u8> = tables.iter().flat_map(|word| word.to_le_bytes()).collect();
+        let refused = format!("answer={}\nheld=0\nmissed=0\n", answer);
+        let output = |text: &str| String::from_utf8(script::<Right>(&state, text.as_bytes())).unwrap();
+        assert_eq!(output(&TEXT.repeat(3)), refused.repeat(3));
+        assert_eq!(output(&[TEXT, LONGEST, "x"].concat()), [&refused[..], &refused, UNREADABLE].concat());
+        assert_eq!(output("x"), UNREADABLE);
+        assert_eq!(output(""), "");
+    }
 }

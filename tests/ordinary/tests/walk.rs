@@ -5,7 +5,7 @@ mod common;
 use common::random::{first_tables, follow, operand, permit, random_request, BEYOND};
 use common::*;
 use generate::layout::{
-    entity, entity_base, kind, op, refusal, request, shown, triple, user, user_base, ENTITIES, NAMES, NOTICE_WORDS,
+    entity, entity_base, kind, op, refusal, request, triple, user, user_base, ENTITIES, NAMES, NOTICE_WORDS,
     OPERATION_MOST, PLACES, STEP_MOST, USERS,
 };
 use generate::view::{is_on, users_where};
@@ -71,15 +71,10 @@ fn permitted(tables: &Tables, user: u32, dice: &mut Dice) -> Tables {
     tables
 }
 
-/// A request to show the value and the label of what these names lead to.
-fn show(user: u32, names: &[u32]) -> Vec<u32> {
-    request(user, op::SHOW, names, &[], [shown::VALUE | shown::LABEL, 0, 0])
-}
-
 /// The list is the references that show answers with 0 or 14; gives how many they are.
 fn compare_list(tables: &Tables, user: u32) -> usize {
     let all = (1..=ENTITIES).flat_map(|number| references(tables, &[number], NAMES as usize));
-    let listed = all.map(|names| show(user, &names)).filter(|request| {
+    let listed = all.map(|names| show(user, &names, VALUE_AND_LABEL)).filter(|request| {
         let given = advance::<Right>(&mut tables.clone(), request);
         given == refusal::ACCEPTED || given == refusal::NO_ROOM
     });

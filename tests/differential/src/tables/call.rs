@@ -1,6 +1,6 @@
 //! One check or one step of both desks, and everything compared that either leaves [rules 8.1, 8.2, 8.5].
-use super::difference::Difference;
 use super::lent::Lent;
+use crate::difference::Difference;
 use crate::side::{ByHand, Side};
 use generate::layout::{refusal, request, user, user_base, NOTICE_WORDS, STEP_MOST};
 use ordinary::Reply;

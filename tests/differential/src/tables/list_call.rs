@@ -1,6 +1,6 @@
 //! One list of both desks, in a room of any length, and everything compared that either leaves [rules 10.1 to 10.7].
-use super::difference::Difference;
 use super::lent::Lent;
+use crate::difference::Difference;
 use crate::guarded::Guarded;
 use crate::side::{ByHand, Side};
 use generate::full::ENTRIES_MOST;

@@ -1,9 +1,9 @@
 //! Lists of good tables, for several users and in rooms of every kind, and of tables that may be bad.
 use super::by_step::{by_ordinary_step, is_listed, proved_step, Asking};
-use super::difference::Difference;
 use super::list_call::ListCalls;
 use super::list_tally::ListTally;
 use super::samples::some_references;
+use crate::difference::Difference;
 use generate::full::ENTRIES_MOST;
 use generate::layout::{user, ENTRY_WORDS, USERS};
 use generate::view::{any_of, is_off, is_on, users_where};

@@ -1,9 +1,8 @@
 //! Check, step and list: the same tables, requests and rooms go to both desks, and everything that either leaves is compared.
 mod by_step;
-mod call;
+pub mod call;
 mod cells;
 mod corners;
-mod difference;
 mod lent;
 mod list_call;
 mod list_tally;
@@ -13,9 +12,9 @@ mod run;
 pub mod s1;
 mod samples;
 
+use crate::difference::Difference;
 use crate::outcome::{again, Out, Outcome};
 use crate::side::ByHand;
-use difference::Difference;
 use run::Run;
 use std::panic::{catch_unwind, AssertUnwindSafe};
 

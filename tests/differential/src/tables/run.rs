@@ -2,10 +2,10 @@
 use super::call::Calls;
 use super::cells::Cells;
 use super::corners::{Corners, Done};
-use super::difference::Difference;
 use super::list_call::ListCalls;
 use super::lists::Lists;
 use super::Comparison;
+use crate::difference::Difference;
 use crate::guarded;
 use generate::layout::{refusal, request, OPERATION_MOST, REQUEST_WORDS, TABLE_WORDS, USERS};
 use generate::{dice_for, Dice};

@@ -11,7 +11,7 @@ use generate::{s1, s1_unmarked};
 use ordinary::{Reply, Right};
 
 /// The words of a request.
-type Words = [u32; REQUEST_WORDS];
+pub type Words = [u32; REQUEST_WORDS];
 
 /// A list of S1, or of S1 with its marked container unmarked.
 pub struct ListCase {
@@ -89,7 +89,7 @@ fn show_of_length_5() -> Words {
 }
 
 /// User 1 releases 6.
-fn release_6() -> Words {
+pub fn release_6() -> Words {
     request(1, op::RELEASE, [&[6], &[]], [0, 0])
 }
 
@@ -109,7 +109,7 @@ fn level_of_7(level: u32) -> Words {
 }
 
 /// User 2 acknowledges.
-fn acknowledge(held: u32, missed: u32) -> Words {
+pub fn acknowledge(held: u32, missed: u32) -> Words {
     request(2, op::ACKNOWLEDGE, [&[], &[]], [held, missed])
 }
 

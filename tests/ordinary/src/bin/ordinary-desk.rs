@@ -12,5 +12,5 @@ fn main() -> io::Result<()> {
     let state = std::fs::read(STATE).unwrap_or_default();
     let mut script = Vec::new();
     io::stdin().read_to_end(&mut script)?;
-    io::stdout().write_all(&ordinary::run::<Right>(&state, &script))
+    io::stdout().write_all(&ordinary::script::<Right>(&state, &script))
 }

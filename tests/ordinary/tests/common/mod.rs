@@ -3,10 +3,14 @@
 
 pub mod random;
 
+use generate::layout::op::{ACKNOWLEDGE, SHOW};
 use generate::layout::{entity, entity_base, request, triple, user, user_base, ENTITY_WORDS, NOTICE_WORDS};
 use ordinary::{Reply, REQUEST_WORDS};
 
 pub type Tables = Vec<u32>;
+
+/// What show asks for where a case does not say.
+pub const VALUE_AND_LABEL: u32 = 3;
 
 /// Sets the first words of a user.
 pub fn set_user(tables: &mut Tables, number: u32, words: &[u32]) {
@@ -46,6 +50,16 @@ pub fn request(user: u32, operation: u32, first: &[u32], second: &[u32], argumen
     }
     words[request::A..=request::C].copy_from_slice(&arguments);
     words
+}
+
+/// A request to show so much of what the names lead to.
+pub fn show(user: u32, names: &[u32], sum: u32) -> Vec<u32> {
+    request(user, SHOW, names, &[], [sum, 0, 0])
+}
+
+/// An acknowledgement of this refusal, and of so many missed.
+pub fn acknowledge(user: u32, held: u32, missed: u32) -> Vec<u32> {
+    request(user, ACKNOWLEDGE, &[], &[], [held, missed, 0])
 }
 
 /// The reply to what is accepted, with this number.

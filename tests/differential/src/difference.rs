@@ -32,6 +32,22 @@ impl Difference {
         ))
     }
 
+    /// Adds the first place at which two rows of answers differ, and how many there are.
+    pub fn with_answers(self, ordinary: &[u32], proved: &[u32]) -> Difference {
+        let differing: Vec<usize> = (0..ordinary.len()).filter(|&i| ordinary[i] != proved[i]).collect();
+        match differing.first() {
+            None => self,
+            Some(&i) => self.with(format!(
+                "answers to requests, from 0 on: at {} ordinary {}, proved {}; {} of {} differ",
+                i,
+                ordinary[i],
+                proved[i],
+                differing.len(),
+                ordinary.len()
+            )),
+        }
+    }
+
     /// Adds the words in which two tables differ.
     pub fn with_tables(mut self, ordinary: &[u32], proved: &[u32]) -> Difference {
         let differing: Vec<usize> = (0..ordinary.len()).filter(|&i| ordinary[i] != proved[i]).collect();
