@@ -8,7 +8,7 @@ from machine import ROOT, Wrong
 
 PAGE = "docs/MODEL.md"
 DEMANDS = "mms/Demands"
-SHUT = {"CheckCall", "StepCall", "ListCall", "ReadCall", "WriteCall", "after", "Outputs"}
+SHUT = {"CheckCall", "StepCall", "RunCall", "ListCall", "ReadCall", "WriteCall", "after", "Outputs"}
 
 USE = re.compile(r"^use Rattle·(\w+)(?:·specs\.specs|\.specs)\.(\S+?)\.\{([^}]*)\}$", re.M)
 ALIAS = re.compile(r"^use Rattle·(\w+)(?:·specs\.specs|\.specs)\.(\S+) as (\w+)$", re.M)
