@@ -12,13 +12,15 @@ use Rattle.exhibits.specs.CalledLaws.{both-called, both-run, called-word
 use Rattle.mms.specs.Calls.{RunCall, StepCall}
 use Rattle.mms.specs.Contract.{Stepping, checking, exported, numbers}
 use Rattle.mms.specs.RoundTrip.{answering}
-use Rattle.cases.specs.Case.Cases.{allInSixteen, asking, expect, noted}
+use Rattle.cases.specs.Case.Cases.{allInSixteen, asking, entityIs, expect, noted, stand, userIs}
 use Rattle.cases.specs.Case.S1.{s1, starred, unstarred}
 use Rattle.cases.specs.Case.S1Holds.{starred-hold, unstarred-hold}
 use Rattle.cases.specs.Case.S1Script.{s1-script-only, s1-script-writes}
 use Rattle.cases.specs.Case.S1Words.{s1Words, s1Words-checked, s1Words-length, s1Words-tables, s1Words-unknown}
 use Rattle.model.specs.Request.Words.{requestWords}
+use Rattle.model.specs.Tables.Layout.{tablesOf}
 use Rattle.model.specs.Tables.Sheet.{padded}
+use Rattle.model.specs.Tables.Words.{held, heldOp, missed, releasedType, releaser, type}
 use Rattle.model.specs.Request.Refusals as refusal
 
 starred-sixteen : T (allInSixteen starred)
@@ -65,16 +67,17 @@ s1-run = both-run s1Words starred unstarred starred-run unstarred-run
 
 -- Two of them written out: user 1 takes on roles 5 and releases 6;
 pub s1-released-run : (room : List ℕ) → 2 ≤ length room → (a : ℕ) (r s : List ℕ)
-    → RunCall s1Words (asking 1 14 [] [] 1 5 0 ++ asking 1 19 (6 ∷ []) [] 0 0 0) room a r s → (a ≡ 0) × (s ≡ 0 ∷ 0 ∷ drop 2 room)
+    → RunCall s1Words (asking 1 14 [] [] 1 5 0 ++ asking 1 19 (6 ∷ []) [] 0 0 0) room a r s
+    → (a ≡ 0) × (s ≡ 0 ∷ 0 ∷ drop 2 room) × T (stand (entityIs 6 type releasedType ∷ entityIs 6 releaser 1 ∷ []) (tablesOf r))
 unfolding starred expect noted asking padded
-s1-released-run room h a r s x = let z = starred-run .1 .1 .1 .1 .1 .1 .1 .1 .0 room h a r s x in (z .0, z .1)
+s1-released-run = starred-run .1 .1 .1 .1 .1 .1 .1 .1 .0
 
 -- and user 2 is refused 9 and 15, acknowledges in vain and then rightly.
 pub s1-acknowledged-run : (room : List ℕ) → 4 ≤ length room → (a : ℕ) (r s : List ℕ)
     → RunCall s1Words (asking 2 10 (4 ∷ 1 ∷ []) [] 3 0 0 ++ (asking 2 10 (5 ∷ []) [] 1 0 0 ++ (asking 2 20 [] [] 9 1 0 ++ asking 2 20 [] [] 9 3 0))) room a r s
-    → (a ≡ 0) × (s ≡ 9 ∷ 15 ∷ 16 ∷ 0 ∷ drop 4 room)
+    → (a ≡ 0) × (s ≡ 9 ∷ 15 ∷ 16 ∷ 0 ∷ drop 4 room) × T (stand (userIs 2 held 0 ∷ userIs 2 heldOp 0 ∷ userIs 2 missed 0 ∷ []) (tablesOf r))
 unfolding unstarred expect noted asking padded
-s1-acknowledged-run room h a r s x = let z = unstarred-run .1 .1 .1 .1 .0 room h a r s x in (z .0, z .1)
+s1-acknowledged-run = unstarred-run .1 .1 .1 .1 .0
 
 -- User 9 is answered 4, whatever is asked, and every word stays.
 pub s1-unknown-called : (q : List ℕ) → length q ≡ requestWords → getD q 0 0 ≡ 9 → (a : ℕ) (r : List ℕ) → StepCall s1Words q a r

@@ -3,7 +3,7 @@
 use mathlib.Core.List.{List, [], _++_, _∷_}
 use mathlib.Core.Logic.{_≢_, _⊎_}
 use mathlib.Core.Path.{_≡_}
-use Prim.Native.Nat.{_%_, _/_, _<_, _≤_, suc, ℕ}
+use Prim.Native.Nat.{_%_, _*_, _/_, _<_, _≤_, suc, ℕ}
 use lib.ListN.{getD, length, take}
 use Rattle.mms.specs.Contract.{Exports, Listing, Reading, Running, Stepping, Writing, checking, exported, numbers}
 use Rattle.model.specs.Request.Words.{requestOf}
@@ -74,23 +74,25 @@ pub data Unsound (t : List ℕ) : ℕ → Type 0 where
 pub record StepCalls (m : ℕ) (tables requests : ℕ → List ℕ) (answers : ℕ → ℕ) : Type 0 where
   pub each : (i : ℕ) → i < m → StepCall (tables i) (requests i) (answers i) (tables (suc i))
 
--- Rule 15.5: calls of `mms_step` and of `mms_run` in any order, each given what the last one left. From the tables t on they have put the requests qs to
--- them, were answered ns, an answer for each, and have left u. A run that is refused has put nothing.
+-- Rule 15.5: calls of `mms_step` and of `mms_run` in any order, from the tables t on, each given what the last one left. Together they have put the
+-- requests qs, one after another, which were answered ns, and have left u. A run that is refused puts no request.
 pub data MixedCalls : List ℕ → List (List ℕ) → List ℕ → List ℕ → Type 0 where
   noCall : {t : List ℕ} → MixedCalls t [] [] t
   stepped : {t q r u : List ℕ} {a : ℕ} {qs : List (List ℕ)} {ns : List ℕ} → StepCall t q a r → MixedCalls r qs ns u → MixedCalls t (q ∷ qs) (noIn a ∷ ns) u
-  ran : {t w room r s u : List ℕ} {a : ℕ} {ps qs : List (List ℕ)} {ns : List ℕ} → RunCall t w room a r s → noIn a ≡ refusal.accepted → Requests w ps
+  runDone : {t w room r s u : List ℕ} {a : ℕ} {ps qs : List (List ℕ)} {ns : List ℕ} → RunCall t w room a r s → noIn a ≡ refusal.accepted → Requests w ps
       → MixedCalls r qs ns u → MixedCalls t (ps ++ qs) (take (length ps) s ++ ns) u
-  runRefused : {t w room r s u : List ℕ} {a : ℕ} {qs : List (List ℕ)} {ns : List ℕ} → RunCall t w room a r s → noIn a ≢ refusal.accepted
+  runBarred : {t w room r s u : List ℕ} {a : ℕ} {qs : List (List ℕ)} {ns : List ℕ} → RunCall t w room a r s → noIn a ≢ refusal.accepted
       → MixedCalls r qs ns u → MixedCalls t qs ns u
 
--- The requests qs, put to the tables t by calls of `mms_step` alone: they are answered ns, and leave u.
+-- the word that C gets of an answer with which no number goes
+abbrev pub alone : ℕ → ℕ
+alone n = n * numbers
+
+-- The requests qs, put to the tables t by calls of `mms_step` alone: they are answered ns, an answer for each, and leave u.
 pub record SingleSteps (t : List ℕ) (qs : List (List ℕ)) (ns u : List ℕ) : Type 0 where
   pub tables : ℕ → List ℕ
-  pub answers : ℕ → ℕ
   pub starts : tables 0 ≡ t
-  pub calls : StepCalls (length qs) tables (λ i. getD qs i []) answers
-  pub answered : (i : ℕ) → i < length qs → noIn (answers i) ≡ getD ns i 0
+  pub calls : StepCalls (length qs) tables (λ i. getD qs i []) (λ i. alone (getD ns i 0))
   pub many : length ns ≡ length qs
   pub ends : tables (length qs) ≡ u
 

@@ -14,6 +14,7 @@ use Rattle.mms.specs.CallLaws.{step-sequence, write-halves}
 use Rattle.mms.specs.Calls.{ListCall, MixedCalls, OnlyNotice, Passes, ReadCall, SingleSteps, StepCall, WriteCall, noIn, requester}
 use Rattle.mms.specs.Contract.{Exports, Listing, Reading, Writing, checking, exported}
 use Rattle.mms.specs.Demands.{DemandOne, OneAnswer, OneRun}
+use Rattle.mms.specs.MixedLaws.{mixed-through, singly-steps, through-singly}
 use Rattle.mms.specs.NoticeWordLaws.{quiet-words}
 use Rattle.mms.specs.RunCallLaws.{run-number, run-range, run-unchanged}
 use Rattle.mms.specs.Unique.{exported-list-unique, exported-read-unique, exported-run-unique, exported-step-unique, exported-write-unique}
@@ -108,13 +109,14 @@ module _ {t q : List ℕ} {a : ℕ} {r : List ℕ} (x : StepCall t q a r) where
   step-others y n = subst (λ (l : List ℕ). SameNotice (tablesOf t) (tablesOf l) y) (sym (step-left x)) (others-noticed t q y n)
 
 -- single steps of a mixture leave the notices that a sequence of steps leaves
-mixed-noticed : {t u : List ℕ} {qs : List (List ℕ)} {ns : List ℕ} → MixedCalls t qs ns u → Passes t → (k : SingleSteps t qs ns u)
-    → (x : ℕ) → Noticed (k .tables) (λ i. getD qs i []) (λ i. getD ns i 0) x (length qs)
-mixed-noticed {qs = qs} {ns = ns} m p k =
-    let s = step-sequence (length qs) (k .tables) (λ i. getD qs i []) (k .answers) (k .calls) in
-    sequence-noticed (k .tables) (λ i. getD qs i []) (λ i. getD ns i 0) (length qs)
-    (record { answered = λ i h. sym (k .answered i h) ∙ s .answered i h; left = s .left })
-    (passes-check (k .tables 0) (subst Passes (sym (k .starts)) p))
+mixed-noticed : {t u : List ℕ} {qs : List (List ℕ)} {ns : List ℕ} → MixedCalls t qs ns u → Passes t
+    → (k : SingleSteps t qs ns u) × ((x i : ℕ) → i ≤ length qs → Noticed (k .tables) (λ j. getD qs j []) (λ j. getD ns j 0) x i)
+mixed-noticed {qs = qs} {ns = ns} m p =
+    let k = through-singly (mixed-through m) in (
+      k,
+      λ x i h. sequence-noticed (k .tables) (λ j. getD qs j []) (λ j. getD ns j 0) i (singly-steps k i h)
+          (passes-check (k .tables 0) (subst Passes (sym (k .starts)) p)) x,
+    )
 
 pub demandOne : DemandOne
 demandOne = record {

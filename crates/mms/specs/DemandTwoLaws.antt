@@ -8,7 +8,7 @@ use Rattle.mms.specs.CheckLaws.{check-lowest}
 use Rattle.mms.specs.Demands.{DemandTwo}
 use Rattle.mms.specs.HistoryLaws.{calls-fixed, calls-history, calls-obey, calls-released, calls-sound, step-effect, step-released}
 use Rattle.mms.specs.HistoryLaws.{step-transform}
-use Rattle.mms.specs.MixedLaws.{mixed-history, mixed-through, through-run, through-singly}
+use Rattle.mms.specs.MixedLaws.{mixed-history, mixed-once, mixed-through, through-run, through-singly}
 use Rattle.mms.specs.RunCallLaws.{run-accepts, run-nothing, run-refuses, run-spare, run-through, run-unsound}
 use Rattle.mms.specs.ScriptOutputLaws.{script-calls}
 use Rattle.mms.specs.TextCallLaws.{others-refused, read-length, read-names, read-only, read-refuses, read-text, read-written}
@@ -42,10 +42,11 @@ demandTwo = record {
   runRefused = λ x. run-refuses x;
   runAccepted = λ x. run-accepts x;
   runRequests = λ w h. (requestsIn w, requests-in w h, λ ps r. requests-are r);
-  runSteps = λ x e p. (through-singly (run-through x e p), run-spare x e p .0);
+  runSteps = λ x e p. (_, through-singly (run-through x e p), run-spare x e p);
   runUnsound = λ {t} {w} {room} {r} {s} {a} {c} x e. run-unsound x e c;
   runNothing = run-nothing;
   mixedHistory = mixed-history;
+  mixedOnce = mixed-once;
   mixedRun = λ m h l z x. through-run (mixed-through m) h l z x;
   onlyReleased = step-released;
   callsReleased = calls-released;

@@ -94,9 +94,9 @@ pub record DemandOne : Type 0 where
   -- last acknowledgement that was accepted, or what was held at the start; with its operation; and counts them, up to 65,535.
   pub noticeKept : (m : ℕ) (tables requests : ℕ → List ℕ) (answers : ℕ → ℕ) → StepCalls m tables requests answers → Passes (tables 0)
       → (u : ℕ) → Noticed tables requests (λ i. noIn (answers i)) u m
-  -- After any mixture of steps and runs it is the same, counted by requests: each request leaves the notice that a single step would leave.
-  pub noticeMixed : {t u : List ℕ} {qs : List (List ℕ)} {ns : List ℕ} → MixedCalls t qs ns u → Passes t → (k : SingleSteps t qs ns u)
-      → (x : ℕ) → Noticed (k .tables) (λ i. getD qs i []) (λ i. getD ns i 0) x (length qs)
+  -- After any mixture of steps and runs it is the same, request by request: single steps have the same answers, and what they leave is so.
+  pub noticeMixed : {t u : List ℕ} {qs : List (List ℕ)} {ns : List ℕ} → MixedCalls t qs ns u → Passes t
+      → (k : SingleSteps t qs ns u) × ((x i : ℕ) → i ≤ length qs → Noticed (k .tables) (λ j. getD qs j []) (λ j. getD ns j 0) x i)
   -- No request changes the notice of anybody but the requester.
   pub noticeOfOthers : {t q : List ℕ} {a : ℕ} {r : List ℕ} → StepCall t q a r → (x : ℕ) → x ≢ requester q
       → SameNotice (tablesOf t) (tablesOf r) x
@@ -119,20 +119,31 @@ pub record SecureHistory (tables requests : ℕ → List ℕ) : Type 0 where
   pub secure : HistorySecure after (λ i. tablesOf (tables i))
   pub system : SystemSecure after (tablesOf (tables 0))
 
--- Rule 15.5: what any mixture of steps and runs is, which put the requests qs to the tables t, were answered ns, and left u.
-pub record MixedHistory (t : List ℕ) (qs : List (List ℕ)) (ns u : List ℕ) : Type 0 where
-  -- single steps have the same answers and leave the same words
-  pub singly : SingleSteps t qs ns u
-  -- from tables that the check passes the tables after each request are well-formed and secure,
-  pub sound : Passes t → (i : ℕ) → i ≤ length qs → Sound (singly .tables i)
-  -- and where every request has sixteen words, they are those of one secure history
-  pub history : Passes t → AllSixteen qs
-      → (tables requests : ℕ → List ℕ) × SecureHistory tables requests × ((i : ℕ) → i ≤ length qs → tables i ≡ singly .tables i)
-  -- whatever the tables were, each pair of them obeys Definitions 5 to 11
-  pub obeys : (i : ℕ) → i < length qs → Obeys (tablesOf (singly .tables i)) (requestOf (getD qs i [])) (tablesOf (singly .tables (suc i)))
+-- Rules 9.4 and 9.13: m requests, and the tables before and after each, are the beginning of a secure history. A request that has not sixteen words
+-- changes nothing and is none of the papers' requests; the history has one in its place that asks nothing.
+pub record BeginsHistory (m : ℕ) (tables requests : ℕ → List ℕ) : Type 0 where
+  pub allTables : ℕ → List ℕ
+  pub allRequests : ℕ → List ℕ
+  pub secure : SecureHistory allTables allRequests
+  pub sameTables : (i : ℕ) → i ≤ m → allTables i ≡ tables i
+  pub sameRequests : (i : ℕ) → i < m → length (requests i) ≡ requestWords → allRequests i ≡ requests i
 
--- Rules 15.3 and 15.5: a run of the requests qs on t, in a room, answers a and leaves r and s; it is accepted, leaves u, and ns stand at the front of the
--- room, behind which it is as it was.
+-- Rule 15.5: what a mixture of steps and runs is that has put the requests qs to the tables t, was answered ns, and has left u.
+pub record MixedHistory (t : List ℕ) (qs : List (List ℕ)) (ns u : List ℕ) : Type 0 where
+  -- single steps have the same answers and leave the same words,
+  pub singly : SingleSteps t qs ns u
+  -- and whatever the tables were, each pair of them obeys Definitions 5 to 11;
+  pub obeys : (i : ℕ) → i < length qs → Obeys (tablesOf (singly .tables i)) (requestOf (getD qs i [])) (tablesOf (singly .tables (suc i)))
+  -- from tables that the check passes the tables after each request pass too, and are well-formed and secure,
+  pub sound : Passes t → (i : ℕ) → i ≤ length qs → Passes (singly .tables i) × Sound (singly .tables i)
+  -- and requests and tables are the beginning of a secure history;
+  pub history : Passes t → BeginsHistory (length qs) (singly .tables) (λ i. getD qs i [])
+  -- what is released stays so, and users and devices are those of the start.
+  pub released : Passes t → ReleasedStays (tablesOf t) (tablesOf u)
+  pub fixed : Passes t → SameUsers (tablesOf t) (tablesOf u) × SameDevices (tablesOf t) (tablesOf u)
+
+-- Rules 15.3 and 15.5: a run, with the answer a and what stands in the tables and in the room afterwards, was accepted and left u, and has put the answers
+-- ns at the front of the room; behind them the room is as it was.
 pub record RanAs (room : List ℕ) (ns u : List ℕ) (a : ℕ) (r s : List ℕ) : Type 0 where
   pub accepted : noIn a ≡ refusal.accepted
   pub tables : r ≡ u
@@ -152,9 +163,8 @@ pub record ScriptOutput (t s o : List ℕ) : Type 0 where
   pub last : ((rest ≡ []) × (reports ≡ before)) ⊎ (NoRequest rest × (rest ≢ []) × (reports ≡ before ++ (unread ∷ [])))
   -- from tables that the check passes the tables behind each report are well-formed and secure,
   pub sound : Passes t → (i : ℕ) → i ≤ length before → Sound (calls .tables i)
-  -- and they are those of a secure history
-  pub history : Passes t
-      → (tables requests : ℕ → List ℕ) × SecureHistory tables requests × ((i : ℕ) → i ≤ length before → tables i ≡ calls .tables i)
+  -- and with the requests they are the beginning of a secure history
+  pub history : Passes t → BeginsHistory (length before) (calls .tables) (λ i. getD (requests (calls .wordings)) i [])
   -- The run of the first i requests, on tables of the right size and with a place for each, has the answers that the first i reports tell, and leaves the
   -- tables that they tell of; so it is with the run of all.
   pub run : {room r v : List ℕ} {a : ℕ} → length t ≡ wordCount → (i : ℕ) → i ≤ length before → i ≤ length room
@@ -198,27 +208,31 @@ pub record DemandTwo : Type 0 where
   -- Calls that never end, with requests of sixteen words, are a secure history (Definitions 4, 13 and 14).
   pub callsHistory : (tables requests : ℕ → List ℕ) (answers : ℕ → ℕ) → ((m : ℕ) → StepCalls m tables requests answers) → Passes (tables 0)
       → ((i : ℕ) → length (requests i) ≡ requestWords) → SecureHistory tables requests
-  -- A run is refused exactly where a size does not fit: 2,304 words of tables, requests of sixteen words, a place for each answer;
+  -- A run is refused, with 1, exactly where a size does not fit: 2,304 words of tables, a multiple of sixteen of requests, a place for each answer.
   pub runRefused : {t w room r s : List ℕ} {a : ℕ} → RunCall t w room a r s → (noIn a ≡ refusal.badLength) ↔ (Sizes t w room → ⊥)
   pub runAccepted : {t w room r s : List ℕ} {a : ℕ} → RunCall t w room a r s → (noIn a ≡ refusal.accepted) ↔ Sizes t w room
-  -- the words of whole requests are such requests, and in one way only.
+  -- A multiple of sixteen words is a list of requests of sixteen words each, and one list only.
   pub runRequests : (w : List ℕ) → length w % requestWords ≡ 0 → (qs : List (List ℕ)) × Requests w qs × ((ps : List (List ℕ)) → Requests w ps → ps ≡ qs)
-  -- Else its requests have the answers of single steps, each in its place, and leave what these leave; places to spare are as they were.
+  -- Where the run is not refused, its requests have the answers of single steps, each in its place, and leave what these leave; the places behind them are
+  -- as they were.
   pub runSteps : {t w room r s : List ℕ} {a : ℕ} {qs : List (List ℕ)} → RunCall t w room a r s → noIn a ≡ refusal.accepted → Requests w qs
-      → SingleSteps t qs (take (length qs) s) r × (s ≡ take (length qs) s ++ drop (length qs) room)
-  -- Where the check does not pass the tables, they stay, and every request is answered with the check's number.
+      → (ns : List ℕ) × SingleSteps t qs ns r × (s ≡ ns ++ drop (length ns) room)
+  -- Where the check refuses the tables, with 2 or 3, they stay, and that number is the answer to every request.
   pub runUnsound : {t w room r s : List ℕ} {a c : ℕ} → RunCall t w room a r s → noIn a ≡ refusal.accepted → CheckCall t c → noIn c ≢ refusal.accepted
-      → (r ≡ t) × ((i : ℕ) → i < requestCount w → getD s i 0 ≡ noIn c)
+      → (r ≡ t) × ((i : ℕ) → i < requestCount w → getD s i 0 ≡ noIn c) × ((noIn c ≡ refusal.notWellFormed) ⊎ (noIn c ≡ refusal.notSecure))
   -- No request at all is accepted, and nothing is written, whatever the 2,304 words are.
   pub runNothing : {t room r s : List ℕ} {a : ℕ} → RunCall t [] room a r s → length t ≡ wordCount → (noIn a ≡ refusal.accepted) × (r ≡ t) × (s ≡ room)
-  -- Any mixture of steps and runs, each given what the last one left, is single steps and one secure history;
+  -- Any mixture of steps and runs, each given what the last one left, is single steps, and from tables that the check passes one secure history.
   pub mixedHistory : {t u : List ℕ} {qs : List (List ℕ)} {ns : List ℕ} → MixedCalls t qs ns u → MixedHistory t qs ns u
-  -- and the run of all its requests is that mixture, so that a run may be cut into pieces anywhere.
+  -- Two mixtures that put the same requests to the same tables have the same answers and leave the same words: a run may be cut anywhere, into any number
+  -- of pieces, single steps among them.
+  pub mixedOnce : {t u v : List ℕ} {qs : List (List ℕ)} {ns ms : List ℕ} → MixedCalls t qs ns u → MixedCalls t qs ms v → (ns ≡ ms) × (u ≡ v)
+  -- So the run of all requests of a mixture is that mixture, where the tables have 2,304 words, each request has sixteen, and the room has a place for each.
   pub mixedRun : {t u room r s : List ℕ} {qs : List (List ℕ)} {ns : List ℕ} {a : ℕ} → MixedCalls t qs ns u → AllSixteen qs → length t ≡ wordCount
       → length qs ≤ length room → RunCall t (together qs) room a r s → RanAs room ns u a r s
   -- Beyond the Definitions: nothing becomes released but by a release of that very draft, created entities included;
   pub onlyReleased : {t q : List ℕ} {a : ℕ} {r : List ℕ} → StepCall t q a r → Passes t → OnlyReleased (tablesOf t) (requestOf q) (tablesOf r)
-  -- what is released is never deleted, and stays released by the same user, through any calls;
+  -- what is released is never deleted, and stays released by the same user, through any calls of the step;
   pub callsReleased : (m : ℕ) (tables requests : ℕ → List ℕ) (answers : ℕ → ℕ) → StepCalls m tables requests answers → Passes (tables 0)
       → ReleasedStays (tablesOf (tables 0)) (tablesOf (tables m))
   -- and users and devices are those of the start.

@@ -8,12 +8,12 @@ pub mod CallLaws
 pub mod AnswerLaws
 pub mod NoticeWordLaws
 pub mod RunCallLaws
+pub mod HistoryLaws
+pub mod MixedLaws
 pub mod DemandOneLaws
 pub mod ScriptLaws
 pub mod CheckLaws
 pub mod TextCallLaws
-pub mod HistoryLaws
-pub mod MixedLaws
 pub mod ScriptOutputLaws
 pub mod DemandTwoLaws
 pub mod DemandThreeLaws

@@ -1,27 +1,40 @@
 -- What a call of the run is: the model's run, by both halves of its word; and what follows of its answers and of single steps.
-use mathlib.Core.List.{List, [], _++_, _∷_}
-use mathlib.Core.Logic.{_↔_, _≢_}
+use mathlib.Core.Bool.{Bool, false, true}
+use mathlib.Core.List.{List, [], _++_}
+use mathlib.Core.Logic.{_↔_, _≢_, _⊎_, inl, inr}
 use mathlib.Core.Path.{_∙_, _≡_, ap, refl, subst, sym}
-use Prim.Native.Nat.{_*_, _+_, _<_, _≤_, suc, zero, ℕ}
+use Prim.Native.Nat.{_*_, _+_, _<_, _≤_, ℕ}
 use native.Mathlib.Omega.{arith}
-use lib.ListN.{List·getD-append, drop, getD, length, take}
-use lib.Seq.{drop-at, length-front, length-take-le, take-at}
+use lib.ListN.{drop, getD, length, take}
+use lib.Seq.{take-at}
 use Rattle.mms.specs.CallLaws.{check-no}
 use Rattle.mms.specs.Calls.{CheckCall, RunCall, noIn, numberIn}
 use Rattle.mms.specs.Contract.{numbers}
 use Rattle.mms.specs.Unique.{running-run}
 use Rattle.mms.specs.declared.Answer.{Answer}
 use Rattle.model.specs.Basics.Cases.{cases, lt-or-le}
-use Rattle.model.specs.Request.Words.{requestWords}
+use Rattle.model.specs.Basics.Choice.{pick}
 use Rattle.model.specs.Run.Requests.{Requests, requestCount}
-use Rattle.model.specs.Run.RequestsLaws.{requests-are, requests-count}
-use Rattle.model.specs.Run.Run.{Answers, Run, Sizes, runAnswer}
-use Rattle.model.specs.Run.RunLaws.{run-computed, run-refused, run-sized, run-unchecked}
+use Rattle.model.specs.Run.RequestsLaws.{requests-are}
+use Rattle.model.specs.Run.Run.{Answers, Run, Sizes}
+use Rattle.model.specs.Run.RunLaws.{run-refused, run-sized, run-unchecked}
 use Rattle.model.specs.Run.Through.{Through, end}
 use Rattle.model.specs.Run.ThroughLaws.{through-length, through-unique}
-use Rattle.model.specs.State.Check.{check}
-use Rattle.model.specs.Tables.Layout.{wordCount}
+use Rattle.model.specs.State.AgreeSecure.{check-tables}
+use Rattle.model.specs.State.Check.{check, judge, secureTest, wellFormedTest}
+use Rattle.model.specs.Tables.Layout.{tablesOf, wordCount}
+use Rattle.model.specs.Theorem.Steps.{check-range}
 use Rattle.model.specs.Request.Refusals as refusal
+
+-- of 2,304 words the check does not answer 1
+check-one : (t : List ℕ) → length t ≡ wordCount → check t ≢ refusal.badLength
+unfolding judge
+check-one t h e = go (wellFormedTest (tablesOf t)) (secureTest (tablesOf t)) (sym (check-tables t h) ∙ e)
+  where
+    go : (w s : Bool) → pick w (pick s refusal.accepted refusal.notSecure) refusal.notWellFormed ≡ refusal.badLength → ⊥
+    go true true z = omega arith
+    go true false z = omega arith
+    go false s z = omega arith
 
 module _ {t w room r s : List ℕ} {a : ℕ} (x : RunCall t w room a r s) where
   -- nothing goes with the run's answer,
@@ -60,40 +73,43 @@ module _ {t w room r s : List ℕ} {a : ℕ} (x : RunCall t w room a r s) where
     run-answers = run-called .answered (run-sized run-called e)
 
     module _ {qs : List (List ℕ)} (p : Requests w qs) where
+      the-requests : run-answers .requests ≡ qs
+      the-requests = requests-are (run-answers .parts) ∙ sym (requests-are p)
+
+      as-many : length (run-answers .answers) ≡ length qs
+      as-many = through-length (run-answers .through) ∙ ap length the-requests
+
+      in-front : take (length qs) s ≡ run-answers .answers
+      in-front =
+          ap (take (length qs)) (run-answers .places) ∙ take-at (run-answers .answers) (drop (length (run-answers .answers)) room) (length qs) as-many
+
       -- Rule 15.3: its requests one after another, with the answers that stand at the front of the room
       pub run-through : Through t qs (take (length qs) s) r
-      run-through =
-          let k = run-answers in
-          let q : k .requests ≡ qs = requests-are (k .parts) ∙ sym (requests-are p) in
-          let n : length (k .answers) ≡ length qs = through-length (k .through) ∙ ap length q in
-          let f : take (length qs) s ≡ k .answers =
-          ap (take (length qs)) (k .places) ∙ take-at (k .answers) (drop (length (k .answers)) room) (length qs) n in
-          subst (λ (l : List ℕ). Through t qs l r) (sym f) (subst (λ (l : List (List ℕ)). Through t l (k .answers) r) q (k .through))
+      run-through = subst (λ (l : List ℕ). Through t qs l r) (sym in-front)
+          (subst (λ (l : List (List ℕ)). Through t l (run-answers .answers) r) the-requests (run-answers .through))
 
       -- and behind them the room is as it was
-      pub run-spare : (s ≡ take (length qs) s ++ drop (length qs) room) × (length s ≡ length room)
-      run-spare =
-          let k = run-answers in
-          let q : k .requests ≡ qs = requests-are (k .parts) ∙ sym (requests-are p) in
-          let n : length (k .answers) ≡ length qs = through-length (k .through) ∙ ap length q in
-          let f : take (length qs) s ≡ k .answers =
-          ap (take (length qs)) (k .places) ∙ take-at (k .answers) (drop (length (k .answers)) room) (length qs) n in
-          let g : s ≡ take (length qs) s ++ drop (length qs) room =
-          k .places ∙ ap (λ (m : ℕ). k .answers ++ drop m room) n ∙ ap (λ (l : List ℕ). l ++ drop (length qs) room) (sym f) in
-          let h : length qs ≤ length room = omega (arith, run-sized run-called e .places, requests-count p) in
-          (g, ap length g ∙ length-front room (take (length qs) s) (length qs) (ap length f ∙ n ∙ sym (length-take-le (length qs) room h)))
+      pub run-spare : s ≡ take (length qs) s ++ drop (length (take (length qs) s)) room
+      run-spare = run-answers .places ∙ ap (λ (l : List ℕ). l ++ drop (length l) room) (sym in-front)
 
     -- Rule 15.4: tables that the check does not pass stay, and every request is answered with the check's number.
-    pub run-unsound : (c : ℕ) → CheckCall t c → noIn c ≢ refusal.accepted → (r ≡ t) × ((i : ℕ) → i < requestCount w → getD s i 0 ≡ noIn c)
+    pub run-unsound : (c : ℕ) → CheckCall t c → noIn c ≢ refusal.accepted
+        → (r ≡ t) × ((i : ℕ) → i < requestCount w → getD s i 0 ≡ noIn c) × ((noIn c ≡ refusal.notWellFormed) ⊎ (noIn c ≡ refusal.notSecure))
     run-unsound c y n =
         let z = run-unchecked run-called e (λ h. n (check-no t c y ∙ h)) in
-        (z .0, λ i h. z .1 i h ∙ sym (check-no t c y))
+        let g = check-range t in
+        let one = check-one t (run-sized run-called e .tables) in
+        let k = check-no t c y in (
+          z .0,
+          λ i h. z .1 i h ∙ sym k,
+          cases (lt-or-le (noIn c) refusal.notSecure) (λ h. inl (omega arith)) (λ h. inr (omega arith)),
+        )
 
 -- Rule 15.3: where there is no request nothing is written, whatever the words of the tables are.
 pub run-nothing : {t room r s : List ℕ} {a : ℕ} → RunCall t [] room a r s → length t ≡ wordCount → (noIn a ≡ refusal.accepted) × (r ≡ t) × (s ≡ room)
 run-nothing {t} {room} {r} {s} {a} x h =
-    let z : Sizes t [] room = record { tables = h; whole = refl; places = omega arith } in
+    let z : Sizes t [] room = record { tables = h; multiple = refl; places = omega arith } in
     let e = run-called x .accepted z in
     let p : Requests [] [] = record { words = refl; sixteen = tt } in
     let u = through-unique (run-through x e p) end in
-    (e, u .1, run-spare x e p .0)
+    (e, u .1, run-spare x e p)

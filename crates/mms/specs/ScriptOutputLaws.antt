@@ -6,13 +6,15 @@ use Prim.Native.Nat.{_<_, _≤_, ℕ, suc, zero}
 use native.Mathlib.Omega.{arith}
 use lib.ListN.{getD, length, take}
 use lib.Seq.{length-take-le}
-use Rattle.mms.specs.Calls.{NoRequest, Passes, RunCall, ScriptCalls, SingleSteps}
-use Rattle.mms.specs.Demands.{RanAs, ScriptOutput, SecureHistory}
+use Rattle.mms.specs.CallLaws.{step-left, step-number}
+use Rattle.mms.specs.Calls.{NoRequest, Passes, RunCall, ScriptCalls, SingleSteps, StepCall, alone}
+use Rattle.mms.specs.Demands.{BeginsHistory, RanAs, ScriptOutput}
 use Rattle.mms.specs.HistoryLaws.{calls-obey, calls-sound}
-use Rattle.mms.specs.MixedLaws.{singly-history, singly-through, sixteen-take, through-run}
+use Rattle.mms.specs.MixedLaws.{begins-history, singly-through, through-run}
 use Rattle.mms.specs.ScriptLaws.{requests-length, runs-calls}
 use Rattle.model.specs.Basics.Together.{together}
 use Rattle.model.specs.Run.Requests.{AllSixteen}
+use Rattle.model.specs.Run.RequestsLaws.{sixteen-take}
 use Rattle.model.specs.Script.Reports.{Report, answersIn, output, unread}
 use Rattle.model.specs.Script.Runs.{Answered, Outputs, Runs, cut, requests, whole}
 use Rattle.model.specs.Tables.Layout.{wordCount}
@@ -44,20 +46,21 @@ module _ {t s t′ s′ : List ℕ} {rs : List Report} (k : ScriptCalls t s rs t
   script-singly =
       let n = as-many in record {
         tables = k .tables;
-        answers = k .answers;
         starts = k .starts;
-        calls = record { each = λ i h. k .calls .each i (omega arith) };
-        answered = λ i h. sym (k .tells i (omega arith) .answer) ∙ sym (answersIn-at rs i (omega arith));
+        calls = record {
+          each = λ i h.
+              let c = k .calls .each i (omega arith) in
+              let e : k .answers i ≡ alone (getD (answersIn rs) i 0) =
+              omega (arith, step-number c, k .tells i (omega arith) .answer, answersIn-at rs i (omega arith)) in
+              subst (λ (a : ℕ). StepCall (k .tables i) (getD (requests (k .wordings)) i []) a (k .tables (suc i))) e c;
+        };
         many = answersIn-length rs ∙ sym n;
         ends = ap (k .tables) n ∙ k .ends;
       }
 
-  script-history : Passes t → (tables requests : ℕ → List ℕ) × SecureHistory tables requests × ((i : ℕ) → i ≤ length rs → tables i ≡ k .tables i)
-  unfolding script-singly
+  script-history : Passes t → BeginsHistory (length rs) (k .tables) (λ i. getD (requests (k .wordings)) i [])
   script-history p =
-      let n = as-many in
-      let z = singly-history p (requests-sixteen (k .wordings)) script-singly in
-      (z .0, z .1, z .2, λ i h. z .3 i (omega arith))
+      begins-history p (length rs) (k .tables) (λ i. getD (requests (k .wordings)) i []) (k .starts) (λ i h. step-left (k .calls .each i h))
 
   script-run : {room r v : List ℕ} {a : ℕ} → length t ≡ wordCount → (i : ℕ) → i ≤ length rs → i ≤ length room
       → RunCall t (together (take i (requests (k .wordings)))) room a r v → RanAs room (take i (answersIn rs)) (k .tables i) a r v

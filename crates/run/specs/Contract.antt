@@ -13,7 +13,7 @@ use Rattle.model.specs.Theorem.Statements.{afterWords}
 -- Of the tables the check has said c, the words are whole requests, and each has a place for its answer.
 pub record Ready (t w room : List ℕ) (c : ℕ) : Type 0 where
   pub said : c ≡ check t
-  pub whole : length w % requestWords ≡ 0
+  pub multiple : length w % requestWords ≡ 0
   pub places : requestCount w ≤ length room
 
 -- Rules 15.3 and 15.4: the tables are now r, and the room is s: they are what single steps leave and answer.
@@ -31,7 +31,7 @@ pub record Going (t w room : List ℕ) (c at next i : ℕ) (r s : List ℕ) : Ty
   pub answers : s ≡ answersTo t (take i (requestsIn w)) ++ drop i room
 
 -- Rule 15, of any words: the answer n is the model's, and so are the tables r and the room s afterwards.
-pub record Ran (t w room : List ℕ) (n : ℕ) (r s : List ℕ) : Type 0 where
+pub record RunSettled (t w room : List ℕ) (n : ℕ) (r s : List ℕ) : Type 0 where
   pub answer : n ≡ runAnswer t w room
   pub tables : r ≡ runTables t w room
   pub answers : s ≡ runRoom t w room

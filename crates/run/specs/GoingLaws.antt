@@ -9,7 +9,7 @@ use lib.Seq.{drop-cons, length-take-le, set-at, take-all}
 use Rattle.model.specs.Request.Step.{afterOf, answerOf}
 use Rattle.model.specs.Request.Words.{requestWords}
 use Rattle.model.specs.Run.Requests.{requestCount, requestsIn}
-use Rattle.model.specs.Run.RequestsLaws.{cut-at, cut-length}
+use Rattle.model.specs.Run.RequestsLaws.{first-at, first-length}
 use Rattle.model.specs.Run.Through.{answersTo}
 use Rattle.model.specs.Run.ThroughLaws.{answers-length, answers-next}
 use Rattle.model.specs.State.Check.{check}
@@ -27,7 +27,7 @@ module _ {t w room : List ℕ} {c at next i : ℕ} {r s : List ℕ} (k : Ready t
   -- the room has its length
   pub going-length : length s ≡ length room
   going-length =
-      let n = length-take-le i (requestsIn w) (omega (arith, g .within, cut-length (requestCount w) w)) in
+      let n = length-take-le i (requestsIn w) (omega (arith, g .within, first-length (requestCount w) w)) in
       omega (
         arith,
         ap length (g .answers),
@@ -50,7 +50,7 @@ module _ {t w room : List ℕ} {c at next i : ℕ} {r s : List ℕ} (k : Ready t
       sixteen = let n : next - at ≡ requestWords = omega (arith, g .ends) in part ∙ ap (λ (k : ℕ). take k (drop at w)) n
 
       request-is : q ≡ getD (requestsIn w) i []
-      request-is = sixteen ∙ ap (λ (n : ℕ). take requestWords (drop n w)) (g .begins) ∙ sym (cut-at (requestCount w) w i going-more)
+      request-is = sixteen ∙ ap (λ (n : ℕ). take requestWords (drop n w)) (g .begins) ∙ sym (first-at (requestCount w) w i going-more)
 
       pub going-checked : Checked r q c
       going-checked = record {
@@ -62,7 +62,7 @@ module _ {t w room : List ℕ} {c at next i : ℕ} {r s : List ℕ} (k : Ready t
       one-more : (n : ℕ) (u : List ℕ) → Settled r q n u → Going t w room c next (next + requestWords) (suc i) u (set s i n)
       one-more n u x =
           let qs = requestsIn w in
-          let h : i < length qs = omega (arith, going-more, cut-length (requestCount w) w) in
+          let h : i < length qs = omega (arith, going-more, first-length (requestCount w) w) in
           let was : length (answersTo t (take i qs)) ≡ i = answers-length t (take i qs) ∙ length-take-le i qs (omega arith) in
           let a : n ≡ answerOf (afterWords t (take i qs)) (getD qs i []) = x .answer ∙ ap₂ answerOf (g .tables) request-is in
           let b : u ≡ afterOf (afterWords t (take i qs)) (getD qs i []) = x .words ∙ ap₂ afterOf (g .tables) request-is in
@@ -87,8 +87,8 @@ module _ {t w room : List ℕ} {c at next i : ℕ} {r s : List ℕ} (k : Ready t
   -- at the end of the words every request has its answer
   pub going-end : length w < next → AnsweredAll t w room r s
   going-end h =
-      let n : i ≡ requestCount w = omega (arith, g .begins, g .ends, g .within, k .whole) in
-      let all : take i (requestsIn w) ≡ requestsIn w = take-all i (requestsIn w) (omega (arith, cut-length (requestCount w) w)) in
+      let n : i ≡ requestCount w = omega (arith, g .begins, g .ends, g .within, k .multiple) in
+      let all : take i (requestsIn w) ≡ requestsIn w = take-all i (requestsIn w) (omega (arith, first-length (requestCount w) w)) in
       record {
         tables = g .tables ∙ ap (afterWords t) all;
         answers = g .answers ∙ ap₂ (λ (y : List (List ℕ)) (m : ℕ). answersTo t y ++ drop m room) all n;

@@ -2,7 +2,7 @@
 // passed go on passing is a theorem, and is not asked again.
 use names::refusal;
 use names::size;
-ghost use Rattle.run.specs.Contract.{AnsweredAll, Ran, Ready};
+ghost use Rattle.run.specs.Contract.{AnsweredAll, RunSettled, Ready};
 
 // Puts the requests to the tables in order, and each answer to its place; c is what the check has said of the tables. No request is copied, and a
 // refused one is followed by the next.
@@ -23,7 +23,7 @@ fn answer_all(t: &mut [u32], requests: &[u32], answers: &mut [u32], c: u32)
 
 // The run of any words: where the sizes fit, each request has its answer in its place; else nothing changes.
 pub fn run(t: &mut [u32], requests: &[u32], answers: &mut [u32]) -> u32
-    ensures { λ r. ⌜ Ran (now (t .entry)) (now (requests .entry)) (now (answers .entry)) r (now (t .exit)) (now (answers .exit)) ⌝ }
+    ensures { λ r. ⌜ RunSettled (now (t .entry)) (now (requests .entry)) (now (answers .entry)) r (now (t .exit)) (now (answers .exit)) ⌝ }
 {
     if t.len() != size::TABLE_WORDS {
         return refusal::BAD_LENGTH;

@@ -1,15 +1,16 @@
 -- Wrong runs in one call on case state S1, and that the model's statement of a run rejects them (rules 14.3 and 15).
 use mathlib.Core.List.{List, [], _++_, _∷_}
 use mathlib.Core.Logic.{_≢_}
-use mathlib.Core.Path.{refl}
-use Prim.Native.Nat.{_<_, ℕ}
+use mathlib.Core.Path.{_≡_, refl, subst, sym}
+use Prim.Native.Nat.{_-_, _<_, _≤_, ℕ}
 use native.Mathlib.Omega.{arith}
 use lib.Dec.{T, eqb, eqb-refl}
-use lib.ListN.{getD, length}
-use Rattle.cases.specs.Case.Cases.{Exchange, Stands, _gets_, asked, asking, gotten, inSixteen, passesAt, userIs}
+use lib.ListN.{drop, getD, length, take}
+use lib.Seq.{length-take-le}
+use Rattle.cases.specs.Case.Cases.{Exchange, Stands, _gets_, asked, asking, entityIs, gotten, inSixteen, passesAt, stand, userIs}
 use Rattle.cases.specs.Case.Opened.{opened}
 use Rattle.cases.specs.Case.Others.{none-at, other}
-use Rattle.cases.specs.Case.RunLaws.{asked-sixteen, case-through}
+use Rattle.cases.specs.Case.RunLaws.{asked-length, asked-sixteen, case-through}
 use Rattle.cases.specs.Case.S1.{s1, s1Sheet}
 use Rattle.cases.specs.Case.S1Words.{s1Words, s1Words-length, s1Words-tables}
 use Rattle.model.specs.Basics.Together.{together}
@@ -18,9 +19,10 @@ use Rattle.model.specs.Request.Words.{Request, requestOf}
 use Rattle.model.specs.Run.Requests.{Requests}
 use Rattle.model.specs.Run.RequestsLaws.{requests-count, requests-whole}
 use Rattle.model.specs.Run.Run.{Run, Sizes}
-use Rattle.model.specs.Run.RunLaws.{run-unique}
+use Rattle.model.specs.Run.RunLaws.{run-refused, run-sized, run-unique}
+use Rattle.model.specs.Tables.Layout.{tablesOf, wordCount}
 use Rattle.model.specs.Tables.Sheet.{padded}
-use Rattle.model.specs.Tables.Words.{Tables, held, heldOp, missed}
+use Rattle.model.specs.Tables.Words.{Tables, held, heldOp, missed, releasedType, type}
 use Rattle.model.specs.Theorem.Statements.{afterAll, afterWords}
 use Rattle.model.specs.Request.Refusals as refusal
 
@@ -53,18 +55,54 @@ fivePlaces = 7 ∷ 7 ∷ 7 ∷ 7 ∷ 7 ∷ []
 abbrev pub rightPlaces : List ℕ
 rightPlaces = 9 ∷ 15 ∷ 16 ∷ 0 ∷ 7 ∷ []
 
-pub four-run : Run s1Words (together (asked fourExchanges)) fivePlaces refusal.accepted (afterWords s1Words (asked fourExchanges)) rightPlaces
-four-run =
-    let z = case-through s1Words s1 fourExchanges nothingHeld s1Words-length s1Words-tables four-sixteen four-pass in
-    let p : Requests (together (asked fourExchanges)) (asked fourExchanges) =
-    record { words = refl; sixteen = asked-sixteen fourExchanges four-sixteen } in
-    let k : Sizes s1Words (together (asked fourExchanges)) fivePlaces =
-    record { tables = s1Words-length; whole = requests-whole p; places = omega (arith, requests-count p) } in
-    record {
-      refused = λ n. absurd (n k);
-      accepted = λ _. refl;
-      answered = λ _. record { requests = asked fourExchanges; parts = p; answers = gotten fourExchanges; through = z .0; places = refl };
-    }
+-- the words of a case's requests
+abbrev pub wordsOf : List Exchange → List ℕ
+wordsOf es = together (asked es)
+
+-- a case that passes on S1 is its run, in a room with a place for each answer
+passed-run : (es : List Exchange) (ws : List Stands) (room : List ℕ) → T (inSixteen es) → T (passesAt s1 es ws) → length es ≤ length room
+    → Run s1Words (wordsOf es) room refusal.accepted (afterWords s1Words (asked es)) (gotten es ++ drop (length (gotten es)) room)
+    × T (stand ws (tablesOf (afterWords s1Words (asked es))))
+passed-run es ws room x y h =
+    let z = case-through s1Words s1 es ws s1Words-length s1Words-tables x y in
+    let p : Requests (wordsOf es) (asked es) = record { words = refl; sixteen = asked-sixteen es x } in
+    let k : Sizes s1Words (wordsOf es) room =
+    record { tables = s1Words-length; multiple = requests-whole p; places = omega (arith, requests-count p, asked-length es) } in (
+      record {
+        refused = λ n. absurd (n k);
+        accepted = λ _. refl;
+        answered = λ _. record { requests = asked es; parts = p; answers = gotten es; through = z .0; places = refl };
+      },
+      z .1,
+    )
+
+pub four-run : Run s1Words (wordsOf fourExchanges) fivePlaces refusal.accepted (afterWords s1Words (asked fourExchanges)) rightPlaces
+four-run = passed-run fourExchanges nothingHeld fivePlaces four-sixteen four-pass (omega arith) .0
+
+-- User 1 takes on roles 5, and then releases 6; so the tables are others at the end.
+abbrev pub twoExchanges : List Exchange
+twoExchanges = asking 1 14 [] [] 1 5 0 gets 0 ∷ asking 1 19 (6 ∷ []) [] 0 0 0 gets 0 ∷ []
+
+abbrev released : List Stands
+released = entityIs 6 type releasedType ∷ []
+
+two-pass : T (passesAt s1 twoExchanges released)
+unfolding opened s1 s1Sheet
+two-pass = tt
+
+two-sixteen : T (inSixteen twoExchanges)
+unfolding asking padded
+two-sixteen = tt
+
+abbrev pub threePlaces : List ℕ
+threePlaces = 7 ∷ 7 ∷ 7 ∷ []
+
+two-passed : Run s1Words (wordsOf twoExchanges) threePlaces refusal.accepted (afterWords s1Words (asked twoExchanges)) (0 ∷ 0 ∷ 7 ∷ [])
+    × T (stand released (tablesOf (afterWords s1Words (asked twoExchanges))))
+two-passed = passed-run twoExchanges released threePlaces two-sixteen two-pass (omega arith)
+
+pub two-run : Run s1Words (wordsOf twoExchanges) threePlaces refusal.accepted (afterWords s1Words (asked twoExchanges)) (0 ∷ 0 ∷ 7 ∷ [])
+two-run = two-passed .0
 
 -- ---- what is not its run
 
@@ -78,20 +116,34 @@ abbrev requestsOf : List (List ℕ) → List Request
 requestsOf [] = []
 requestsOf (q ∷ qs) = requestOf q ∷ requestsOf qs
 
--- a run that leaves these places, whatever it makes of the tables
-abbrev Leaves : List ℕ → Type 0
-Leaves s = (r : List ℕ) → Run s1Words (together (asked fourExchanges)) fivePlaces refusal.accepted r s → ⊥
-
--- Rules 14.3 and 15.3: everything was done at the first request, and each answer given from the tables that all of them leave.
-pub hurried-condemned : Leaves (eachOn (afterAll s1 (requestsOf (asked fourExchanges))) (asked fourExchanges) ++ (7 ∷ []))
+-- Rules 14.3 and 15.3: everything was done at the first request, and each answer given from the tables that all of them leave: the release is then of what
+-- is no draft any more.
+pub hurried-answers-condemned : (r : List ℕ)
+    → Run s1Words (wordsOf twoExchanges) threePlaces refusal.accepted r (eachOn (afterAll s1 (requestsOf (asked twoExchanges))) (asked twoExchanges) ++ (7 ∷ []))
+    → ⊥
 unfolding opened s1 s1Sheet afterAll
-hurried-condemned r x =
-    other eqb eqb-refl (eachOn (afterAll s1 (requestsOf (asked fourExchanges))) (asked fourExchanges) ++ (7 ∷ [])) rightPlaces tt (run-unique x four-run .2)
+hurried-answers-condemned r x =
+    other eqb eqb-refl (eachOn (afterAll s1 (requestsOf (asked twoExchanges))) (asked twoExchanges) ++ (7 ∷ [])) (0 ∷ 0 ∷ 7 ∷ []) tt (run-unique x two-run .2)
 
--- Rule 15.3: each request found the tables as they were at the start.
-pub stale-condemned : Leaves (eachOn s1 (asked fourExchanges) ++ (7 ∷ []))
+-- Rule 15.3: each request found the tables as they were at the start: the release is then without the role.
+pub stale-answers-condemned : (r : List ℕ)
+    → Run s1Words (wordsOf twoExchanges) threePlaces refusal.accepted r (eachOn s1 (asked twoExchanges) ++ (7 ∷ [])) → ⊥
 unfolding opened s1 s1Sheet
-stale-condemned r x = other eqb eqb-refl (eachOn s1 (asked fourExchanges) ++ (7 ∷ [])) rightPlaces tt (run-unique x four-run .2)
+stale-answers-condemned r x = other eqb eqb-refl (eachOn s1 (asked twoExchanges) ++ (7 ∷ [])) (0 ∷ 0 ∷ 7 ∷ []) tt (run-unique x two-run .2)
+
+-- Rule 15.3: the answers are right, and the tables are put back.
+still-draft : T (stand released s1) → ⊥
+unfolding opened s1 s1Sheet
+still-draft t = t
+
+pub put-back-condemned : (s : List ℕ) → Run s1Words (wordsOf twoExchanges) threePlaces refusal.accepted s1Words s → ⊥
+put-back-condemned s x =
+    still-draft (subst (λ (d : Tables). T (stand released d)) s1Words-tables
+    (subst (λ (l : List ℕ). T (stand released (tablesOf l))) (sym (run-unique x two-run .1)) (two-passed .1)))
+
+-- a run of the four that leaves these places, whatever it makes of the tables
+abbrev Leaves : List ℕ → Type 0
+Leaves s = (r : List ℕ) → Run s1Words (wordsOf fourExchanges) fivePlaces refusal.accepted r s → ⊥
 
 -- What else the five places are not:
 abbrev pub wrongPlaces : List (List ℕ)
@@ -122,5 +174,27 @@ pub places-condemned : (i : ℕ) → i < length wrongPlaces → Leaves (getD wro
 places-condemned i h r x = none-at eqb eqb-refl rightPlaces wrongPlaces tt i h (run-unique x four-run .2)
 
 -- Rule 15.2: the call's own answer is 0: sizes that fit are not refused, and no request's answer is the run's.
-pub answers-condemned : (a : ℕ) → a ≢ refusal.accepted → (r s : List ℕ) → Run s1Words (together (asked fourExchanges)) fivePlaces a r s → ⊥
+pub answers-condemned : (a : ℕ) → a ≢ refusal.accepted → (r s : List ℕ) → Run s1Words (wordsOf fourExchanges) fivePlaces a r s → ⊥
 answers-condemned a n r s x = n (run-unique x four-run .0)
+
+-- ---- sizes
+
+-- Rule 15.2: four requests in three places are not accepted,
+pub short-condemned : (r s : List ℕ) → Run s1Words (wordsOf fourExchanges) threePlaces refusal.accepted r s → ⊥
+short-condemned r s x =
+    let p : Requests (wordsOf fourExchanges) (asked fourExchanges) = record { words = refl; sixteen = asked-sixteen fourExchanges four-sixteen } in
+    omega (arith, run-sized x refl .places, requests-count p)
+
+-- and where they are refused no answer is written, though there were places for some;
+pub partly-condemned : (r : List ℕ) → Run s1Words (wordsOf fourExchanges) threePlaces refusal.badLength r (9 ∷ 15 ∷ 16 ∷ []) → ⊥
+partly-condemned r x = other eqb eqb-refl (9 ∷ 15 ∷ 16 ∷ []) threePlaces tt (run-refused x (λ e. omega arith) .2)
+
+-- a word too few of tables is no matter of the check;
+pub sized-condemned : (w room r s : List ℕ) → Run (take (wordCount - 1) s1Words) w room refusal.notWellFormed r s → ⊥
+sized-condemned w room r s x =
+    let h = length-take-le (wordCount - 1) s1Words (omega (arith, s1Words-length)) in
+    omega (arith, x .refused (λ z. omega (arith, z .tables, h)) .0)
+
+-- and where there is no request nothing is, whatever 2,304 words are lent.
+pub empty-run-condemned : (t room r s : List ℕ) (a : ℕ) → length t ≡ wordCount → a ≢ refusal.accepted → Run t [] room a r s → ⊥
+empty-run-condemned t room r s a h n x = n (x .accepted (record { tables = h; multiple = refl; places = omega arith }))

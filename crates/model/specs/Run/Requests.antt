@@ -21,10 +21,10 @@ abbrev pub requestCount : List ℕ → ℕ
 requestCount w = length w / requestWords
 
 -- the first n requests of the words
-unfoldable pub cut : ℕ → List ℕ → List (List ℕ)
-cut zero w = []
-cut (suc n) w = take requestWords w ∷ cut n (drop requestWords w)
+unfoldable pub firstRequests : ℕ → List ℕ → List (List ℕ)
+firstRequests zero w = []
+firstRequests (suc n) w = take requestWords w ∷ firstRequests n (drop requestWords w)
 
 -- all of them
 abbrev pub requestsIn : List ℕ → List (List ℕ)
-requestsIn w = cut (requestCount w) w
+requestsIn w = firstRequests (requestCount w) w

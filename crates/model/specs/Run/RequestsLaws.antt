@@ -1,4 +1,4 @@
--- The laws of requests in words: words of whole requests are cut in one way only, and what is put behind them is cut behind them.
+-- The laws of requests in words: words of whole requests are cut in one way only, and requests put behind others are cut after them.
 use mathlib.Core.List.{List, [], _++_, _∷_, append-assoc, append-nil}
 use mathlib.Core.Path.{_∙_, _≡_, ap, ap₂, refl, sym}
 use Prim.Native.Nat.{_%_, _*_, _+_, _<_, suc, zero, ℕ}
@@ -7,7 +7,7 @@ use lib.ListN.{drop, getD, length, length-append, length-drop, take, take-append
 use lib.Seq.{drop-at, drop-drop, length-take-le, take-at}
 use Rattle.model.specs.Basics.Together.{together}
 use Rattle.model.specs.Request.Words.{requestWords}
-use Rattle.model.specs.Run.Requests.{AllSixteen, Requests, cut, requestCount, requestsIn}
+use Rattle.model.specs.Run.Requests.{AllSixteen, Requests, firstRequests, requestCount, requestsIn}
 
 -- lists one after another, and others behind them
 pub together-append : {A : Type 0} (xs ys : List (List A)) → together (xs ++ ys) ≡ together xs ++ together ys
@@ -29,40 +29,46 @@ pub sixteen-append : (ps qs : List (List ℕ)) → AllSixteen ps → AllSixteen 
 sixteen-append [] qs h k = k
 sixteen-append (p ∷ ps) qs h k = (h .0, sixteen-append ps qs (h .1) k)
 
--- ---- the cut
+pub sixteen-take : (qs : List (List ℕ)) (i : ℕ) → AllSixteen qs → AllSixteen (take i qs)
+sixteen-take [] zero h = tt
+sixteen-take [] (suc i) h = tt
+sixteen-take (q ∷ qs) zero h = tt
+sixteen-take (q ∷ qs) (suc i) h = (h .0, sixteen-take qs i (h .1))
+
+-- ---- words cut into requests
 
 -- words that are n requests are cut into n requests
-cut-words : (n : ℕ) (w : List ℕ) → length w ≡ requestWords * n → Requests w (cut n w)
-unfolding cut
-cut-words zero [] h = record { words = refl; sixteen = tt }
-cut-words zero (x ∷ w) h = absurd (omega arith)
-cut-words (suc n) w h =
-    let r = cut-words n (drop requestWords w) (omega (arith, length-drop requestWords w)) in record {
+first-words : (n : ℕ) (w : List ℕ) → length w ≡ requestWords * n → Requests w (firstRequests n w)
+unfolding firstRequests
+first-words zero [] h = record { words = refl; sixteen = tt }
+first-words zero (x ∷ w) h = absurd (omega arith)
+first-words (suc n) w h =
+    let r = first-words n (drop requestWords w) (omega (arith, length-drop requestWords w)) in record {
       words = sym (take-append-drop requestWords w) ∙ ap (λ l. take requestWords w ++ l) (r .words);
       sixteen = (length-take-le requestWords w (omega arith), r .sixteen);
     }
 
 -- and requests are what their words are cut into
-cut-together : (qs : List (List ℕ)) → AllSixteen qs → cut (length qs) (together qs) ≡ qs
-unfolding cut
-cut-together [] h = refl
-cut-together (q ∷ qs) h =
-    ap₂ _∷_ (take-at q (together qs) requestWords (h .0)) (ap (cut (length qs)) (drop-at q (together qs) requestWords (h .0)) ∙ cut-together qs (h .1))
+first-together : (qs : List (List ℕ)) → AllSixteen qs → firstRequests (length qs) (together qs) ≡ qs
+unfolding firstRequests
+first-together [] h = refl
+first-together (q ∷ qs) h =
+    ap₂ _∷_ (take-at q (together qs) requestWords (h .0)) (ap (firstRequests (length qs)) (drop-at q (together qs) requestWords (h .0)) ∙ first-together qs (h .1))
 
 -- request i of the words is the sixteen that stand behind i requests
-pub cut-at : (n : ℕ) (w : List ℕ) (i : ℕ) → i < n → getD (cut n w) i [] ≡ take requestWords (drop (requestWords * i) w)
-unfolding cut
-cut-at zero w i h = absurd (omega arith)
-cut-at (suc n) w zero h = refl
-cut-at (suc n) w (suc i) h =
+pub first-at : (n : ℕ) (w : List ℕ) (i : ℕ) → i < n → getD (firstRequests n w) i [] ≡ take requestWords (drop (requestWords * i) w)
+unfolding firstRequests
+first-at zero w i h = absurd (omega arith)
+first-at (suc n) w zero h = refl
+first-at (suc n) w (suc i) h =
     let e : requestWords + requestWords * i ≡ requestWords * suc i = omega arith in
-    cut-at n (drop requestWords w) i (omega arith)
+    first-at n (drop requestWords w) i (omega arith)
     ∙ ap (take requestWords) (drop-drop (requestWords * i) requestWords w ∙ ap (λ (k : ℕ). drop k w) e)
 
-pub cut-length : (n : ℕ) (w : List ℕ) → length (cut n w) ≡ n
-unfolding cut
-cut-length zero w = refl
-cut-length (suc n) w = ap suc (cut-length n (drop requestWords w))
+pub first-length : (n : ℕ) (w : List ℕ) → length (firstRequests n w) ≡ n
+unfolding firstRequests
+first-length zero w = refl
+first-length (suc n) w = ap suc (first-length n (drop requestWords w))
 
 -- Rule 15.1: where the words are those of requests, there are so many of them,
 pub requests-count : {w : List ℕ} {qs : List (List ℕ)} → Requests w qs → requestCount w ≡ length qs
@@ -74,11 +80,11 @@ requests-whole {w} {qs} r = omega (arith, ap length (r .words), together-length 
 
 -- and the requests are those that the words are cut into: there are no others.
 pub requests-are : {w : List ℕ} {qs : List (List ℕ)} → Requests w qs → qs ≡ requestsIn w
-requests-are {w} {qs} r = sym (ap₂ cut (requests-count r) (r .words) ∙ cut-together qs (r .sixteen))
+requests-are {w} {qs} r = sym (ap₂ firstRequests (requests-count r) (r .words) ∙ first-together qs (r .sixteen))
 
 -- Any words that are a multiple of sixteen are requests.
 pub requests-in : (w : List ℕ) → length w % requestWords ≡ 0 → Requests w (requestsIn w)
-requests-in w h = cut-words (requestCount w) w (omega arith)
+requests-in w h = first-words (requestCount w) w (omega arith)
 
 -- Requests behind requests are requests.
 pub requests-append : {v w : List ℕ} {ps qs : List (List ℕ)} → Requests v ps → Requests w qs → Requests (v ++ w) (ps ++ qs)
@@ -87,6 +93,6 @@ requests-append {ps = ps} {qs = qs} x y = record {
   sixteen = sixteen-append ps qs (x .sixteen) (y .sixteen);
 }
 
--- One request of a list is words of whole requests.
+-- Sixteen words are one request.
 pub requests-one : (q : List ℕ) → length q ≡ requestWords → Requests q (q ∷ [])
 requests-one q h = record { words = sym (append-nil q); sixteen = (h, tt) }

@@ -16,7 +16,7 @@ use Rattle.model.specs.Request.Refusals as refusal
 -- Rule 15.2: the sizes that a run asks for: 2,304 words of tables t, words w of whole requests, and a room with a place for each answer.
 pub record Sizes (t w room : List ℕ) : Type 0 where
   pub tables : length t ≡ wordCount
-  pub whole : length w % requestWords ≡ 0
+  pub multiple : length w % requestWords ≡ 0
   pub places : requestCount w ≤ length room
 
 -- their test
@@ -32,7 +32,7 @@ pub record Answers (t w room r s : List ℕ) : Type 0 where
   pub through : Through t requests answers r
   pub places : s ≡ answers ++ drop (length answers) room
 
--- Rule 15: the run of w on t, with a room for answers, answers a, and leaves r and s. Other sizes are refused with 1, and nothing has changed.
+-- Rule 15: the run of w on t, with a room for answers, answers a, and leaves r and s. It refuses by its sizes alone, and then leaves both as they were.
 pub record Run (t w room : List ℕ) (a : ℕ) (r s : List ℕ) : Type 0 where
   pub refused : (Sizes t w room → ⊥) → (a ≡ refusal.badLength) × (r ≡ t) × (s ≡ room)
   pub accepted : Sizes t w room → a ≡ refusal.accepted

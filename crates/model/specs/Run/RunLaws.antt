@@ -1,4 +1,5 @@
--- The laws of a run on words: there is one result only, tables that fail the check stay, and a run that is cut anywhere is its pieces one after another.
+-- The laws of a run on words: there is one result only, tables that fail the check stay, and a run that is cut in two is its two pieces one after another.
+-- (Of any number of pieces speak Run/ThroughLaws and, of the calls, the demands.)
 use mathlib.Core.Bool.{Bool, false, true}
 use mathlib.Core.List.{List, [], _++_, append-assoc}
 use mathlib.Core.Logic.{_≢_}
@@ -28,19 +29,19 @@ unfolding sizes
 sizes-agrees t w room =
     let z = agrees-and (agrees-eq (length t) wordCount) (agrees-and (agrees-eq (length w % requestWords) 0) (agrees-le (requestCount w) (length room))) in
     record {
-      to = λ h. let p = z .to h in record { tables = p .0; whole = p .1 .0; places = p .1 .1 };
-      from = λ p. z .from (p .tables, (p .whole, p .places));
+      to = λ h. let p = z .to h in record { tables = p .0; multiple = p .1 .0; places = p .1 .1 };
+      from = λ p. z .from (p .tables, (p .multiple, p .places));
     }
 
 module _ (t w room : List ℕ) where
   -- a room with the answers at its front
-  answersIn : List ℕ
-  answersIn = answersTo t (requestsIn w) ++ drop (requestCount w) room
+  placed : List ℕ
+  placed = answersTo t (requestsIn w) ++ drop (requestCount w) room
 
-  answered-in : Sizes t w room → Answers t w room (afterWords t (requestsIn w)) answersIn
-  unfolding answersIn
+  answered-in : Sizes t w room → Answers t w room (afterWords t (requestsIn w)) placed
+  unfolding placed
   answered-in z =
-      let r = requests-in w (z .whole) in
+      let r = requests-in w (z .multiple) in
       let n : requestCount w ≡ length (answersTo t (requestsIn w)) = requests-count r ∙ sym (answers-length t (requestsIn w)) in record {
         requests = requestsIn w;
         parts = r;
@@ -72,11 +73,11 @@ module _ (t w room : List ℕ) where
 
   -- Rule 15: what is computed is a run,
   pub run-computed : Run t w room (runAnswer t w room) (runTables t w room) (runRoom t w room)
-  unfolding runAnswer runTables runRoom answersIn
+  unfolding runAnswer runTables runRoom placed
   run-computed = go (sizes t w room) (sizes-agrees t w room)
     where
       go : (b : Bool) → Agrees b (Sizes t w room)
-          → Run t w room (pick b refusal.accepted refusal.badLength) (pick b (afterWords t (requestsIn w)) t) (pick b answersIn room)
+          → Run t w room (pick b refusal.accepted refusal.badLength) (pick b (afterWords t (requestsIn w)) t) (pick b placed room)
       go true a = record { refused = λ n. absurd (n (a .to tt)); accepted = λ z. refl; answered = answered-in }
       go false a = record { refused = λ n. (refl, refl, refl); accepted = λ z. absurd (a .from z); answered = λ z. absurd (a .from z) }
 
@@ -107,7 +108,7 @@ run-unique {t} {w} {room} {r} {s} {u} {v} {a} {b} x y = go (sizes t w room) (siz
         (p .0 ∙ sym (q .0), p .1 ∙ sym (q .1), p .2 ∙ sym (q .2))
 
 module _ {t w room r s : List ℕ} {a : ℕ} (x : Run t w room a r s) where
-  -- A run is accepted exactly where the sizes fit; nothing else is asked.
+  -- A run that is accepted had the sizes that it asks for.
   pub run-sized : a ≡ refusal.accepted → Sizes t w room
   run-sized e = go (sizes t w room) (sizes-agrees t w room)
     where
@@ -141,7 +142,7 @@ run-cut {t} {v} {w} {room} {s₁ = s₁} {r₂ = r₂} {s₂ = s₂} x e y f z h
     let p = x .answered (run-sized x e) in
     let q = y .answered (run-sized y f) in
     let u = requests-append (p .parts) (q .parts) in
-    let k : Sizes t (v ++ w) room = record { tables = run-sized x e .tables; whole = requests-whole u; places = h } in
+    let k : Sizes t (v ++ w) room = record { tables = run-sized x e .tables; multiple = requests-whole u; places = h } in
     let m : length (p .answers ++ q .answers) ≡ requestCount (v ++ w) =
     through-length (through-append (p .through) (q .through)) ∙ sym (requests-count u) in
     let g : Answers t (v ++ w) room r₂ ((p .answers ++ q .answers) ++ drop (requestCount (v ++ w)) room) = record {

@@ -10,9 +10,8 @@ use lib.Seq.{take-length}
 use Rattle.model.specs.Basics.Together.{together}
 use Rattle.model.specs.Request.Step.{Settles, afterOf, answerOf}
 use Rattle.model.specs.Run.Requests.{AllSixteen}
-use Rattle.model.specs.Run.Through.{Pieces, Through, answersTo, end, next, noPiece, piece}
+use Rattle.model.specs.Run.Through.{AsSteps, Halves, Pieces, Through, answersTo, end, next, noPiece, piece}
 use Rattle.model.specs.State.Check.{check}
-use Rattle.model.specs.Theorem.Sequence.{Steps}
 use Rattle.model.specs.Theorem.SequenceUnique.{listed-steps}
 use Rattle.model.specs.Theorem.Statements.{afterWords}
 use Rattle.model.specs.Theorem.Steps.{check-refuses}
@@ -64,13 +63,7 @@ answers-next t [] i h = absurd (omega arith)
 answers-next t (q ∷ qs) zero h = refl
 answers-next t (q ∷ qs) (suc i) h = ap (λ l. answerOf t q ∷ l) (answers-next (afterOf t q) qs i (omega arith))
 
--- Rule 15.3: the requests as numbered steps: request i finds what the steps before it have left.
-pub record AsSteps (t : List ℕ) (qs : List (List ℕ)) (ns r : List ℕ) : Type 0 where
-  pub tables : ℕ → List ℕ
-  pub starts : tables 0 ≡ t
-  pub steps : Steps (length qs) tables (λ i. getD qs i []) (λ i. getD ns i 0)
-  pub ends : tables (length qs) ≡ r
-
+-- Rule 15.3: the requests are numbered steps.
 pub through-numbered : {t r : List ℕ} {qs : List (List ℕ)} {ns : List ℕ} → Through t qs ns r → AsSteps t qs ns r
 unfolding afterWords
 through-numbered {t} {r} {qs} {ns} x =
@@ -92,15 +85,7 @@ pub through-append : {t r u : List ℕ} {ps qs : List (List ℕ)} {ns ms : List 
 through-append end y = y
 through-append (next s x) y = next s (through-append x y)
 
--- and all of them, cut anywhere, are the first and then the others, from what the first left.
-pub record Halves (t : List ℕ) (ps qs : List (List ℕ)) (ns u : List ℕ) : Type 0 where
-  pub first : List ℕ
-  pub second : List ℕ
-  pub between : List ℕ
-  pub answers : ns ≡ first ++ second
-  pub before : Through t ps first between
-  pub behind : Through between qs second u
-
+-- and all of them, cut anywhere, are the first and then the others.
 pub through-cut : {t u : List ℕ} (ps : List (List ℕ)) {qs : List (List ℕ)} {ns : List ℕ} → Through t (ps ++ qs) ns u → Halves t ps qs ns u
 through-cut {t} [] {ns = ns} x = record { first = []; second = ns; between = t; answers = refl; before = end; behind = x }
 through-cut (p ∷ ps) (next {a = a} s x) =

@@ -9,16 +9,19 @@ use native.Mathlib.Omega.{arith}
 use lib.Dec.{T, eqb, eqb→eq}
 use lib.ListN.{length}
 use Rattle.model.specs.Basics.Agree.{Agrees, agrees-and, agrees-eq, agrees-not}
+use Rattle.model.specs.Basics.Cases.{cases, lt-or-le}
 use Rattle.model.specs.Basics.Choice.{Same, it, other, pick, same}
+use Rattle.model.specs.Basics.Fails.{fails-holds}
 use Rattle.model.specs.Basics.TestLaws.{is-false, is-true, pick-false, pick-true}
 use Rattle.model.specs.List.Further.{checked}
 use Rattle.model.specs.Request.After.{after}
 use Rattle.model.specs.Request.AfterLaws.{after-accepted, after-each, after-noticed}
-use Rattle.model.specs.Request.Allowed.{Accepted}
+use Rattle.model.specs.Request.Allowed.{Accepted, Known}
 use Rattle.model.specs.Request.Asked.{asked}
-use Rattle.model.specs.Request.Ladder.{answer}
+use Rattle.model.specs.Request.Ladder.{answer, applies, ladder, never, rungAt, unknownUser}
 use Rattle.model.specs.Request.LadderLaws.{answer-is, judge-answer}
 use Rattle.model.specs.Request.Operations.{Op, opOf}
+use Rattle.model.specs.Request.RungLaws.{unknownUser-fails}
 use Rattle.model.specs.Request.Step.{afterOf, answerOf, sized}
 use Rattle.model.specs.Request.Words.{Request, requestOf, requestWords}
 use Rattle.model.specs.State.Agree.{wellFormed-bounded}
@@ -178,6 +181,37 @@ pub list-stays : (t : List ℕ) (qs : List (List ℕ)) → check (afterWords t q
 unfolding afterWords
 list-stays t [] = refl
 list-stays t (q ∷ qs) = list-stays (afterOf t q) qs ∙ check-stays t q
+
+-- A request of a number that is no user's, as 0, changes no word (rules 7.4 and 8.1).
+four-applies : (d : Tables) (q : Request) → (Known d (q .user) → ⊥) → applies refusal.unknownRequester d q ≡ true
+unfolding applies rungAt never ladder
+four-applies d q n = fails-holds (unknownUser d q) (unknownUser-fails d q) n
+
+pub nobody-words : (t q : List ℕ) → requestOf q .user ≡ 0 → afterOf t q ≡ t
+nobody-words t q e = go (sized t q) refl
+  where
+    d : Tables
+    d = tablesOf t
+
+    four : applies refusal.unknownRequester d (requestOf q) ≡ true
+    four = four-applies d (requestOf q) (λ k. omega (arith, k .low))
+
+    clash : {C : Type 0} → applies refusal.unknownRequester d (requestOf q) ≡ false → C
+    clash h = let z : true ≡ false = sym four ∙ h in let y : _≡_ {A = ℕ} 0 1 = cc in absurd (omega arith)
+
+    low : (refusal.badLength ≤ answer d (requestOf q)) × (answer d (requestOf q) < firstNoticed)
+    low = (
+      cases (lt-or-le refusal.accepted (answer d (requestOf q))) (λ h. h)
+          (λ h. clash (answer-is d (requestOf q) .accepted (omega arith) refusal.unknownRequester)),
+      cases (lt-or-le refusal.unknownRequester (answer d (requestOf q))) (λ h. clash (answer-is d (requestOf q) .below refusal.unknownRequester h))
+          (λ h. omega arith),
+    )
+
+    go : (b : Bool) → sized t q ≡ b → afterOf t q ≡ t
+    go true z =
+        let a = answerOf-sized t q (is-true (sized t q) z) in
+        low-refusal-words t q (omega (arith, low .0)) (omega (arith, low .1))
+    go false z = unsized t q (is-false (sized t q) z) .1
 
 -- Refusals 5 to 16 change the requester's notice in the words, and nothing else.
 pub high-refusal-words : (t q : List ℕ) → firstNoticed ≤ answerOf t q → Quiet (tablesOf t) (requestOf q .user) (tablesOf (afterOf t q))

@@ -14,7 +14,7 @@ returns c = other-sizes _ _ _ (λ z. c .if1 .taken (z .tables))
 
 -- src/lib.rt:31:9
 returns-2 : tie.Need-returns-2
-returns-2 c = other-sizes _ _ _ (λ z. c .if2 .taken (z .whole))
+returns-2 c = other-sizes _ _ _ (λ z. c .if2 .taken (z .multiple))
 
 -- src/lib.rt:34:9
 returns-3 : tie.Need-returns-3
@@ -43,7 +43,7 @@ returns-4 c =
     let s9 : _ → _ = λ _. s4 c .before .before .before .before .before in
     let s10 : _ → _ = λ _. s9 c .before in
     let s11 : _ → _ = λ _. s10 c .before in
-    answered-ran _ _ _ _ _ (record { tables = s11 c .if1 .left; whole = s10 c .if2 .left; places = omega (arith, s9 c .if3 .left) })
+    answered-ran _ _ _ _ _ (record { tables = s11 c .if1 .left; multiple = s10 c .if2 .left; places = omega (arith, s9 c .if3 .left) })
     (s4 c .answer-all .ensures)
 
 pub run-spec : {M : Type 1} → statement M
