@@ -34,7 +34,7 @@ pub fn run(t: &mut [u32], requests: &[u32], answers: &mut [u32]) -> u32
     if answers.len() < requests.len() / size::REQUEST_WORDS {
         return refusal::BAD_LENGTH;
     }
-    let c = state::checked(t);
+    let c = state::judged(t);
     answer_all(t, requests, answers, c);
     refusal::ACCEPTED
 }
