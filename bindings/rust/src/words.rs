@@ -91,7 +91,7 @@ pub fn step(tables: &mut [u32], request: &[u32]) -> Answer {
     unpacked(unsafe { mms_step(tables.as_mut_ptr(), tables.len(), request.as_ptr(), request.len()) })
 }
 
-/// Requests in order, sixteen words each: 0 or 1. With 0 the tables were checked once, and place i of `answers` has the
+/// Requests in order [rule 15], sixteen words each: 0 or 1. With 0 the tables were checked once, and place i of `answers` has the
 /// bare answer of request i, 0 or 2 to 16. Tables and answers are those of as many steps: a refused request does not
 /// end the run, and places behind the last request stay.
 ///

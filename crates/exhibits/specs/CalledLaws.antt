@@ -4,42 +4,36 @@ use mathlib.Core.List.{List, [], _++_, _∷_}
 use mathlib.Core.Path.{_∙_, _≡_, ap, subst, sym}
 use Prim.Native.Nat.{ℕ}
 use native.Mathlib.Omega.{arith}
-use lib.Dec.{T, eqb, eqb→eq}
+use lib.Dec.{T}
 use lib.ListN.{drop, length}
 use Rattle.exhibits.specs.Called.{AllConfirmed, AllInOneRun, Confirmed, InOneRun}
+use Rattle.mms.specs.CallLaws.{step-number}
+use Rattle.mms.specs.Calls.{noIn}
 use Rattle.mms.specs.Contract.{Exports, exported}
-use Rattle.mms.specs.MixedLaws.{through-run}
-use Rattle.mms.specs.RoundTrip.{answering}
+use Rattle.mms.specs.MixedLaws.{call-settles, through-run}
 use Rattle.mms.specs.RunCallLaws.{run-number}
 use Rattle.mms.specs.declared.Answer.{Answer}
 use Rattle.cases.specs.Case.Cases.{Case, Exchange, Stands, _gets_, allInSixteen, allPass, asked, gotten, inSixteen, passesAt, stand}
 use Rattle.cases.specs.Case.RunLaws.{asked-length, asked-sixteen, case-through, first-passes}
 use Rattle.model.specs.Basics.TestLaws.{T-l, T-r}
-use Rattle.model.specs.Request.After.{after}
-use Rattle.model.specs.Request.Ladder.{answer}
-use Rattle.model.specs.Request.Step.{afterOf, answerOf}
-use Rattle.model.specs.Request.Words.{requestOf, requestWords}
+use Rattle.model.specs.Run.Through.{Through, end, next}
 use Rattle.model.specs.Run.ThroughLaws.{through-length}
 use Rattle.model.specs.Tables.Layout.{tablesOf, wordCount}
 use Rattle.model.specs.Tables.Words.{Tables}
-use Rattle.model.specs.Theorem.Steps.{afterOf-length, afterOf-tables, answerOf-sized, sized-agrees}
+use Rattle.model.specs.Theorem.Unique.{settles-unique}
+
+-- Requests that go through the words t with a case's answers, and leave its words standing: so does whatever the calls answer and leave.
+through-called : {t u : List ℕ} (es : List Exchange) (ws : List Stands) → Through t (asked es) (gotten es) u → T (stand ws (tablesOf u)) → Confirmed t es ws
+through-called [] ws end p = p
+through-called {t} (q gets n ∷ es) ws (next {r = v} s x) p =
+    λ a r c.
+    let e = settles-unique t q (noIn a) n r v (call-settles c) s in
+    (omega (arith, e .0, step-number c), subst (λ (l : List ℕ). Confirmed l es ws) (sym (e .1)) (through-called es ws x p))
 
 -- A case that passes on the tables d holds of calls on the words of d.
-pub case-called : (t : List ℕ) (d : Tables) (es : List Exchange) (ws : List Stands) → length t ≡ wordCount → tablesOf t ≡ d → T (inSixteen es)
+case-called : (t : List ℕ) (d : Tables) (es : List Exchange) (ws : List Stands) → length t ≡ wordCount → tablesOf t ≡ d → T (inSixteen es)
     → T (passesAt d es ws) → Confirmed t es ws
-unfolding passesAt
-case-called t d [] ws l e s p = subst (λ (c : Tables). T (stand ws c)) (sym e) p
-case-called t d (q gets n ∷ es) ws l e s p =
-    let z = sized-agrees t q .from (l, eqb→eq (length q) requestWords (T-l (eqb (length q) requestWords) (inSixteen es) s)) in
-    let m = eqb→eq (answer d (requestOf q)) n (T-l (eqb (answer d (requestOf q)) n) (passesAt (after d (requestOf q)) es ws) p) in
-    let b : answerOf t q ≡ n = answerOf-sized t q z ∙ ap (λ (c : Tables). answer c (requestOf q)) e ∙ m in
-    let h = case-called (afterOf t q) (after d (requestOf q)) es ws (afterOf-length t q ∙ l)
-    (afterOf-tables t q z ∙ ap (λ (c : Tables). after c (requestOf q)) e) (T-r (eqb (length q) requestWords) (inSixteen es) s)
-    (T-r (eqb (answer d (requestOf q)) n) (passesAt (after d (requestOf q)) es ws) p) in
-    λ a r x. (
-      x .word ∙ ap (λ (c : Answer). exported c) (x .called .answer) ∙ ap (λ (k : ℕ). exported (answering k 0)) b,
-      subst (λ (u : List ℕ). Confirmed u es ws) (sym (x .called .words)) h,
-    )
+case-called t d es ws l e s p = let z = case-through t d es ws l e s p in through-called es ws (z .0) (z .1)
 
 -- So it is with a table of cases,
 pub cases-called : (t : List ℕ) (d : Tables) (cs : List Case) → length t ≡ wordCount → tablesOf t ≡ d → T (allInSixteen cs) → allPass d cs ≡ true

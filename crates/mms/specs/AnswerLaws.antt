@@ -4,7 +4,6 @@ use mathlib.Core.List.{List, List·Memᴰ, List·Memᴰ·head, List·Memᴰ·tai
 use mathlib.Core.Logic.{_≢_}
 use mathlib.Core.Path.{_∙_, _≡_, refl, subst, sym}
 use Prim.Native.Nat.{_*_, _≤_, suc, ℕ}
-use native.Mathlib.Omega.{arith}
 use lib.Dec.{T, eqb, leb}
 use lib.ListN.{drop, length}
 use Rattle.model.specs.Basics.Agree.{agrees-eq, agrees-not}

@@ -29,10 +29,9 @@ use Rattle.model.specs.Theorem.Beyond.{ReleasedStays, SameDevices, SameUsers}
 use Rattle.model.specs.Theorem.Sequence.{Steps}
 use Rattle.model.specs.Theorem.Steps.{nobody-words, sized-agrees, unsized}
 use Rattle.model.specs.Theorem.Unique.{settles}
-use Rattle.model.specs.Request.Refusals as refusal
 
 -- a call of the step is a step of the model
-call-settles : {t q r : List ℕ} {a : ℕ} → StepCall t q a r → Settles t q (noIn a) r
+pub call-settles : {t q r : List ℕ} {a : ℕ} → StepCall t q a r → Settles t q (noIn a) r
 call-settles {t} {q} {a = a} x =
     subst (λ (l : List ℕ). Settles t q (noIn a) l) (sym (step-left x)) (subst (λ (n : ℕ). Settles t q n (afterOf t q)) (sym (step-no x)) (settles t q))
 

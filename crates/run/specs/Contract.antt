@@ -11,7 +11,7 @@ use Rattle.model.specs.State.Check.{check}
 use Rattle.model.specs.Theorem.Statements.{afterWords}
 
 -- Of the tables the check has said c, the words are whole requests, and each has a place for its answer.
-pub record Ready (t w room : List ℕ) (c : ℕ) : Type 0 where
+pub record RunReady (t w room : List ℕ) (c : ℕ) : Type 0 where
   pub said : c ≡ check t
   pub multiple : length w % requestWords ≡ 0
   pub places : requestCount w ≤ length room

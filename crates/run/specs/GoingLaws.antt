@@ -16,14 +16,14 @@ use Rattle.model.specs.State.Check.{check}
 use Rattle.model.specs.Theorem.SequenceUnique.{afterWords-next}
 use Rattle.model.specs.Theorem.Statements.{afterWords}
 use Rattle.model.specs.Theorem.Steps.{check-stays}
-use Rattle.run.specs.Contract.{AnsweredAll, Going, Ready}
+use Rattle.run.specs.Contract.{AnsweredAll, Going, RunReady}
 use Rattle.step.specs.Contract.{Checked, Settled}
 
-pub going-start : (t w room : List ℕ) (c : ℕ) → Ready t w room c → Going t w room c 0 requestWords 0 t room
+pub going-start : (t w room : List ℕ) (c : ℕ) → RunReady t w room c → Going t w room c 0 requestWords 0 t room
 unfolding afterWords answersTo
 going-start t w room c k = record { begins = refl; ends = omega arith; within = omega arith; said = k .said; tables = refl; answers = refl }
 
-module _ {t w room : List ℕ} {c at next i : ℕ} {r s : List ℕ} (k : Ready t w room c) (g : Going t w room c at next i r s) where
+module _ {t w room : List ℕ} {c at next i : ℕ} {r s : List ℕ} (k : RunReady t w room c) (g : Going t w room c at next i r s) where
   -- the room has its length
   pub going-length : length s ≡ length room
   going-length =

@@ -1,7 +1,6 @@
 -- The ends of a run: other sizes are refused, and else the requests are answered.
-use mathlib.Core.Bool.{true}
 use mathlib.Core.List.{List}
-use mathlib.Core.Path.{_∙_, _≡_, sym}
+use mathlib.Core.Path.{_∙_, sym}
 use Prim.Native.Nat.{ℕ}
 use Rattle.model.specs.Run.Run.{Sizes}
 use Rattle.model.specs.Run.RunLaws.{run-done, run-other}

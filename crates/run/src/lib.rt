@@ -2,12 +2,12 @@
 // passed go on passing is a theorem, and is not asked again.
 use names::refusal;
 use names::size;
-ghost use Rattle.run.specs.Contract.{AnsweredAll, RunSettled, Ready};
+ghost use Rattle.run.specs.Contract.{AnsweredAll, RunReady, RunSettled};
 
 // Puts the requests to the tables in order, and each answer to its place; c is what the check has said of the tables. No request is copied, and a
 // refused one is followed by the next.
 fn answer_all(t: &mut [u32], requests: &[u32], answers: &mut [u32], c: u32)
-    requires { ⌜ Ready (now t) (now requests) (now answers) c ⌝ }
+    requires { ⌜ RunReady (now t) (now requests) (now answers) c ⌝ }
     ensures { λ _. ⌜ AnsweredAll (now (t .entry)) (now (requests .entry)) (now (answers .entry)) (now (t .exit)) (now (answers .exit)) ⌝ }
 {
     let mut at: usize = 0;

@@ -14,7 +14,6 @@ use Rattle.ladder.specs.ClimbLaws.{good-passed, passed-hit, passed-more}
 use Rattle.ladder.specs.Contract.{Judged, Passed, PastLogon, PastRequester, Ready, Stepped}
 use Rattle.laws.specs.Bools.{and-l, and-r}
 use Rattle.model.specs.Basics.Agree.{agrees-eq, agrees-not, every-at}
-use Rattle.model.specs.Basics.TestLaws.{is-false}
 use Rattle.model.specs.Basics.Tests.{every}
 use Rattle.model.specs.Request.After.{noticedOp}
 use Rattle.model.specs.Request.AfterLaws.{after-unchanged}

@@ -1,4 +1,4 @@
-//! The desk as one would write it by hand, from document 01 and its readings alone; the rules' numbers were added for who reads.
+//! The desk as one would write it by hand, from the documents and their readings alone; the rules' numbers were added for who reads.
 //!
 //! Nothing here is proved. The proved desk is compared with this one word for word, and timed against it.
 

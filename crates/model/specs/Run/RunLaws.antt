@@ -6,17 +6,16 @@ use mathlib.Core.Logic.{_≢_}
 use mathlib.Core.Path.{_∙_, _≡_, ap, ap₂, refl, sym}
 use Prim.Native.Nat.{_%_, _<_, _≤_, ℕ}
 use native.Mathlib.Omega.{arith}
-use lib.Dec.{T}
 use lib.ListN.{List·getD-append, drop, getD, length, take}
 use lib.Seq.{take-at}
 use Rattle.model.specs.Basics.Agree.{Agrees, agrees-and, agrees-eq, agrees-le, agrees-not}
 use Rattle.model.specs.Basics.Choice.{pick}
 use Rattle.model.specs.Basics.TestLaws.{pick-false, pick-true}
 use Rattle.model.specs.Request.Words.{requestWords}
-use Rattle.model.specs.Run.Requests.{Requests, requestCount, requestsIn}
+use Rattle.model.specs.Run.Requests.{requestCount, requestsIn}
 use Rattle.model.specs.Run.RequestsLaws.{requests-append, requests-are, requests-count, requests-in, requests-whole}
 use Rattle.model.specs.Run.Run.{Answers, Run, Sizes, runAnswer, runRoom, runTables, sizes}
-use Rattle.model.specs.Run.Through.{Through, answersTo}
+use Rattle.model.specs.Run.Through.{answersTo}
 use Rattle.model.specs.Run.ThroughLaws.{answers-length, through-append, through-are, through-length, through-refused, through-steps}
 use Rattle.model.specs.State.Check.{check}
 use Rattle.model.specs.Tables.Layout.{wordCount}

@@ -8,7 +8,7 @@ use native.Mathlib.Omega.{arith}
 use lib.ListN.{getD, length, take}
 use lib.Seq.{take-length}
 use Rattle.model.specs.Basics.Together.{together}
-use Rattle.model.specs.Request.Step.{Settles, afterOf, answerOf}
+use Rattle.model.specs.Request.Step.{afterOf, answerOf}
 use Rattle.model.specs.Run.Requests.{AllSixteen}
 use Rattle.model.specs.Run.Through.{AsSteps, Halves, Pieces, Through, answersTo, end, next, noPiece, piece}
 use Rattle.model.specs.State.Check.{check}

@@ -2,7 +2,6 @@ use mathlib.Core.Path.{_∙_, sym}
 use Rattle.model.specs.State.AgreeSecure.{check-tables}
 use native.Mathlib.Omega.{arith}
 use Rattle.run.specs.RunLaws.{answered-ran, other-sizes}
-use Rattle.state.proofs.checked.Reads as checked-reads
 use borrow.Author.Needs.{needs}
 use Rattle.run.proofs.run.Statement.{statement}
 use Rattle.run.proofs.run.Tie as tie
