@@ -1,5 +1,5 @@
--- Document 01, "What a reader can rely on"; document 02, M-100: the calls that are linked, as sentences about what was lent, the word that C gets and what stands
--- afterwards. Each is what the call's contract in src/lib.rt ensures, under a name that can be read aloud.
+-- Document 01, "What a reader can rely on"; document 02, M-100: the calls that are linked, as sentences about what was lent, the word that C gets and
+-- what stands afterwards. Each is what the call's contract in src/lib.rt ensures, under a name that can be read aloud.
 use mathlib.Core.List.{List, [], _++_, _∷_}
 use mathlib.Core.Logic.{_≢_, _⊎_}
 use mathlib.Core.Path.{_≡_}

@@ -1,6 +1,6 @@
--- Document 01, "What a reader can rely on"; document 02, M-100: the client's three demands, each as one statement about the calls that are linked, with a part for each
--- sentence. They are said of any slices, any lengths and any words. Who believes this page, the definitions that it cites and the toolchain need
--- read no law and no code: demandOne, demandTwo and demandThree, in the law files beside this one, prove them.
+-- Document 01, "What a reader can rely on"; document 02, M-100: the client's three demands, each as one statement about the calls that are linked, with
+-- a part for each sentence. They are said of any slices, any lengths and any words. Who believes this page, the definitions that it cites and the
+-- toolchain need read no law and no code: demandOne, demandTwo and demandThree, in the law files beside this one, prove them.
 use mathlib.Core.List.{List, List·Memᴰ, [], _++_, _∷_}
 use mathlib.Core.Logic.{_↔_, _≢_, _⊎_}
 use mathlib.Core.Path.{_≡_}

@@ -116,20 +116,23 @@ abbrev requestsOf : List (List ℕ) → List Request
 requestsOf [] = []
 requestsOf (q ∷ qs) = requestOf q ∷ requestsOf qs
 
+-- what a run gives that answers the two on the tables d
+abbrev twoOn : Tables → List ℕ
+twoOn d = eachOn d (asked twoExchanges) ++ (7 ∷ [])
+
 -- Rules 14.3 and 15.3: everything was done at the first request, and each answer given from the tables that all of them leave: the release is then of what
 -- is no draft any more.
 pub hurried-answers-condemned : (r : List ℕ)
-    → Run s1Words (wordsOf twoExchanges) threePlaces refusal.accepted r (eachOn (afterAll s1 (requestsOf (asked twoExchanges))) (asked twoExchanges) ++ (7 ∷ []))
-    → ⊥
+    → Run s1Words (wordsOf twoExchanges) threePlaces refusal.accepted r (twoOn (afterAll s1 (requestsOf (asked twoExchanges)))) → ⊥
 unfolding opened s1 s1Sheet afterAll
 hurried-answers-condemned r x =
-    other eqb eqb-refl (eachOn (afterAll s1 (requestsOf (asked twoExchanges))) (asked twoExchanges) ++ (7 ∷ [])) (0 ∷ 0 ∷ 7 ∷ []) tt (run-unique x two-run .2)
+    other eqb eqb-refl (twoOn (afterAll s1 (requestsOf (asked twoExchanges)))) (0 ∷ 0 ∷ 7 ∷ []) tt (run-unique x two-run .2)
 
 -- Rule 15.3: each request found the tables as they were at the start: the release is then without the role.
 pub stale-answers-condemned : (r : List ℕ)
-    → Run s1Words (wordsOf twoExchanges) threePlaces refusal.accepted r (eachOn s1 (asked twoExchanges) ++ (7 ∷ [])) → ⊥
+    → Run s1Words (wordsOf twoExchanges) threePlaces refusal.accepted r (twoOn s1) → ⊥
 unfolding opened s1 s1Sheet
-stale-answers-condemned r x = other eqb eqb-refl (eachOn s1 (asked twoExchanges) ++ (7 ∷ [])) (0 ∷ 0 ∷ 7 ∷ []) tt (run-unique x two-run .2)
+stale-answers-condemned r x = other eqb eqb-refl (twoOn s1) (0 ∷ 0 ∷ 7 ∷ []) tt (run-unique x two-run .2)
 
 -- Rule 15.3: the answers are right, and the tables are put back.
 still-draft : T (stand released s1) → ⊥

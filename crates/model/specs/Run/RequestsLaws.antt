@@ -53,7 +53,8 @@ first-together : (qs : List (List ℕ)) → AllSixteen qs → firstRequests (len
 unfolding firstRequests
 first-together [] h = refl
 first-together (q ∷ qs) h =
-    ap₂ _∷_ (take-at q (together qs) requestWords (h .0)) (ap (firstRequests (length qs)) (drop-at q (together qs) requestWords (h .0)) ∙ first-together qs (h .1))
+    ap₂ _∷_ (take-at q (together qs) requestWords (h .0))
+    (ap (firstRequests (length qs)) (drop-at q (together qs) requestWords (h .0)) ∙ first-together qs (h .1))
 
 -- request i of the words is the sixteen that stand behind i requests
 pub first-at : (n : ℕ) (w : List ℕ) (i : ℕ) → i < n → getD (firstRequests n w) i [] ≡ take requestWords (drop (requestWords * i) w)
