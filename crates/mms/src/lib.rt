@@ -31,8 +31,8 @@ pub fn step(tables: &mut [u32], request: &[u32]) -> Answer
 pub fn run(tables: &mut [u32], requests: &[u32], answers: &mut [u32]) -> Answer
     ensures { λ r. ⌜ Running (now (tables .entry)) (now (requests .entry)) (now (answers .entry)) r (now (tables .exit)) (now (answers .exit)) ⌝ }
 {
-    let n = run::run(tables, requests, answers);
-    Answer { no: n, number: 0 }
+    let r = run::run(tables, requests, answers);
+    Answer { no: r, number: 0 }
 }
 
 // The disclosure list puts entries at the front of the room: every reference by which this user's request to show would be accepted, or refused
