@@ -26,8 +26,7 @@ pub fn maximum(t: &mut [u32], q: &[u32], u: User, e: Entity) -> u32
     refusal::ACCEPTED
 }
 
-// Operation 18 sets the level of device e to argument a, if the tables stay secure. Whoever is on it, or a downgrader, sets a strictly lower
-// one.
+// Operation 18 sets the level of device e to argument a, if the tables stay secure. Only whoever is on it, or a downgrader, lets it drop.
 pub fn device_level(t: &mut [u32], q: &[u32], u: User, e: Entity) -> u32
     requires { ⌜ Taking toDeviceLevel (now t) (now q) (u .0) × First (now t) (now q) (e .0) ⌝ }
     ensures { λ r. ⌜ Judged (now (t .entry)) (now (q .entry)) r (now (t .exit)) ⌝ }
@@ -37,7 +36,8 @@ pub fn device_level(t: &mut [u32], q: &[u32], u: User, e: Entity) -> u32
     }
     let a = Level(request::a(q));
     let other = !(e.0 == tables::device(t, u).0);
-    if levels::lower(a, tables::level(t, e)) & (other & !tables::has_role(t, u, role::DOWNGRADER)) {
+    let old = tables::level(t, e);
+    if !levels::at_most(old, a) & (other & !tables::has_role(t, u, role::DOWNGRADER)) {
         return refusal::ROLE_MISSING;
     }
     if !crate::trial::try_device_level(t, e, a) {

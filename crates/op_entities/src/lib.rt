@@ -40,7 +40,7 @@ pub fn copy(t: &mut [u32], q: &[u32], u: User, e: Entity, c: Entity) -> u32
     refusal::ACCEPTED
 }
 
-// Operation 6 sets the level of entity e to argument a, if the tables stay secure. Only a downgrader sets a strictly lower one.
+// Operation 6 sets the level of entity e to argument a, if the tables stay secure. Only a downgrader lets it drop.
 pub fn level(t: &mut [u32], q: &[u32], u: User, e: Entity) -> u32
     requires { ⌜ Taking toLevel (now t) (now q) (u .0) × First (now t) (now q) (e .0) ⌝ }
     ensures { λ r. ⌜ Judged (now (t .entry)) (now (q .entry)) r (now (t .exit)) ⌝ }
@@ -49,7 +49,8 @@ pub fn level(t: &mut [u32], q: &[u32], u: User, e: Entity) -> u32
         return refusal::WRONG_KIND;
     }
     let a = Level(request::a(q));
-    if levels::lower(a, tables::level(t, e)) & !tables::has_role(t, u, role::DOWNGRADER) {
+    let old = tables::level(t, e);
+    if !levels::at_most(old, a) & !tables::has_role(t, u, role::DOWNGRADER) {
         return refusal::ROLE_MISSING;
     }
     if !crate::trial::try_level(t, e, a) {

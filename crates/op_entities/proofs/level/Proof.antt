@@ -7,7 +7,7 @@ use Rattle.op_entities.proofs.level.Tie as tie
 use Rattle.op_entities.proofs.level.Reads as reads
 use Rattle.op_entities.proofs.level.Lts as lts
 use Rattle.ladder.proofs.kinds.is_entity.Reads as is-entity-reads
-use Rattle.levels.proofs.lower.Reads as lower-reads
+use Rattle.levels.proofs.at_most.Reads as at-most-reads
 use Rattle.op_entities.proofs.trial.try_level.Reads as try-level-reads
 use Rattle.request.proofs.a.Reads as a-reads
 use Rattle.tables.proofs.level.Reads as level-reads
@@ -36,8 +36,8 @@ level-requires : tie.Need-level-requires
 level-requires c κs = search needs
 
 -- src/lib.rt:52:8
-lower-requires : tie.Need-lower-requires
-lower-requires c κs = search needs
+at-most-requires : tie.Need-at-most-requires
+at-most-requires c κs = search needs
 
 -- src/lib.rt:52:49
 has-role-requires : tie.Need-has-role-requires
@@ -56,7 +56,7 @@ returns-2 c =
     let s8 = s7 .before in
     let s12 = s8 .before .before .before .before in
     level-12 _ _ _ _ (s12 .pre .0) (s12 .pre .1) _ (s8 .is-entity .ensures) (not-false _ (s7 .if1 .left)) _ (s6 .a .ensures) _ _
-    (c .before .before .before .lower .ensures ∙ rw (s4 .level .ensures)) (c .before .has-role .ensures) (c .if2 .taken)
+    (c .before .before .before .at-most .ensures ∙ rw (s4 .level .ensures)) (c .before .has-role .ensures) (c .if2 .taken)
 
 -- src/lib.rt:55:9
 try-level-requires : tie.Need-try-level-requires
@@ -79,7 +79,7 @@ returns-3 c =
     let s17 = s13 .before .before .before .before in
     rw (c .before .before .before .try-level .ensures .back (not-true _ (c .if3 .taken)))
     (level-13 _ _ _ _ (s17 .pre .0) (s17 .pre .1) _ (s13 .is-entity .ensures) (not-false _ (s12 .if1 .left)) _ (s11 .a .ensures) _ _
-    (s8 .lower .ensures ∙ rw (s9 .level .ensures)) (s6 .has-role .ensures) (s5 .if2 .left) _ (c .before .before .before .try-level .ensures .secure)
+    (s8 .at-most .ensures ∙ rw (s9 .level .ensures)) (s6 .has-role .ensures) (s5 .if2 .left) _ (c .before .before .before .try-level .ensures .secure)
     (not-true _ (c .if3 .taken)))
 
 -- src/lib.rt:44:1
@@ -98,7 +98,7 @@ returns-4 c =
     let s13 = s12 .before in
     let s17 = s13 .before .before .before .before in
     level-done _ _ _ _ (s17 .pre .0) (s17 .pre .1) _ (s13 .is-entity .ensures) (not-false _ (s12 .if1 .left)) _ (s11 .a .ensures) _ _
-    (s8 .lower .ensures ∙ rw (s9 .level .ensures)) (s6 .has-role .ensures) (s5 .if2 .left) _ (c .before .before .before .try-level .ensures .secure)
+    (s8 .at-most .ensures ∙ rw (s9 .level .ensures)) (s6 .has-role .ensures) (s5 .if2 .left) _ (c .before .before .before .try-level .ensures .secure)
     (not-false _ (c .if3 .left)) _ (c .before .before .before .try-level .ensures .kept (not-false _ (c .if3 .left)))
 
 pub level-spec : {M : Type 1} → statement M
@@ -110,7 +110,7 @@ level-spec =
     returns
     a-requires
     level-requires
-    lower-requires
+    at-most-requires
     has-role-requires
     same-length-2
     returns-2

@@ -9,7 +9,7 @@ use Rattle.op_devices.proofs.settings.device_level.Tie as tie
 use Rattle.op_devices.proofs.settings.device_level.Reads as reads
 use Rattle.op_devices.proofs.settings.device_level.Lts as lts
 use Rattle.ladder.proofs.kinds.is_device.Reads as is-device-reads
-use Rattle.levels.proofs.lower.Reads as lower-reads
+use Rattle.levels.proofs.at_most.Reads as at-most-reads
 use Rattle.op_devices.proofs.trial.try_device_level.Reads as try-device-level-reads
 use Rattle.request.proofs.a.Reads as a-reads
 use Rattle.tables.proofs.level.Reads as level-reads
@@ -43,8 +43,8 @@ level-requires : tie.Need-level-requires
 level-requires c κs = search needs
 
 -- src/settings.rt:40:8
-lower-requires : tie.Need-lower-requires
-lower-requires c κs = search needs
+at-most-requires : tie.Need-at-most-requires
+at-most-requires c κs = search needs
 
 -- src/settings.rt:40:58
 has-role-requires : tie.Need-has-role-requires
@@ -64,7 +64,7 @@ returns-2 c =
     let s12 = s11 .before in
     let s16 = s12 .before .before .before .before in
     device-level-12 _ _ _ _ (s16 .pre .0) (s16 .pre .1) _ (s12 .is-device .ensures) (not-false _ (s11 .if1 .left)) _ (s10 .a .ensures) _
-    (s8 .device .ensures) _ _ (c .before .before .before .lower .ensures ∙ rw (s4 .level .ensures)) (c .before .has-role .ensures) (c .if2 .taken)
+    (s8 .device .ensures) _ _ (c .before .before .before .at-most .ensures ∙ rw (s4 .level .ensures)) (c .before .has-role .ensures) (c .if2 .taken)
 
 -- src/settings.rt:43:9
 try-device-level-requires : tie.Need-try-device-level-requires
@@ -96,7 +96,7 @@ returns-3 c =
     let s21 = s17 .before .before .before .before in
     rw (c .before .before .before .try-device-level .ensures .back (not-true _ (c .if3 .taken)))
     (device-level-13 _ _ _ _ (s21 .pre .0) (s21 .pre .1) _ (s17 .is-device .ensures) (not-false _ (s16 .if1 .left)) _ (s15 .a .ensures) _
-    (s13 .device .ensures) _ _ (s8 .lower .ensures ∙ rw (s9 .level .ensures)) (s6 .has-role .ensures) (s5 .if2 .left) _
+    (s13 .device .ensures) _ _ (s8 .at-most .ensures ∙ rw (s9 .level .ensures)) (s6 .has-role .ensures) (s5 .if2 .left) _
     (c .before .before .before .try-device-level .ensures .secure) (not-true _ (c .if3 .taken)))
 
 -- src/settings.rt:31:1
@@ -116,7 +116,7 @@ returns-4 c =
     let s17 = s16 .before in
     let s21 = s17 .before .before .before .before in
     device-level-done _ _ _ _ (s21 .pre .0) (s21 .pre .1) _ (s17 .is-device .ensures) (not-false _ (s16 .if1 .left)) _ (s15 .a .ensures) _
-    (s13 .device .ensures) _ _ (s8 .lower .ensures ∙ rw (s9 .level .ensures)) (s6 .has-role .ensures) (s5 .if2 .left) _
+    (s13 .device .ensures) _ _ (s8 .at-most .ensures ∙ rw (s9 .level .ensures)) (s6 .has-role .ensures) (s5 .if2 .left) _
     (c .before .before .before .try-device-level .ensures .secure) (not-false _ (c .if3 .left)) _
     (c .before .before .before .try-device-level .ensures .kept (not-false _ (c .if3 .left)))
 
@@ -130,7 +130,7 @@ device-level-spec =
     a-requires
     device-requires
     level-requires
-    lower-requires
+    at-most-requires
     has-role-requires
     same-length-2
     returns-2
