@@ -8,6 +8,8 @@ pub mod S1Words
 pub mod S1List
 pub mod S1Script
 pub mod Condemned
+pub mod CondemnedDrops
+pub mod CondemnedHistories
 pub mod CondemnedFlows
 pub mod Overreach
 pub mod CondemnedLists

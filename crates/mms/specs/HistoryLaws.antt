@@ -7,7 +7,7 @@ use native.Mathlib.Omega.{arith}
 use lib.ListN.{length}
 use Rattle.mms.specs.CallLaws.{answered-size, check-passes, check-sound, passes-check, step-left, step-no, step-sequence}
 use Rattle.mms.specs.Calls.{Passes, Sound, StepCall, StepCalls, noIn}
-use Rattle.mms.specs.Demands.{Accountable, Effected, SecureHistory}
+use Rattle.mms.specs.Demands.{Effected, SecureHistory}
 use Rattle.model.specs.Request.After.{after}
 use Rattle.model.specs.Request.OperationLaws.{found-names}
 use Rattle.model.specs.Request.Step.{afterOf, answerOf}
@@ -15,7 +15,8 @@ use Rattle.model.specs.Request.Words.{requestOf, requestWords}
 use Rattle.model.specs.State.Check.{check}
 use Rattle.model.specs.Tables.Layout.{tablesOf, wordCount}
 use Rattle.model.specs.Tables.Words.{Tables}
-use Rattle.model.specs.Theorem.AccountableLaws.{steps-accounted}
+use Rattle.model.specs.Theorem.Accountable.{Accountable}
+use Rattle.model.specs.Theorem.AccountableLaws.{steps-accountable}
 use Rattle.model.specs.Theorem.Beyond.{OnlyReleased, ReleasedStays, SameDevices, SameUsers}
 use Rattle.model.specs.Theorem.BeyondLaws.{released-joined, released-now, words-devices-stay, words-only-released, words-released-stay}
 use Rattle.model.specs.Theorem.BeyondLaws.{words-users-stay}
@@ -81,8 +82,8 @@ module _ (m : ℕ) (tables requests : ℕ → List ℕ) (answers : ℕ → ℕ) 
   pub calls-paper : (i : ℕ) → i < m → PaperDowngradeSecure (tablesOf (tables i)) (requestOf (requests i)) (tablesOf (tables (suc i)))
   calls-paper i h = downgrade-stricter (tablesOf (tables i)) (requestOf (requests i)) (tablesOf (tables (suc i))) (calls-obey i h .downgrade)
 
-  pub calls-accountable : Accountable m tables requests (λ i. noIn (answers i))
-  calls-accountable x = steps-accounted tables requests (λ i. noIn (answers i)) x m steps
+  pub calls-accountable : Accountable m (λ i. tablesOf (tables i)) (λ i. requestOf (requests i)) (λ i. noIn (answers i))
+  calls-accountable = steps-accountable m tables requests (λ i. noIn (answers i)) steps
 
   pub calls-released : Passes (tables 0) → ReleasedStays (tablesOf (tables 0)) (tablesOf (tables m))
   calls-released p = over-steps ReleasedStays (λ t e. released-now (tablesOf t) (check-sound t e .wellFormed)) released-joined words-released-stay

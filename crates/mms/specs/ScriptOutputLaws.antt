@@ -8,16 +8,18 @@ use lib.ListN.{getD, length, take}
 use lib.Seq.{length-take-le}
 use Rattle.mms.specs.CallLaws.{step-left, step-number}
 use Rattle.mms.specs.Calls.{NoRequest, Passes, RunCall, ScriptCalls, SingleSteps, StepCall, alone}
-use Rattle.mms.specs.Demands.{Accountable, BeginsHistory, RanAs, ScriptOutput}
+use Rattle.mms.specs.Demands.{BeginsHistory, RanAs, ScriptOutput}
 use Rattle.mms.specs.HistoryLaws.{calls-obey, calls-sound}
 use Rattle.mms.specs.MixedLaws.{begins-history, singly-accountable, singly-through, through-run}
 use Rattle.mms.specs.ScriptLaws.{requests-length, runs-calls}
 use Rattle.model.specs.Basics.Together.{together}
 use Rattle.model.specs.Run.Requests.{AllSixteen}
 use Rattle.model.specs.Run.RequestsLaws.{sixteen-take}
+use Rattle.model.specs.Request.Words.{requestOf}
 use Rattle.model.specs.Script.Reports.{Report, answersIn, output, unread}
 use Rattle.model.specs.Script.Runs.{Answered, Outputs, Runs, cut, requests, whole}
-use Rattle.model.specs.Tables.Layout.{wordCount}
+use Rattle.model.specs.Tables.Layout.{tablesOf, wordCount}
+use Rattle.model.specs.Theorem.Accountable.{Accountable}
 use Rattle.model.specs.Text.Wording.{Wording, badLine, lines, readSeven}
 use Rattle.model.specs.Text.WordingLaws.{text-there}
 use Rattle.model.specs.Text.WordsLaws.{sixteen-length}
@@ -62,9 +64,10 @@ module _ {t s t′ s′ : List ℕ} {rs : List Report} (k : ScriptCalls t s rs t
   script-history p =
       begins-history p (length rs) (k .tables) (λ i. getD (requests (k .wordings)) i []) (k .starts) (λ i h. step-left (k .calls .each i h))
 
-  script-accountable : Accountable (length rs) (k .tables) (λ i. getD (requests (k .wordings)) i []) (λ i. getD (answersIn rs) i 0)
+  script-accountable : (i : ℕ) → i ≤ length rs
+      → Accountable i (λ j. tablesOf (k .tables j)) (λ j. requestOf (getD (requests (k .wordings)) j [])) (λ j. getD (answersIn rs) j 0)
   unfolding script-singly
-  script-accountable = let n = as-many in singly-accountable script-singly (length rs) (omega arith)
+  script-accountable i h = let n = as-many in singly-accountable script-singly i (omega arith)
 
   script-run : {room r v : List ℕ} {a : ℕ} → length t ≡ wordCount → (i : ℕ) → i ≤ length rs → i ≤ length room
       → RunCall t (together (take i (requests (k .wordings)))) room a r v → RanAs room (take i (answersIn rs)) (k .tables i) a r v

@@ -1,4 +1,5 @@
--- Document 01, "Levels and roles"; rules 1.1 to 1.3: levels, their order, and sets of bits. The order is said over the width of the compartments.
+-- Document 01, "Levels and roles"; document 02, M-101; rules 1.1 to 1.3: levels, their order, and sets of bits. The order is said over the width of the
+-- compartments.
 use mathlib.Core.Bool.{Bool, _&&_, not}
 use mathlib.Core.Logic.{_≢_}
 use Prim.Native.Nat.{_%_, _*_, _/_, _^_, ℕ}

@@ -1,5 +1,5 @@
 -- The order of levels: a partial order over every width of the compartments, with a lowest and a highest level.
-use mathlib.Core.Bool.{Bool, false, true}
+use mathlib.Core.Bool.{Bool, false, not, true}
 use mathlib.Core.Logic.{_↔_, _≢_, _⊎_, inl, inr}
 use mathlib.Core.Path.{_≡_, refl, subst, sym}
 use Prim.Native.Nat.{_%_, _*_, _+_, _-_, _/_, _<_, _^_, _≤_, ℕ}
@@ -8,7 +8,8 @@ use native.Mathlib.Omega.{arith}
 use lib.Arith.{mul-pred}
 use lib.Dec.{T, T-not}
 use lib.Pow.{high, ones-lt, pow-pos, split}
-use Rattle.model.specs.Basics.Agree.{Agrees, agrees-T, agrees-and, agrees-le, agrees-not}
+use Rattle.model.specs.Basics.Agree.{Agrees, agrees-T, agrees-and, agrees-but, agrees-exception, agrees-le, agrees-not}
+use Rattle.model.specs.Basics.Cases.{cases, lt-or-le}
 use Rattle.model.specs.Basics.TestLaws.{is-false, is-true}
 use Rattle.model.specs.Basics.Tests.{every, imp}
 use Rattle.model.specs.BitLaws.{bit-above, bit-ones, bit-zero, subset-agrees, subset-low, subset→≤}
@@ -50,6 +51,22 @@ atMostOver-trans k a b c s t =
     let x = atMost-agrees k a b .to s in
     let y = atMost-agrees k b c .to t in
     atMost-agrees k a c .from (omega arith, λ i h p. y .1 i h (x .1 i h p))
+
+-- where a level is not at most another, its rank is higher, or it has a compartment that the other lacks
+pub atMostOver-fails : (k a b : ℕ) → (AtMostOver k a b → ⊥) ↔ ((rank k b < rank k a) ⊎ ((i : ℕ) × (i < k) × (Bit i a × (Bit i b → ⊥))))
+unfolding subset
+atMostOver-fails k a b = (λ n. cases (lt-or-le (rank k b) (rank k a)) inl (λ h. inr (lacking .to (without n h))), λ z t. back z (atMost-agrees k a b .to t))
+  where
+    lacking : Agrees (not (subset k a b)) ((i : ℕ) × (i < k) × (Bit i a × (Bit i b → ⊥)))
+    lacking = agrees-exception k (λ i. imp (bit i a) (bit i b)) (λ i. Bit i a × (Bit i b → ⊥))
+        (λ i. agrees-but (bit i b) (agrees-T (bit i a)) (agrees-not (agrees-T (bit i b))))
+
+    without : (AtMostOver k a b → ⊥) → rank k a ≤ rank k b → T (not (subset k a b))
+    without n h = agrees-not (agrees-T (subset k a b)) .from (λ t. n (atMost-agrees k a b .from (h, subset-agrees k a b .to t)))
+
+    back : (rank k b < rank k a) ⊎ ((i : ℕ) × (i < k) × (Bit i a × (Bit i b → ⊥))) → (rank k a ≤ rank k b) × ((i : ℕ) → i < k → Bit i a → Bit i b) → ⊥
+    back (inl h) t = omega (arith, t .0)
+    back (inr z) t = z .2 .1 (t .1 (z .0) (z .1) (z .2 .0))
 
 -- two levels that are at most each other are one: each is no greater than the other as a number
 pub atMostOver-antisym : (k a b : ℕ) → AtMostOver k a b → AtMostOver k b a → a ≡ b
@@ -121,6 +138,12 @@ drops-ways a b = (λ n. go n (atMost a b) refl, λ z. elim z [ inl l ↦ lower-d
     go : Drops a b → (x : Bool) → atMost a b ≡ x → Lower a b ⊎ Sideways a b
     go n true e = inl (is-true (atMost a b) e, drops-differs a b n)
     go n false e = inr (T-not (atMost a b) (is-false (atMost a b) e), n)
+
+-- a drop loses rank, or a compartment
+pub drops-loses : (a b : ℕ) → Drops a b
+    ↔ ((rank compartmentCount a < rank compartmentCount b) ⊎ ((i : ℕ) × (i < compartmentCount) × (Bit i b × (Bit i a → ⊥))))
+unfolding atMost
+drops-loses a b = atMostOver-fails compartmentCount b a
 
 -- a level that drops from one drops from every level that is at least that one
 pub drops-further : (a b c : ℕ) → AtMost b c → Drops a b → Drops a c

@@ -34,8 +34,8 @@ pub fn maximum(t: &mut [u32], q: &[u32], u: User, e: Entity) -> u32
     refusal::ACCEPTED
 }
 
-// Whether the level of device e drops from old to a, and user u is neither on it nor a downgrader.
-fn lacks_downgrader(t: &[u32], u: User, e: Entity, old: Level, a: Level) -> bool
+// Whether the level of device e drops from old to a by user u, who is neither on it nor a downgrader.
+fn device_dropped(t: &[u32], u: User, e: Entity, old: Level, a: Level) -> bool
     requires { ⌜ UserIn (now t) (u .0) ⌝ }
     ensures { λ r. ⌜ r ≡ (drops (a .0) (old .0) && (not (eqb (e .0) (tablesOf (now (t .entry)) .user (u .0) device))
         && not (hasRole (tablesOf (now (t .entry))) (u .0) downgrader))) ⌝ }
@@ -53,7 +53,7 @@ pub fn device_level(t: &mut [u32], q: &[u32], u: User, e: Entity) -> u32
         return refusal::WRONG_KIND;
     }
     let a = Level(request::a(q));
-    if lacks_downgrader(t, u, e, tables::level(t, e), a) {
+    if device_dropped(t, u, e, tables::level(t, e), a) {
         return refusal::ROLE_MISSING;
     }
     if !crate::trial::try_device_level(t, e, a) {

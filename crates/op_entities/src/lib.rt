@@ -46,8 +46,8 @@ pub fn copy(t: &mut [u32], q: &[u32], u: User, e: Entity, c: Entity) -> u32
     refusal::ACCEPTED
 }
 
-// Whether the level drops from old to a, and user u is no downgrader.
-fn lacks_downgrader(t: &[u32], u: User, old: Level, a: Level) -> bool
+// Whether the level drops from old to a by user u, who is no downgrader.
+fn level_dropped(t: &[u32], u: User, old: Level, a: Level) -> bool
     requires { ⌜ UserIn (now t) (u .0) ⌝ }
     ensures { λ r. ⌜ r ≡ (drops (a .0) (old .0) && not (hasRole (tablesOf (now (t .entry))) (u .0) downgrader)) ⌝ }
 {
@@ -63,7 +63,7 @@ pub fn level(t: &mut [u32], q: &[u32], u: User, e: Entity) -> u32
         return refusal::WRONG_KIND;
     }
     let a = Level(request::a(q));
-    if lacks_downgrader(t, u, tables::level(t, e), a) {
+    if level_dropped(t, u, tables::level(t, e), a) {
         return refusal::ROLE_MISSING;
     }
     if !crate::trial::try_level(t, e, a) {

@@ -1,5 +1,5 @@
--- Document 01, "Case state S1"; rule 13: the state, and its step cases as two tables. Its levels 256, 257, 512, 513 and 1,023 are at 1 0, at 1 1,
--- at 2 0, at 2 1 and highest.
+-- Document 01, "Case state S1"; document 02, M-101; rule 13: the state, and its step cases as two tables. Its levels 256, 257, 512, 513 and 1,023 are at
+-- 1 0, at 1 1, at 2 0, at 2 1 and highest.
 use mathlib.Core.List.{List, [], _∷_}
 use Rattle.cases.specs.Case.Cases.{Case, _gets_, asking, at, entityIs, expect, highest, item, noted, userIs}
 use Rattle.model.specs.Tables.Sheet.{Sheet, sheetTables}

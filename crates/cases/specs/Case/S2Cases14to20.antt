@@ -175,8 +175,9 @@ deviceLevelCases =
     ∷ noted (asking 2 18 (2 ∷ []) [] (at 1 0) 0 0) 13 (entityIs 2 level (at 1 1) ∷ [])
     -- 13: over the device's maximum
     ∷ noted (asking 2 18 (2 ∷ []) [] highest 0 0) 13 (entityIs 2 level (at 1 1) ∷ [])
-    -- 12 before 13: strictly lower, and lower than what another's device shows
+    -- 12 before 13: strictly lower, and not at least what another's device shows; sideways, and over the device's maximum
     ∷ noted (asking 2 18 (5 ∷ []) [] 0 0 0) 12 (entityIs 5 level (at 2 0) ∷ [])
+    ∷ noted (asking 2 18 (5 ∷ []) [] (at 1 1) 0 0) 12 (entityIs 5 level (at 2 0) ∷ [])
     ∷ []
 
 unfoldable pub releaseCases : List Case

@@ -50,8 +50,9 @@ levelCases =
     ∷ noted (asking 1 6 (32 ∷ []) [] (at 2 1) 0 0) 13 (entityIs 32 level (at 0 1) ∷ [])
     -- 13: at most the level of the two devices that show it, and not at most one user's clearance
     ∷ noted (asking 1 6 (28 ∷ []) [] (at 1 1) 0 0) 13 (entityIs 28 level (at 1 0) ∷ [])
-    -- 12 before 13: strictly lower, and lower than what it holds
+    -- 12 before 13: strictly lower, and not at least what it holds; sideways, and not at least it
     ∷ noted (asking 2 6 (16 ∷ []) [] 0 0 0) 12 []
+    ∷ noted (asking 2 6 (16 ∷ []) [] (at 0 1) 0 0) 12 (entityIs 16 level (at 1 0) ∷ [])
     ∷ []
 
 unfoldable pub markCases : List Case

@@ -11,8 +11,8 @@ use Rattle.cases.specs.Case.S2.{s2, s2Sheet}
 use Rattle.model.specs.Tables.Edits.{_and_, onEntity, onUser, userWord, word}
 use Rattle.model.specs.Tables.Words.{Tables, current, level, maximum, place, shown, used}
 
--- State S2 with three entities of one level, at 1 1, of which two have room for any other: container 30, device 6, which nobody is on, and device 2, which
--- user 2 is on and whose screen is empty. User 1 is on device 1. The users have the current roles r and s.
+-- State S2 with three entities of one level, at 1 1, each of which may have any other: container 30, device 6, which nobody is on, and device 2, which user 2
+-- is on and whose screen is empty. User 1 is on device 1. Users 1 and 2 have the current roles r and s.
 unfoldable pub level11 : ℕ → ℕ → Tables
 level11 r s =
     onUser 1 (userWord current r) (onUser 2 (userWord current s) (onEntity 30 (word level (at 1 1)) (onEntity 6 (word level (at 1 1))
@@ -40,7 +40,7 @@ dropping =
     ∷ at 0 3
     -- sideways in compartments: one for another, on the same rank
     ∷ at 1 2
-    -- sideways in both: the rank is lost and one compartment given for another; the rank is won and so is it; the rank is won, and the compartment lost
+    -- sideways in both: a lower rank and another compartment; a higher rank and another compartment; a higher rank and no compartment
     ∷ at 0 2 ∷ at 2 2 ∷ at 3 0
     ∷ []
 
@@ -79,7 +79,9 @@ withoutRole =
 unfoldable pub withRole : List Case
 withRole =
     eachSet 2 6 30 dropping ++ (eachSet 2 6 30 rising
-    ++ (eachSet 2 18 2 dropping ++ (eachSet 1 18 2 dropping ++ (eachSet 1 18 2 rising ++ eachSet 2 18 6 dropping))))
+    ++ (eachSet 2 18 2 dropping ++ (eachSet 2 18 2 rising
+    ++ (eachSet 1 18 2 dropping ++ (eachSet 1 18 2 rising
+    ++ (eachSet 2 18 6 dropping ++ eachSet 2 18 6 rising))))))
 
 pub without-role-holds : allPass (level11 otherRoles houseRole) withoutRole ≡ true
 unfolding opened s2 s2Sheet level11 withoutRole eachRefused eachSet dropping rising

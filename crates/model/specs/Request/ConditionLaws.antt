@@ -85,7 +85,7 @@ module _ (d : Tables) (s : Asked) where
   unfolding moveNoRoom
   moveNoRoom-fails = fails-le placeCount (usedPlaces (leave (s .first) d) (s .second))
 
-  -- Rule 6.6: no refusal 12 where a downgrader alone lets a level drop.
+  -- Rule 6.6: no refusal 12 exactly where it is a downgrader who asks, if the level drops.
   pub levelDropped-fails : Fails (levelDropped d s) (Drops (s .a) (levelOf d (s .first)) → HasRole d (s .user) downgrader)
   unfolding levelDropped
   levelDropped-fails = fails-and (drops-agrees (s .a) (levelOf d (s .first))) (lacks-fails downgrader)
@@ -154,7 +154,7 @@ module _ (d : Tables) (s : Asked) where
   unfolding deviceAbove
   deviceAbove-fails = fails-not (agrees-T (atMost (levelOf d (s .first)) (s .a)))
 
-  -- Rule 6.18: no refusal 12 where a downgrader alone lets the level of a device drop that is not the requester's own.
+  -- Rule 6.18: no refusal 12 exactly where it is a downgrader who asks, if the level drops and the device is not the requester's own.
   pub deviceDropped-fails : Fails (deviceDropped d s) (Drops (s .a) (levelOf d (s .first)) → s .first ≢ own d s → HasRole d (s .user) downgrader)
   unfolding deviceDropped
   deviceDropped-fails = fails-and (drops-agrees (s .a) (levelOf d (s .first)))

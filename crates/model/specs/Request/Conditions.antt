@@ -1,5 +1,5 @@
--- Document 01, "The request and its operations"; rule 5.5, what an operand must be; rule 5.4, the ranges of arguments; and the operations' own
--- conditions, in the words of rule 6.
+-- Document 01, "The request and its operations"; document 02, M-101; rule 5.5, what an operand must be; rule 5.4, the ranges of arguments; and the
+-- operations' own conditions, in the words of rule 6.
 use mathlib.Core.Bool.{Bool, _&&_, _||_, not, true}
 use Prim.Native.Nat.{suc, ℕ}
 use lib.Dec.{eqb, leb, ltb}

@@ -1,4 +1,5 @@
--- A level that drops, over any steps, drops by one of them; and that one was an accepted level or device level on it, by who may let it drop.
+-- A level that is lost over any steps drops by one of them, and one only, which was accepted and asked for the level of this very entity, by who may let it
+-- drop.
 use mathlib.Core.Bool.{Bool, false, true}
 use mathlib.Core.List.{List}
 use mathlib.Core.Logic.{_⊎_, inl, inr}
@@ -14,24 +15,29 @@ use Rattle.model.specs.Effect.Places.{leave, vacant}
 use Rattle.model.specs.Effect.PlacesLaws.{vacant-absent}
 use Rattle.model.specs.Level.{AtMost, Drops, atMost, downgrader}
 use Rattle.model.specs.LevelLaws.{atMost-ordered, drops-differs, drops-further}
+use Rattle.model.specs.Request.After.{after, effect}
+use Rattle.model.specs.Request.AfterLaws.{after-each, effect-by}
 use Rattle.model.specs.Request.Allowed.{Accepted}
 use Rattle.model.specs.Request.Asked.{HasRole, asked}
 use Rattle.model.specs.Request.Conditions.{levelOf}
+use Rattle.model.specs.Request.Ladder.{answer}
+use Rattle.model.specs.Request.OperationLaws.{names-found}
 use Rattle.model.specs.Request.Operations.{Op, rowOf, toAcknowledge, toAuthorised, toClear, toClearance, toCopy, toCreate, toCurrent}
 use Rattle.model.specs.Request.Operations.{toDelete, toDeviceLevel, toEdit, toGrant, toLevel, toLogin, toLogout, toMark, toMaximum}
 use Rattle.model.specs.Request.Operations.{toMove, toRelease, toRevoke, toShow}
-use Rattle.model.specs.Request.Step.{afterOf, answerOf}
+use Rattle.model.specs.Request.Step.{afterOf, answerOf, sized}
 use Rattle.model.specs.Request.Words.{Request, requestOf}
 use Rattle.model.specs.State.WellFormed.{Thing}
 use Rattle.model.specs.Tables.Kinds.{Screen}
-use Rattle.model.specs.Tables.Layout.{tablesOf}
-use Rattle.model.specs.Tables.Words.{Tables, devices, firstNoticed, kinds, level}
-use Rattle.model.specs.Theorem.Accountable.{Accounted, AnswersFor, Throughout, levelAt}
-use Rattle.model.specs.Theorem.Definitions.{Both}
+use Rattle.model.specs.Tables.Layout.{Bounded, tablesOf}
+use Rattle.model.specs.Tables.LayoutLaws.{bounded}
+use Rattle.model.specs.Tables.Words.{Tables, devices, kinds}
+use Rattle.model.specs.Theorem.Acceptance.{accepted, accepted-good}
+use Rattle.model.specs.Theorem.Accountable.{Accountable, Accounted, MayDrop}
+use Rattle.model.specs.Theorem.Definitions.{Both, History}
 use Rattle.model.specs.Theorem.LawfulSame.{erased, unborn}
-use Rattle.model.specs.Theorem.Outcomes.{words-effect}
 use Rattle.model.specs.Theorem.Sequence.{Steps}
-use Rattle.model.specs.Theorem.Steps.{high-refusal-words, low-refusal-words}
+use Rattle.model.specs.Theorem.Steps.{after-bounded, afterOf-tables, answerOf-sized, unsized}
 use Rattle.model.specs.Request.Refusals as refusal
 
 -- ---- the first request after which a level is not at least what it was
@@ -70,22 +76,22 @@ module _ (d : Tables) (q : Request) (x : ℕ) where
   abbrev DropsBy : Op → Type 0
   DropsBy o = Both d (rowOf o .effect (asked d q) d) x × Drops (levelOf (rowOf o .effect (asked d q) d) x) (levelOf d x)
 
-  abbrev AnsweredBy : Op → Type 0
-  AnsweredBy o = Accepted o d q → DropsBy o → AnswersFor d q x
+  abbrev MayDropBy : Op → Type 0
+  MayDropBy o = Accepted o d q → DropsBy o → MayDrop d q x
 
   -- A level that is as it was has not dropped.
-  stays : (o : Op) → levelOf (rowOf o .effect (asked d q) d) x ≡ levelOf d x → DropsBy o → AnswersFor d q x
+  stays : (o : Op) → levelOf (rowOf o .effect (asked d q) d) x ≡ levelOf d x → DropsBy o → MayDrop d q x
   stays o e n = absurd (drops-differs (levelOf (rowOf o .effect (asked d q) d) x) (levelOf d x) (n .1) e)
 
   -- Level: of x alone, and by a downgrader.
-  level-answers : AnsweredBy toLevel
+  level-may : MayDropBy toLevel
   unfolding asked
-  level-answers a n = go (eqb x e) (same x e) (n .1)
+  level-may a n = go (eqb x e) (same x e) (n .1)
     where
       e : ℕ
       e = asked d q .first
 
-      go : (b : Bool) → Same x e b → Drops (pick b (q .a) (levelOf d x)) (levelOf d x) → AnswersFor d q x
+      go : (b : Bool) → Same x e b → Drops (pick b (q .a) (levelOf d x)) (levelOf d x) → MayDrop d q x
       go true (it r) m = inl (record {
         thing = subst (Thing d) (sym r) (a .allowed .thing);
         asks = a .meant;
@@ -95,9 +101,9 @@ module _ (d : Tables) (q : Request) (x : ℕ) where
       go false (other r) m = absurd (drops-differs (levelOf d x) (levelOf d x) m refl)
 
   -- Device level: of x alone, and by a downgrader, or whoever is on it.
-  device-level-answers : AnsweredBy toDeviceLevel
+  device-level-may : MayDropBy toDeviceLevel
   unfolding asked
-  device-level-answers a n = go (eqb x e) (same x e) (n .1)
+  device-level-may a n = go (eqb x e) (same x e) (n .1)
     where
       e : ℕ
       e = asked d q .first
@@ -106,7 +112,7 @@ module _ (d : Tables) (q : Request) (x : ℕ) where
       may r m true (it z) = inr (sym (r ∙ z))
       may r m false (other z) = inl (a .allowed .downgrade (subst (λ (y : ℕ). Drops (q .a) (levelOf d y)) r m) z)
 
-      go : (b : Bool) → Same x e b → Drops (pick b (q .a) (levelOf d x)) (levelOf d x) → AnswersFor d q x
+      go : (b : Bool) → Same x e b → Drops (pick b (q .a) (levelOf d x)) (levelOf d x) → MayDrop d q x
       go true (it r) m = inr (record {
         screen = subst (λ (y : ℕ). Screen (kinds d y)) (sym r) (a .allowed .screen);
         asks = a .meant;
@@ -116,68 +122,95 @@ module _ (d : Tables) (q : Request) (x : ℕ) where
       go false (other r) m = absurd (drops-differs (levelOf d x) (levelOf d x) m refl)
 
   -- Every operation: created x was not there before, deleted x is not there afterwards, and no other operation writes a level.
-  answers-for : (o : Op) → AnsweredBy o
-  answers-for toCreate a n =
+  may-drop : (o : Op) → MayDropBy o
+  may-drop toCreate a n =
       stays toCreate (unborn (vacant d) d x (levelOf d x) (asked d q .b) (vacant-absent d (a .allowed .number)) (n .0 .0)) n
-  answers-for toDelete a n = stays toDelete (erased (asked d q .first) (leave (asked d q .first) d) x (levelOf d x) (n .0 .1)) n
-  answers-for toMove a n = stays toMove refl n
-  answers-for toEdit a n = stays toEdit refl n
-  answers-for toCopy a n = stays toCopy refl n
-  answers-for toLevel a n = level-answers a n
-  answers-for toMark a n = stays toMark refl n
-  answers-for toGrant a n = stays toGrant refl n
-  answers-for toRevoke a n = stays toRevoke refl n
-  answers-for toShow a n = stays toShow refl n
-  answers-for toClear a n = stays toClear refl n
-  answers-for toLogin a n = stays toLogin refl n
-  answers-for toLogout a n = stays toLogout refl n
-  answers-for toCurrent a n = stays toCurrent refl n
-  answers-for toClearance a n = stays toClearance refl n
-  answers-for toAuthorised a n = stays toAuthorised refl n
-  answers-for toMaximum a n = stays toMaximum refl n
-  answers-for toDeviceLevel a n = device-level-answers a n
-  answers-for toRelease a n = stays toRelease refl n
-  answers-for toAcknowledge a n = stays toAcknowledge refl n
+  may-drop toDelete a n = stays toDelete (erased (asked d q .first) (leave (asked d q .first) d) x (levelOf d x) (n .0 .1)) n
+  may-drop toMove a n = stays toMove refl n
+  may-drop toEdit a n = stays toEdit refl n
+  may-drop toCopy a n = stays toCopy refl n
+  may-drop toLevel a n = level-may a n
+  may-drop toMark a n = stays toMark refl n
+  may-drop toGrant a n = stays toGrant refl n
+  may-drop toRevoke a n = stays toRevoke refl n
+  may-drop toShow a n = stays toShow refl n
+  may-drop toClear a n = stays toClear refl n
+  may-drop toLogin a n = stays toLogin refl n
+  may-drop toLogout a n = stays toLogout refl n
+  may-drop toCurrent a n = stays toCurrent refl n
+  may-drop toClearance a n = stays toClearance refl n
+  may-drop toAuthorised a n = stays toAuthorised refl n
+  may-drop toMaximum a n = stays toMaximum refl n
+  may-drop toDeviceLevel a n = device-level-may a n
+  may-drop toRelease a n = stays toRelease refl n
+  may-drop toAcknowledge a n = stays toAcknowledge refl n
 
--- ---- one step on words
+-- ---- one request
 
-module _ (t q : List ℕ) (x : ℕ) (n : Drops (levelOf (tablesOf (afterOf t q)) x) (levelOf (tablesOf t) x)) where
-  unmoved : levelOf (tablesOf (afterOf t q)) x ≡ levelOf (tablesOf t) x → answerOf t q ≡ refusal.accepted
-  unmoved e = absurd (drops-differs (levelOf (tablesOf (afterOf t q)) x) (levelOf (tablesOf t) x) n e)
+-- What a request lets drop, of what is there before and after, it was accepted for, and may.
+pub request-may : (d : Tables) → Bounded d → (q : Request) (x : ℕ) → Both d (after d q) x → Drops (levelOf (after d q) x) (levelOf d x)
+    → (answer d q ≡ refusal.accepted) × MayDrop d q x
+request-may d w q x = after-each d q Accounts settled (λ l h b n. unmoved n) (λ h b n. unmoved n)
+  where
+    Accounts : Tables → Type 0
+    Accounts d′ = Both d d′ x → Drops (levelOf d′ x) (levelOf d x) → (answer d q ≡ refusal.accepted) × MayDrop d q x
 
-  -- A refusal changes no level, so the step was accepted.
-  pub drop-accepted : answerOf t q ≡ refusal.accepted
-  drop-accepted = cases (lt-or-le (answerOf t q) refusal.badLength) (λ h. omega arith) (λ h. cases (lt-or-le (answerOf t q) firstNoticed)
-      (λ k. unmoved (ap (λ (r : List ℕ). levelOf (tablesOf r) x) (low-refusal-words t q h k)))
-      (λ k. unmoved (high-refusal-words t q k .entities x level)))
+    unmoved : Drops (levelOf d x) (levelOf d x) → (answer d q ≡ refusal.accepted) × MayDrop d q x
+    unmoved n = absurd (drops-differs (levelOf d x) (levelOf d x) n refl)
 
-  -- The step answers for the drop of what is there before and after.
-  pub drop-answers : Both (tablesOf t) (tablesOf (afterOf t q)) x → AnswersFor (tablesOf t) (requestOf q) x
-  drop-answers b =
-      let f = words-effect t q drop-accepted in
-      answers-for (tablesOf t) (requestOf q) x (f .0) (f .1)
-      (subst (λ (d : Tables). Both (tablesOf t) d x × Drops (levelOf d x) (levelOf (tablesOf t) x)) (f .2) (b, n))
+    settled : answer d q ≡ refusal.accepted → Accounts (effect d q)
+    settled e =
+        let a = accepted d q e (accepted-good d q e w .0) in
+        rw (effect-by d q (a .0) (names-found q (a .0) (a .1 .meant .named))) (λ b n. (e, may-drop d q x (a .0) (a .1) (b, n)))
 
--- ---- many steps
+-- So it is on words, however many they are.
+pub words-may : (t q : List ℕ) (x : ℕ) → Both (tablesOf t) (tablesOf (afterOf t q)) x → Drops (levelOf (tablesOf (afterOf t q)) x) (levelOf (tablesOf t) x)
+    → (answerOf t q ≡ refusal.accepted) × MayDrop (tablesOf t) (requestOf q) x
+words-may t q x b n = go (sized t q) refl
+  where
+    go : (c : Bool) → sized t q ≡ c → (answerOf t q ≡ refusal.accepted) × MayDrop (tablesOf t) (requestOf q) x
+    go true z =
+        let s = is-true (sized t q) z in
+        let e = afterOf-tables t q s in
+        let f = request-may (tablesOf t) (bounded t) (requestOf q) x (rw e at b) (rw e at n) in
+        (answerOf-sized t q s ∙ f .0, f .1)
+    go false z =
+        let e = ap (λ (r : List ℕ). levelOf (tablesOf r) x) (unsized t q (is-false (sized t q) z) .1) in
+        absurd (drops-differs (levelOf (tablesOf (afterOf t q)) x) (levelOf (tablesOf t) x) n e)
 
-module _ (tables requests : ℕ → List ℕ) (answers : ℕ → ℕ) (x : ℕ) where
-  pub steps-accounted : (m : ℕ) → Steps m tables requests answers → Throughout m tables x → Drops (levelAt tables x m) (levelAt tables x 0)
-      → Accounted m tables requests answers x
-  steps-accounted m s there n =
-      let f = first-lost (levelAt tables x) m n in
+-- ---- many requests
+
+-- Rule 9.15 holds of tables one after another if each request that lets a level drop was accepted, and may.
+module _ (m : ℕ) (tables : ℕ → Tables) (requests : ℕ → Request) (answers : ℕ → ℕ) where
+  each-accountable : ((i : ℕ) → i < m → (x : ℕ) → Both (tables i) (tables (suc i)) x → Drops (levelOf (tables (suc i)) x) (levelOf (tables i) x)
+      → (answers i ≡ refusal.accepted) × MayDrop (tables i) (requests i) x) → Accountable m tables requests answers
+  each-accountable each x there n =
+      let l : ℕ → ℕ = λ i. levelOf (tables i) x in
+      let f = first-lost l m n in
       let i = f .moment in
-      let drop = drops-further (levelAt tables x (suc i)) (levelAt tables x 0) (levelAt tables x i) (f .until i (omega arith)) (f .lost) in
-      let left = s .left i (f .among) in
-      let fell : Drops (levelOf (tablesOf (afterOf (tables i) (requests i))) x) (levelAt tables x i) = rw left at drop in
-      let both : Both (tablesOf (tables i)) (tablesOf (afterOf (tables i) (requests i))) x = (
-        there i (omega (arith, f .among)),
-        rw left at (there (suc i) (omega (arith, f .among))),
-      ) in record {
-        moment = i;
-        among = f .among;
-        until = f .until;
-        lost = f .lost;
-        drops = drop;
-        accepted = s .answered i (f .among) ∙ drop-accepted (tables i) (requests i) x fell;
-        by = drop-answers (tables i) (requests i) x fell both;
-      }
+      let drop = drops-further (l (suc i)) (l 0) (l i) (f .until i (omega arith)) (f .lost) in
+      let z = each i (f .among) x (there i (omega (arith, f .among)), there (suc i) (omega (arith, f .among))) drop in
+      record { moment = i; among = f .among; until = f .until; lost = f .lost; drops = drop; accepted = z .0; by = z .1 }
+
+-- Over any steps on words no level is lost but one of them accounts for it.
+pub steps-accountable : (m : ℕ) (tables requests : ℕ → List ℕ) (answers : ℕ → ℕ) → Steps m tables requests answers
+    → Accountable m (λ i. tablesOf (tables i)) (λ i. requestOf (requests i)) answers
+steps-accountable m tables requests answers s = each-accountable m (λ i. tablesOf (tables i)) (λ i. requestOf (requests i)) answers
+    (λ i h x b n. let e = s .left i h in let z = words-may (tables i) (requests i) x (rw e at b) (rw e at n) in (s .answered i h ∙ z .0, z .1))
+
+-- So it is in every history of the desk (Definition 4), from any tables of words on.
+pub history-accountable : (start : Tables) → Bounded start → (tables : ℕ → Tables) (requests : ℕ → Request) → History after start tables requests → (m : ℕ)
+    → Accountable m tables requests (λ i. answer (tables i) (requests i))
+history-accountable start w tables requests h m = each-accountable m tables requests (λ i. answer (tables i) (requests i))
+    (λ i l x b n. let e = h .goesOn i in request-may (tables i) (held i) (requests i) x (rw e at b) (rw e at n))
+  where
+    held : (i : ℕ) → Bounded (tables i)
+    held zero = rw (h .starts) w
+    held (suc i) = rw (h .goesOn i) (after-bounded (tables i) (held i) (requests i))
+
+-- One request only accounts for it.
+pub accounted-once : {m : ℕ} {tables : ℕ → Tables} {requests : ℕ → Request} {answers : ℕ → ℕ} {x : ℕ} (y z : Accounted m tables requests answers x)
+    → y .moment ≡ z .moment
+accounted-once y z =
+    cases (lt-or-le (y .moment) (z .moment)) (λ h. absurd (y .lost (z .until (suc (y .moment)) h)))
+    (λ h. cases (lt-or-le (z .moment) (y .moment)) (λ k. absurd (z .lost (y .until (suc (z .moment)) k))) (λ k. omega arith))

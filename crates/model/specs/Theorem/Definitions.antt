@@ -1,5 +1,5 @@
--- Document 01, "How the definitions are read"; rules 9.3 to 9.14: Definitions 3 to 14 of the model, as predicates of the tables before, a request
--- and the tables after. They say nothing of this desk's answer: anybody's desk can be judged by them.
+-- Document 01, "How the definitions are read"; document 02, M-101; rules 9.3 to 9.14: Definitions 3 to 14 of the model, as predicates of the tables
+-- before, a request and the tables after. They say nothing of this desk's answer: anybody's desk can be judged by them.
 use mathlib.Core.Bool.{Bool, _&&_}
 use mathlib.Core.Logic.{_≢_, _⊎_}
 use mathlib.Core.Path.{_≡_}
@@ -80,7 +80,7 @@ pub record SetSecure (d : Tables) (q : Request) (d′ : Tables) : Type 0 where
   pub authorised : (x : ℕ) → d′ .user x authorised ≢ d .user x authorised → HasRole d (q .user) officer
   pub current : (x : ℕ) → d′ .user x current ≢ d .user x current → (x ≡ q .user) ⊎ HasRole d (q .user) officer
 
--- Definition 10 (rule 9.10; document 02, M-101): a level that drops wants the downgrader, but on the requester's own device.
+-- Definition 10 (rule 9.10): a level that drops wants the downgrader, but on the requester's own device.
 abbrev pub DowngradeSecure : Tables → Request → Tables → Type 0
 DowngradeSecure d q d′ = (x : ℕ) → Both d d′ x → x ≢ devices d (q .user) → Drops (levelOf d′ x) (levelOf d x) → HasRole d (q .user) downgrader
 

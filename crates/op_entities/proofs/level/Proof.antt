@@ -7,7 +7,7 @@ use Rattle.op_entities.proofs.level.Tie as tie
 use Rattle.op_entities.proofs.level.Reads as reads
 use Rattle.op_entities.proofs.level.Lts as lts
 use Rattle.ladder.proofs.kinds.is_entity.Reads as is-entity-reads
-use Rattle.op_entities.proofs.lacks_downgrader.Reads as lacks-downgrader-reads
+use Rattle.op_entities.proofs.level_dropped.Reads as level-dropped-reads
 use Rattle.op_entities.proofs.trial.try_level.Reads as try-level-reads
 use Rattle.request.proofs.a.Reads as a-reads
 use Rattle.tables.proofs.level.Reads as level-reads
@@ -35,8 +35,8 @@ level-requires : tie.Need-level-requires
 level-requires c κs = search needs
 
 -- src/lib.rt:66:8
-lacks-downgrader-requires : tie.Need-lacks-downgrader-requires
-lacks-downgrader-requires c κs = search needs
+level-dropped-requires : tie.Need-level-dropped-requires
+level-dropped-requires c κs = search needs
 
 -- src/lib.rt:67:9
 same-length-2 : tie.Need-same-length-2
@@ -50,7 +50,7 @@ returns-2 c =
     let s6 = s5 .before in
     let s10 = s6 .before .before .before .before in
     level-12 _ _ _ _ (s10 .pre .0) (s10 .pre .1) _ (s6 .is-entity .ensures) (not-false _ (s5 .if1 .left)) _ (s4 .a .ensures) _
-    (c .before .lacks-downgrader .ensures ∙ rw (c .before .before .level .ensures)) (c .if2 .taken)
+    (c .before .level-dropped .ensures ∙ rw (c .before .before .level .ensures)) (c .if2 .taken)
 
 -- src/lib.rt:69:9
 try-level-requires : tie.Need-try-level-requires
@@ -72,7 +72,7 @@ returns-3 c =
     let s15 = s11 .before .before .before .before in
     rw (c .before .before .before .try-level .ensures .back (not-true _ (c .if3 .taken)))
     (level-13 _ _ _ _ (s15 .pre .0) (s15 .pre .1) _ (s11 .is-entity .ensures) (not-false _ (s10 .if1 .left)) _ (s9 .a .ensures) _
-    (s6 .lacks-downgrader .ensures ∙ rw (s7 .level .ensures)) (s5 .if2 .left) _ (c .before .before .before .try-level .ensures .secure)
+    (s6 .level-dropped .ensures ∙ rw (s7 .level .ensures)) (s5 .if2 .left) _ (c .before .before .before .try-level .ensures .secure)
     (not-true _ (c .if3 .taken)))
 
 -- src/lib.rt:58:1
@@ -90,7 +90,7 @@ returns-4 c =
     let s11 = s10 .before in
     let s15 = s11 .before .before .before .before in
     level-done _ _ _ _ (s15 .pre .0) (s15 .pre .1) _ (s11 .is-entity .ensures) (not-false _ (s10 .if1 .left)) _ (s9 .a .ensures) _
-    (s6 .lacks-downgrader .ensures ∙ rw (s7 .level .ensures)) (s5 .if2 .left) _ (c .before .before .before .try-level .ensures .secure)
+    (s6 .level-dropped .ensures ∙ rw (s7 .level .ensures)) (s5 .if2 .left) _ (c .before .before .before .try-level .ensures .secure)
     (not-false _ (c .if3 .left)) _ (c .before .before .before .try-level .ensures .kept (not-false _ (c .if3 .left)))
 
 pub level-spec : {M : Type 1} → statement M
@@ -102,7 +102,7 @@ level-spec =
     returns
     a-requires
     level-requires
-    lacks-downgrader-requires
+    level-dropped-requires
     same-length-2
     returns-2
     try-level-requires

@@ -9,7 +9,7 @@ use Rattle.op_devices.proofs.settings.device_level.Tie as tie
 use Rattle.op_devices.proofs.settings.device_level.Reads as reads
 use Rattle.op_devices.proofs.settings.device_level.Lts as lts
 use Rattle.ladder.proofs.kinds.is_device.Reads as is-device-reads
-use Rattle.op_devices.proofs.settings.lacks_downgrader.Reads as lacks-downgrader-reads
+use Rattle.op_devices.proofs.settings.device_dropped.Reads as device-dropped-reads
 use Rattle.op_devices.proofs.trial.try_device_level.Reads as try-device-level-reads
 use Rattle.request.proofs.a.Reads as a-reads
 use Rattle.tables.proofs.level.Reads as level-reads
@@ -37,8 +37,8 @@ level-requires : tie.Need-level-requires
 level-requires c κs = search needs
 
 -- src/settings.rt:57:8
-lacks-downgrader-requires : tie.Need-lacks-downgrader-requires
-lacks-downgrader-requires c κs = search needs
+device-dropped-requires : tie.Need-device-dropped-requires
+device-dropped-requires c κs = search needs
 
 -- src/settings.rt:58:9
 same-length-2 : tie.Need-same-length-2
@@ -52,7 +52,7 @@ returns-2 c =
     let s6 = s5 .before in
     let s10 = s6 .before .before .before .before in
     device-level-12 _ _ _ _ (s10 .pre .0) (s10 .pre .1) _ (s6 .is-device .ensures) (not-false _ (s5 .if1 .left)) _ (s4 .a .ensures) _
-    (c .before .lacks-downgrader .ensures ∙ rw (c .before .before .level .ensures)) (c .if2 .taken)
+    (c .before .device-dropped .ensures ∙ rw (c .before .before .level .ensures)) (c .if2 .taken)
 
 -- src/settings.rt:60:9
 try-device-level-requires : tie.Need-try-device-level-requires
@@ -82,7 +82,7 @@ returns-3 c =
     let s15 = s11 .before .before .before .before in
     rw (c .before .before .before .try-device-level .ensures .back (not-true _ (c .if3 .taken)))
     (device-level-13 _ _ _ _ (s15 .pre .0) (s15 .pre .1) _ (s11 .is-device .ensures) (not-false _ (s10 .if1 .left)) _ (s9 .a .ensures) _
-    (s6 .lacks-downgrader .ensures ∙ rw (s7 .level .ensures)) (s5 .if2 .left) _ (c .before .before .before .try-device-level .ensures .secure)
+    (s6 .device-dropped .ensures ∙ rw (s7 .level .ensures)) (s5 .if2 .left) _ (c .before .before .before .try-device-level .ensures .secure)
     (not-true _ (c .if3 .taken)))
 
 -- src/settings.rt:49:1
@@ -100,7 +100,7 @@ returns-4 c =
     let s11 = s10 .before in
     let s15 = s11 .before .before .before .before in
     device-level-done _ _ _ _ (s15 .pre .0) (s15 .pre .1) _ (s11 .is-device .ensures) (not-false _ (s10 .if1 .left)) _ (s9 .a .ensures) _
-    (s6 .lacks-downgrader .ensures ∙ rw (s7 .level .ensures)) (s5 .if2 .left) _ (c .before .before .before .try-device-level .ensures .secure)
+    (s6 .device-dropped .ensures ∙ rw (s7 .level .ensures)) (s5 .if2 .left) _ (c .before .before .before .try-device-level .ensures .secure)
     (not-false _ (c .if3 .left)) _ (c .before .before .before .try-device-level .ensures .kept (not-false _ (c .if3 .left)))
 
 pub device-level-spec : {M : Type 1} → statement M
@@ -112,7 +112,7 @@ device-level-spec =
     returns
     a-requires
     level-requires
-    lacks-downgrader-requires
+    device-dropped-requires
     same-length-2
     returns-2
     try-device-level-requires

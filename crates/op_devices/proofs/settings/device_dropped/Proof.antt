@@ -1,9 +1,9 @@
 use Rattle.model.specs.Level.{drops}
 use borrow.Author.Needs.{needs}
-use Rattle.op_devices.proofs.settings.lacks_downgrader.Statement.{statement}
-use Rattle.op_devices.proofs.settings.lacks_downgrader.Tie as tie
-use Rattle.op_devices.proofs.settings.lacks_downgrader.Reads as reads
-use Rattle.op_devices.proofs.settings.lacks_downgrader.Lts as lts
+use Rattle.op_devices.proofs.settings.device_dropped.Statement.{statement}
+use Rattle.op_devices.proofs.settings.device_dropped.Tie as tie
+use Rattle.op_devices.proofs.settings.device_dropped.Reads as reads
+use Rattle.op_devices.proofs.settings.device_dropped.Lts as lts
 use Rattle.levels.proofs.at_most.Reads as at-most-reads
 use Rattle.tables.proofs.device.Reads as device-reads
 use Rattle.tables.proofs.has_role.Reads as has-role-reads
@@ -25,6 +25,6 @@ returns : tie.Need-returns
 unfolding drops
 returns c = rw (c .before .before .before .before .at-most .ensures, c .before .before .before .device .ensures, c .has-role .ensures)
 
-pub lacks-downgrader-spec : {M : Type 1} → statement M
-lacks-downgrader-spec =
+pub device-dropped-spec : {M : Type 1} → statement M
+device-dropped-spec =
     tie.close (tie.spec at-most-requires device-requires has-role-requires returns)

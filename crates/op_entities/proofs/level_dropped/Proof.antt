@@ -1,9 +1,9 @@
 use Rattle.model.specs.Level.{drops}
 use borrow.Author.Needs.{needs}
-use Rattle.op_entities.proofs.lacks_downgrader.Statement.{statement}
-use Rattle.op_entities.proofs.lacks_downgrader.Tie as tie
-use Rattle.op_entities.proofs.lacks_downgrader.Reads as reads
-use Rattle.op_entities.proofs.lacks_downgrader.Lts as lts
+use Rattle.op_entities.proofs.level_dropped.Statement.{statement}
+use Rattle.op_entities.proofs.level_dropped.Tie as tie
+use Rattle.op_entities.proofs.level_dropped.Reads as reads
+use Rattle.op_entities.proofs.level_dropped.Lts as lts
 use Rattle.levels.proofs.at_most.Reads as at-most-reads
 use Rattle.tables.proofs.has_role.Reads as has-role-reads
 
@@ -20,5 +20,5 @@ returns : tie.Need-returns
 unfolding drops
 returns c = rw (c .before .at-most .ensures, c .has-role .ensures)
 
-pub lacks-downgrader-spec : {M : Type 1} → statement M
-lacks-downgrader-spec = tie.close (tie.spec at-most-requires has-role-requires returns)
+pub level-dropped-spec : {M : Type 1} → statement M
+level-dropped-spec = tie.close (tie.spec at-most-requires has-role-requires returns)
