@@ -22,6 +22,7 @@ pub mod S2Cases6to13
 pub mod S2Cases14to20
 pub mod S2Holds
 pub mod S2Roles
+pub mod Sideways
 pub mod S3
 pub mod S3Holds
 pub mod S4

@@ -3,7 +3,7 @@ use names::weight;
 ghost use mathlib.Core.Path.{_≡_};
 ghost use Prim.Native.Nat.{_<_};
 ghost use Rattle.model.specs.Basics.Tests.{imp};
-ghost use Rattle.model.specs.Level.{atMost, bit, compartmentCount, lower, roleCount, subset};
+ghost use Rattle.model.specs.Level.{atMost, bit, compartmentCount, roleCount, subset};
 
 // A level: a rank and a set of compartments in one number.
 pub struct Level(pub u32);
@@ -57,11 +57,4 @@ pub fn at_most(a: Level, b: Level) -> bool
     let x = a.0;
     let y = b.0;
     (x / weight::RANK <= y / weight::RANK) & compartments_within(x, y)
-}
-
-// Whether a is strictly lower than b: at most, and another level.
-pub fn lower(a: Level, b: Level) -> bool
-    ensures { λ r. ⌜ r ≡ lower (a .0) (b .0) ⌝ }
-{
-    at_most(a, b) & !(a.0 == b.0)
 }

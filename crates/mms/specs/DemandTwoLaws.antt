@@ -6,8 +6,8 @@ use Rattle.mms.specs.CallLaws.{check-no, check-sound, sound-check, step-
 use Rattle.mms.specs.Calls.{noIn}
 use Rattle.mms.specs.CheckLaws.{check-lowest}
 use Rattle.mms.specs.Demands.{DemandTwo}
-use Rattle.mms.specs.HistoryLaws.{calls-fixed, calls-history, calls-obey, calls-released, calls-sound, step-effect, step-released}
-use Rattle.mms.specs.HistoryLaws.{step-transform}
+use Rattle.mms.specs.HistoryLaws.{calls-accountable, calls-fixed, calls-history, calls-obey, calls-paper, calls-released, calls-sound}
+use Rattle.mms.specs.HistoryLaws.{step-effect, step-released, step-transform}
 use Rattle.mms.specs.MixedLaws.{mixed-history, mixed-once, mixed-through, through-run, through-singly}
 use Rattle.mms.specs.RunCallLaws.{run-accepts, run-nothing, run-refuses, run-spare, run-through, run-unsound}
 use Rattle.mms.specs.ScriptOutputLaws.{script-calls}
@@ -38,6 +38,8 @@ demandTwo = record {
   stepTransform = step-transform;
   callsSound = calls-sound;
   callsObey = calls-obey;
+  callsPaper = calls-paper;
+  callsAccountable = calls-accountable;
   callsHistory = calls-history;
   runRefused = λ x. run-refuses x;
   runAccepted = λ x. run-accepts x;

@@ -1,6 +1,6 @@
--- Document 01, "What a reader can rely on"; document 02, M-100: the client's three demands, each as one statement about the calls that are linked, with
--- a part for each sentence. They are said of any slices, any lengths and any words. Who believes this page, the definitions that it cites and the
--- toolchain need read no law and no code: demandOne, demandTwo and demandThree, in the law files beside this one, prove them.
+-- Document 01, "What a reader can rely on"; document 02, M-100 and M-101: the client's three demands, each as one statement about the calls that are
+-- linked, with a part for each sentence. They are said of any slices, any lengths and any words. Who believes this page, the definitions that it cites
+-- and the toolchain need read no law and no code: demandOne, demandTwo and demandThree, in the law files beside this one, prove them.
 use mathlib.Core.List.{List, List·Memᴰ, [], _++_, _∷_}
 use mathlib.Core.Logic.{_↔_, _≢_, _⊎_}
 use mathlib.Core.Path.{_≡_}
@@ -9,6 +9,7 @@ use lib.ListN.{drop, getD, length, take}
 use Rattle.mms.specs.Calls.{CheckCall, ListCall, MixedCalls, NoRequest, OnlyNotice, Passes, ReadCall, RunCall, ScriptCalls, SingleSteps, Sound}
 use Rattle.mms.specs.Calls.{StepCall, StepCalls, Unsound, WriteCall, noIn, numberIn, requester}
 use Rattle.model.specs.Basics.Together.{together}
+use Rattle.model.specs.Level.{Drops}
 use Rattle.model.specs.List.Admitted.{Admitted}
 use Rattle.model.specs.List.Listing.{entries, entryWords, showing}
 use Rattle.model.specs.List.Order.{Sorted}
@@ -30,8 +31,9 @@ use Rattle.model.specs.Text.Given.{Small}
 use Rattle.model.specs.Text.Textual.{Textual, Written}
 use Rattle.model.specs.Text.Unfinished.{lineTotal}
 use Rattle.model.specs.Text.Wording.{Wording, sixteen, textOf}
+use Rattle.model.specs.Theorem.Accountable.{Accounted, Throughout, levelAt}
 use Rattle.model.specs.Theorem.Beyond.{OnlyReleased, ReleasedStays, SameDevices, SameUsers}
-use Rattle.model.specs.Theorem.Definitions.{History, HistorySecure, Obeys, SystemSecure}
+use Rattle.model.specs.Theorem.Definitions.{History, HistorySecure, Obeys, PaperDowngradeSecure, SystemSecure}
 use Rattle.model.specs.Theorem.Done.{Outcome}
 use Rattle.model.specs.Theorem.Sequence.{Noticed}
 use Rattle.model.specs.Theorem.Statements.{SameNotice}
@@ -128,12 +130,19 @@ pub record BeginsHistory (m : ℕ) (tables requests : ℕ → List ℕ) : Type 0
   pub sameTables : (i : ℕ) → i ≤ m → allTables i ≡ tables i
   pub sameRequests : (i : ℕ) → i < m → length (requests i) ≡ requestWords → allRequests i ≡ requests i
 
+-- Rule 9.15: if after m requests the level of an entity that was there throughout is not at least what it was, one of the requests answers for it.
+abbrev pub Accountable : ℕ → (ℕ → List ℕ) → (ℕ → List ℕ) → (ℕ → ℕ) → Type 0
+Accountable m tables requests answers =
+    (x : ℕ) → Throughout m tables x → Drops (levelAt tables x m) (levelAt tables x 0) → Accounted m tables requests answers x
+
 -- Rule 15.5: what a mixture of steps and runs is that has put the requests qs to the tables t, was answered ns, and has left u.
 pub record MixedHistory (t : List ℕ) (qs : List (List ℕ)) (ns u : List ℕ) : Type 0 where
   -- single steps have the same answers and leave the same words,
   pub singly : SingleSteps t qs ns u
   -- and whatever the tables were, each pair of them obeys Definitions 5 to 11;
   pub obeys : (i : ℕ) → i < length qs → Obeys (tablesOf (singly .tables i)) (requestOf (getD qs i [])) (tablesOf (singly .tables (suc i)))
+  -- and a request answers for each level that has dropped;
+  pub accountable : Accountable (length qs) (singly .tables) (λ i. getD qs i []) (λ i. getD ns i 0)
   -- from tables that the check passes the tables after each request pass too, and are well-formed and secure,
   pub sound : Passes t → (i : ℕ) → i ≤ length qs → Passes (singly .tables i) × Sound (singly .tables i)
   -- and requests and tables are the beginning of a secure history;
@@ -172,6 +181,8 @@ pub record ScriptOutput (t s o : List ℕ) : Type 0 where
   -- whatever the tables were, each pair of them obeys Definitions 5 to 11
   pub obeys : (i : ℕ) → i < length before
       → Obeys (tablesOf (calls .tables i)) (requestOf (getD (requests (calls .wordings)) i [])) (tablesOf (calls .tables (suc i)))
+  -- and a request answers for each level that has dropped
+  pub accountable : Accountable (length before) (calls .tables) (λ i. getD (requests (calls .wordings)) i []) (λ i. getD (answersIn before) i 0)
 
 -- Rule 11.3: the writer, with the answer b and what stands in the room afterwards, has written the text s, or had too little room for it.
 pub record TextWritten (s room : List ℕ) (b : ℕ) (r : List ℕ) : Type 0 where
@@ -205,6 +216,13 @@ pub record DemandTwo : Type 0 where
   -- and whatever the tables were, each pair of them obeys Definitions 5 to 11.
   pub callsObey : (m : ℕ) (tables requests : ℕ → List ℕ) (answers : ℕ → ℕ) → StepCalls m tables requests answers
       → (i : ℕ) → i < m → Obeys (tablesOf (tables i)) (requestOf (requests i)) (tablesOf (tables (suc i)))
+  -- Each obeys Definition 10 as the paper has it, too, which asks less.
+  pub callsPaper : (m : ℕ) (tables requests : ℕ → List ℕ) (answers : ℕ → ℕ) → StepCalls m tables requests answers
+      → (i : ℕ) → i < m → PaperDowngradeSecure (tablesOf (tables i)) (requestOf (requests i)) (tablesOf (tables (suc i)))
+  -- No level is lost unanswered for: if after any calls that of an entity which was there throughout is not at least what it was, one of the requests was
+  -- an accepted level of it, by a requester who was a downgrader then, or, for a device, an accepted device level, by a downgrader or whoever was on it.
+  pub callsAccountable : (m : ℕ) (tables requests : ℕ → List ℕ) (answers : ℕ → ℕ) → StepCalls m tables requests answers
+      → Accountable m tables requests (λ i. noIn (answers i))
   -- Calls that never end, with requests of sixteen words, are a secure history (Definitions 4, 13 and 14).
   pub callsHistory : (tables requests : ℕ → List ℕ) (answers : ℕ → ℕ) → ((m : ℕ) → StepCalls m tables requests answers) → Passes (tables 0)
       → ((i : ℕ) → length (requests i) ≡ requestWords) → SecureHistory tables requests

@@ -7,7 +7,7 @@ use native.Mathlib.Omega.{arith}
 use lib.ListN.{length}
 use Rattle.mms.specs.CallLaws.{answered-size, check-passes, check-sound, passes-check, step-left, step-no, step-sequence}
 use Rattle.mms.specs.Calls.{Passes, Sound, StepCall, StepCalls, noIn}
-use Rattle.mms.specs.Demands.{Effected, SecureHistory}
+use Rattle.mms.specs.Demands.{Accountable, Effected, SecureHistory}
 use Rattle.model.specs.Request.After.{after}
 use Rattle.model.specs.Request.OperationLaws.{found-names}
 use Rattle.model.specs.Request.Step.{afterOf, answerOf}
@@ -15,10 +15,12 @@ use Rattle.model.specs.Request.Words.{requestOf, requestWords}
 use Rattle.model.specs.State.Check.{check}
 use Rattle.model.specs.Tables.Layout.{tablesOf, wordCount}
 use Rattle.model.specs.Tables.Words.{Tables}
+use Rattle.model.specs.Theorem.AccountableLaws.{steps-accounted}
 use Rattle.model.specs.Theorem.Beyond.{OnlyReleased, ReleasedStays, SameDevices, SameUsers}
 use Rattle.model.specs.Theorem.BeyondLaws.{released-joined, released-now, words-devices-stay, words-only-released, words-released-stay}
 use Rattle.model.specs.Theorem.BeyondLaws.{words-users-stay}
-use Rattle.model.specs.Theorem.Definitions.{Obeys}
+use Rattle.model.specs.Theorem.DefinitionLaws.{downgrade-stricter}
+use Rattle.model.specs.Theorem.Definitions.{Obeys, PaperDowngradeSecure}
 use Rattle.model.specs.Theorem.Outcomes.{words-outcome}
 use Rattle.model.specs.Theorem.Sequence.{Steps}
 use Rattle.model.specs.Theorem.SequenceSecure.{checked-system, sequence-good, sequence-history, sequence-obeys, sequence-secure}
@@ -75,6 +77,12 @@ module _ (m : ℕ) (tables requests : ℕ → List ℕ) (answers : ℕ → ℕ) 
 
   pub calls-obey : (i : ℕ) → i < m → Obeys (tablesOf (tables i)) (requestOf (requests i)) (tablesOf (tables (suc i)))
   calls-obey = sequence-obeys tables requests (λ i. noIn (answers i)) m steps
+
+  pub calls-paper : (i : ℕ) → i < m → PaperDowngradeSecure (tablesOf (tables i)) (requestOf (requests i)) (tablesOf (tables (suc i)))
+  calls-paper i h = downgrade-stricter (tablesOf (tables i)) (requestOf (requests i)) (tablesOf (tables (suc i))) (calls-obey i h .downgrade)
+
+  pub calls-accountable : Accountable m tables requests (λ i. noIn (answers i))
+  calls-accountable x = steps-accounted tables requests (λ i. noIn (answers i)) x m steps
 
   pub calls-released : Passes (tables 0) → ReleasedStays (tablesOf (tables 0)) (tablesOf (tables m))
   calls-released p = over-steps ReleasedStays (λ t e. released-now (tablesOf t) (check-sound t e .wellFormed)) released-joined words-released-stay

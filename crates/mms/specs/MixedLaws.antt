@@ -10,7 +10,7 @@ use lib.Seq.{take-suc}
 use Rattle.mms.specs.CallLaws.{step-call, step-left, step-no}
 use Rattle.mms.specs.Calls.{MixedCalls, Passes, RunCall, SingleSteps, StepCall, alone, noCall, noIn, runBarred, runDone, stepped}
 use Rattle.mms.specs.Contract.{numbers}
-use Rattle.mms.specs.Demands.{BeginsHistory, MixedHistory, RanAs}
+use Rattle.mms.specs.Demands.{Accountable, BeginsHistory, MixedHistory, RanAs}
 use Rattle.mms.specs.HistoryLaws.{calls-fixed, calls-history, calls-obey, calls-released, calls-sound}
 use Rattle.mms.specs.RunCallLaws.{run-accepts, run-spare, run-through, run-unchanged}
 use Rattle.model.specs.Basics.Agree.{agrees-eq, agrees-le, agrees-not}
@@ -25,6 +25,7 @@ use Rattle.model.specs.Run.Run.{Sizes}
 use Rattle.model.specs.Run.Through.{Through, end, next}
 use Rattle.model.specs.Run.ThroughLaws.{through-append, through-length, through-numbered, through-unique}
 use Rattle.model.specs.Tables.Layout.{tablesOf, wordCount}
+use Rattle.model.specs.Theorem.AccountableLaws.{steps-accounted}
 use Rattle.model.specs.Theorem.Beyond.{ReleasedStays, SameDevices, SameUsers}
 use Rattle.model.specs.Theorem.Sequence.{Steps}
 use Rattle.model.specs.Theorem.Steps.{nobody-words, sized-agrees, unsized}
@@ -65,6 +66,10 @@ module _ {t u : List ℕ} {qs : List (List ℕ)} {ns : List ℕ} (k : SingleStep
     answered = λ j l. let z = step-no (k .calls .each j (omega arith)) in omega arith;
     left = λ j l. step-left (k .calls .each j (omega arith));
   }
+
+  -- so each level that has dropped is answered for,
+  pub singly-accountable : (i : ℕ) → i ≤ length qs → Accountable i (k .tables) (λ j. getD qs j []) (λ j. getD ns j 0)
+  singly-accountable i h x = steps-accounted (k .tables) (λ j. getD qs j []) (λ j. getD ns j 0) x i (singly-steps i h)
 
   -- and so many of the requests go through, up to where the tables stand then.
   pub singly-through : (i : ℕ) → i ≤ length qs → Through t (take i qs) (take i ns) (k .tables i)
@@ -160,6 +165,7 @@ mixed-history {t} {u} {qs} {ns} m =
     let begun : Passes t → Passes (k .tables 0) = λ p. subst Passes (sym (k .starts)) p in record {
       singly = k;
       obeys = calls-obey (length qs) (k .tables) q n (k .calls);
+      accountable = singly-accountable k (length qs) (omega arith);
       sound = λ p. calls-sound (length qs) (k .tables) q n (k .calls) (begun p);
       history = λ p. begins-history p (length qs) (k .tables) q (k .starts) (singly-steps k (length qs) (omega arith) .left);
       released = λ p. subst (λ (l : List ℕ). ReleasedStays (tablesOf t) (tablesOf l)) (k .ends)

@@ -8,9 +8,9 @@ use lib.ListN.{getD, length, take}
 use lib.Seq.{length-take-le}
 use Rattle.mms.specs.CallLaws.{step-left, step-number}
 use Rattle.mms.specs.Calls.{NoRequest, Passes, RunCall, ScriptCalls, SingleSteps, StepCall, alone}
-use Rattle.mms.specs.Demands.{BeginsHistory, RanAs, ScriptOutput}
+use Rattle.mms.specs.Demands.{Accountable, BeginsHistory, RanAs, ScriptOutput}
 use Rattle.mms.specs.HistoryLaws.{calls-obey, calls-sound}
-use Rattle.mms.specs.MixedLaws.{begins-history, singly-through, through-run}
+use Rattle.mms.specs.MixedLaws.{begins-history, singly-accountable, singly-through, through-run}
 use Rattle.mms.specs.ScriptLaws.{requests-length, runs-calls}
 use Rattle.model.specs.Basics.Together.{together}
 use Rattle.model.specs.Run.Requests.{AllSixteen}
@@ -62,6 +62,10 @@ module _ {t s t′ s′ : List ℕ} {rs : List Report} (k : ScriptCalls t s rs t
   script-history p =
       begins-history p (length rs) (k .tables) (λ i. getD (requests (k .wordings)) i []) (k .starts) (λ i h. step-left (k .calls .each i h))
 
+  script-accountable : Accountable (length rs) (k .tables) (λ i. getD (requests (k .wordings)) i []) (λ i. getD (answersIn rs) i 0)
+  unfolding script-singly
+  script-accountable = let n = as-many in singly-accountable script-singly (length rs) (omega arith)
+
   script-run : {room r v : List ℕ} {a : ℕ} → length t ≡ wordCount → (i : ℕ) → i ≤ length rs → i ≤ length room
       → RunCall t (together (take i (requests (k .wordings)))) room a r v → RanAs room (take i (answersIn rs)) (k .tables i) a r v
   unfolding script-singly
@@ -95,6 +99,7 @@ module _ {t s o : List ℕ} where
             calls-sound (length bs) (k .tables) (λ i. getD (requests (k .wordings)) i []) (k .answers) (k .calls) (subst Passes (sym (k .starts)) p) i h .1;
         history = script-history k;
         run = script-run k;
+        accountable = script-accountable k;
         obeys = calls-obey (length bs) (k .tables) (λ i. getD (requests (k .wordings)) i []) (k .answers) (k .calls);
       }
 

@@ -46,12 +46,21 @@ atMost a b = atMostOver compartmentCount a b
 abbrev pub AtMost : ℕ → ℕ → Type 0
 AtMost a b = T (atMost a b)
 
--- Rule 1.2: strictly lower is at most, and another level. The propositional reading is `Lower`.
-unfoldable pub lower : ℕ → ℕ → Bool
-lower a b = atMost a b && not (eqb a b)
+-- Rule 1.2: the new level a drops from the old level b where it is not at least b: rank or a compartment is lost, whatever else is won. The
+-- propositional reading is `Drops`.
+unfoldable pub drops : ℕ → ℕ → Bool
+drops a b = not (atMost b a)
 
+abbrev pub Drops : ℕ → ℕ → Type 0
+Drops a b = AtMost b a → ⊥
+
+-- Rule 1.2: a drop has two ways. Strictly lower is at most, and another level;
 abbrev pub Lower : ℕ → ℕ → Type 0
 Lower a b = AtMost a b × (a ≢ b)
+
+-- sideways is neither at most nor at least.
+abbrev pub Sideways : ℕ → ℕ → Type 0
+Sideways a b = (AtMost a b → ⊥) × (AtMost b a → ⊥)
 
 -- Rule 1.3: roles are a set of eight bits; the first three have a meaning of their own.
 abbrev pub roleCount : ℕ

@@ -1,17 +1,19 @@
 -- The order of levels: a partial order over every width of the compartments, with a lowest and a highest level.
-use mathlib.Core.Logic.{_≢_}
-use mathlib.Core.Path.{_≡_, subst, sym}
+use mathlib.Core.Bool.{Bool, false, true}
+use mathlib.Core.Logic.{_↔_, _≢_, _⊎_, inl, inr}
+use mathlib.Core.Path.{_≡_, refl, subst, sym}
 use Prim.Native.Nat.{_%_, _*_, _+_, _-_, _/_, _<_, _^_, _≤_, ℕ}
 use native.Mathlib.Nat.{div-lt-iff-lt-mul, mul-le-mul-right, zero-div}
 use native.Mathlib.Omega.{arith}
 use lib.Arith.{mul-pred}
-use lib.Dec.{T}
+use lib.Dec.{T, T-not}
 use lib.Pow.{high, ones-lt, pow-pos, split}
-use Rattle.model.specs.Basics.Agree.{Agrees, agrees-T, agrees-and, agrees-eq, agrees-le, agrees-not}
+use Rattle.model.specs.Basics.Agree.{Agrees, agrees-T, agrees-and, agrees-le, agrees-not}
+use Rattle.model.specs.Basics.TestLaws.{is-false, is-true}
 use Rattle.model.specs.Basics.Tests.{every, imp}
 use Rattle.model.specs.BitLaws.{bit-above, bit-ones, bit-zero, subset-agrees, subset-low, subset→≤}
-use Rattle.model.specs.Level.{AtMost, AtMostOver, Bit, Lower, Subset, atMost, atMostOver, bit, compartmentCount, levelCount, lower}
-use Rattle.model.specs.Level.{rank, rankCount, subset}
+use Rattle.model.specs.Level.{AtMost, AtMostOver, Bit, Drops, Lower, Sideways, Subset, atMost, atMostOver, bit, compartmentCount, drops}
+use Rattle.model.specs.Level.{levelCount, rank, rankCount, subset}
 
 -- a relation that is reflexive, transitive and antisymmetric
 pub record PartialOrder (A : Type 0) (R : A → A → Type 0) : Type 0 where
@@ -99,11 +101,27 @@ pub incomparable : (AtMost (2 ^ compartmentCount) 1 → ⊥) × (AtMost 1 (2 ^ c
 unfolding atMost atMostOver rank subset every imp bit
 incomparable = (λ t. t, λ t. t)
 
--- the test of `Lower` and its reading
-pub lower-agrees : (a b : ℕ) → Agrees (lower a b) (Lower a b)
-unfolding lower
-lower-agrees a b = agrees-and (agrees-T (atMost a b)) (agrees-not (agrees-eq a b))
+-- the test of `Drops` and its reading
+pub drops-agrees : (a b : ℕ) → Agrees (drops a b) (Drops a b)
+unfolding drops
+drops-agrees a b = agrees-not (agrees-T (atMost b a))
 
--- a lower level is another one
-pub lower-differs : (a b : ℕ) → Lower a b → a ≢ b
-lower-differs a b l = l .1
+-- an equal level is no drop
+pub drops-differs : (a b : ℕ) → Drops a b → a ≢ b
+drops-differs a b n e = n (subst (AtMost b) (sym e) (atMost-ordered .reflexive b))
+
+-- a strictly lower level is a drop
+pub lower-drops : (a b : ℕ) → Lower a b → Drops a b
+lower-drops a b l t = l .1 (atMost-ordered .antisymmetric a b (l .0) t)
+
+-- a drop is strictly lower or sideways, and each of the two is a drop
+pub drops-ways : (a b : ℕ) → Drops a b ↔ (Lower a b ⊎ Sideways a b)
+drops-ways a b = (λ n. go n (atMost a b) refl, λ z. elim z [ inl l ↦ lower-drops a b l | inr s ↦ s .1 ])
+  where
+    go : Drops a b → (x : Bool) → atMost a b ≡ x → Lower a b ⊎ Sideways a b
+    go n true e = inl (is-true (atMost a b) e, drops-differs a b n)
+    go n false e = inr (T-not (atMost a b) (is-false (atMost a b) e), n)
+
+-- a level that drops from one drops from every level that is at least that one
+pub drops-further : (a b c : ℕ) → AtMost b c → Drops a b → Drops a c
+drops-further a b c l n t = n (atMost-ordered .transitive b c a l t)

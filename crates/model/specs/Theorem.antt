@@ -9,6 +9,7 @@ pub mod DoneLaws
 pub mod Statements
 pub mod Sequence
 pub mod Beyond
+pub mod Accountable
 pub mod NoRefusal
 pub mod Acceptance
 pub mod Unrefused
@@ -39,4 +40,5 @@ pub mod UniqueOutcome
 pub mod Outcomes
 pub mod Unique
 pub mod BeyondLaws
+pub mod AccountableLaws
 pub mod Stated

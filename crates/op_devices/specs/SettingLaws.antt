@@ -12,8 +12,8 @@ use Rattle.model.specs.Request.Ladder.{refused}
 use Rattle.model.specs.Request.Words.{requestOf}
 use Rattle.model.specs.Tables.Layout.{tablesOf}
 use Rattle.model.specs.Effect.Words.{setLevel, setMaximum}
-use Rattle.model.specs.Level.{atMost, downgrader, lower, officer}
-use Rattle.model.specs.Request.Conditions.{deviceAbove, deviceLowered, isDevice, lacks}
+use Rattle.model.specs.Level.{atMost, downgrader, drops, officer}
+use Rattle.model.specs.Request.Conditions.{deviceAbove, deviceDropped, isDevice, lacks}
 use Rattle.model.specs.Request.Operations.{toDeviceLevel, toMaximum}
 use Rattle.model.specs.State.Check.{secureTest}
 use Rattle.model.specs.Tables.Words.{device, level}
@@ -63,25 +63,24 @@ module _ (t q : List ℕ) (u e : ℕ) (k : Taking toDeviceLevel t q u) (g : Firs
   pub device-level-10 : b ≡ false → Judged t q refusal.wrongKind t
   device-level-10 z = kind-wrong k e g isDevice refl b h z
 
-  module _ (z : b ≡ true) (a : ℕ) (i : a ≡ requestOf q .a) (v : ℕ) (d : v ≡ tablesOf t .user u device) (x y : Bool)
-      (l : x ≡ lower a (tablesOf t .entity e level))
-      (r : y ≡ hasRole (tablesOf t) u downgrader) where
+  module _ (z : b ≡ true) (a : ℕ) (i : a ≡ requestOf q .a) (x : Bool)
+      (l : x ≡ (drops a (tablesOf t .entity e level) && (not (eqb e (tablesOf t .user u device)) && not (hasRole (tablesOf t) u downgrader)))) where
     device-level-11 : Passed refusal.noSuchUser (tablesOf t) (requestOf q)
     unfolding every free
     device-level-11 = skip k 1 refusal.wrongKind (lit≤ tt) (lit≤ tt) (kind-right k e g isDevice refl b h z) tt
 
-    lowered-is : deviceLowered (tablesOf t) (askedOf t q) ≡ (x && (not (eqb e v) && not y))
-    unfolding deviceLowered lacks asked
-    lowered-is = rw (g .is, ← i, ← l, k .climbed .user, ← r, ← d)
+    dropped-is : deviceDropped (tablesOf t) (askedOf t q) ≡ x
+    unfolding deviceDropped lacks asked
+    dropped-is = rw (l, g .is, ← i, k .climbed .user)
 
-    pub device-level-12 : (x && (not (eqb e v) && not y)) ≡ true → Judged t q refusal.roleMissing t
+    pub device-level-12 : x ≡ true → Judged t q refusal.roleMissing t
     unfolding refused
-    device-level-12 w = stop k refusal.noSuchUser (lit≤ tt) (lit< tt) device-level-11 (lowered-is ∙ w)
+    device-level-12 w = stop k refusal.noSuchUser (lit≤ tt) (lit< tt) device-level-11 (dropped-is ∙ w)
 
-    module _ (w : (x && (not (eqb e v) && not y)) ≡ false) (s : Bool) (m : s ≡ secureTest (setLevel e a (tablesOf t))) where
+    module _ (w : x ≡ false) (s : Bool) (m : s ≡ secureTest (setLevel e a (tablesOf t))) where
       device-level-passed : Passed refusal.roleMissing (tablesOf t) (requestOf q)
       unfolding refused
-      device-level-passed = pass k refusal.noSuchUser (lit≤ tt) (lit< tt) device-level-11 (lowered-is ∙ w)
+      device-level-passed = pass k refusal.noSuchUser (lit≤ tt) (lit< tt) device-level-11 (dropped-is ∙ w)
 
       pub device-level-13 : s ≡ false → Judged t q refusal.levelOrRoles t
       device-level-13 = trial-failed toDeviceLevel device-level-trial t q u k device-level-passed (setLevel e a (tablesOf t)) (level-effect t q e a g i) s m

@@ -12,8 +12,8 @@ use Rattle.model.specs.Request.Ladder.{refused}
 use Rattle.model.specs.Request.Words.{requestOf}
 use Rattle.model.specs.Tables.Layout.{tablesOf}
 use Rattle.model.specs.Effect.Words.{edit, release, setLevel, setMark}
-use Rattle.model.specs.Level.{atMost, downgrader, lower, releasing}
-use Rattle.model.specs.Request.Conditions.{firstAbove, isContainer, isDraft, isEntity, lacks, levelLowered}
+use Rattle.model.specs.Level.{atMost, downgrader, drops, releasing}
+use Rattle.model.specs.Request.Conditions.{firstAbove, isContainer, isDraft, isEntity, lacks, levelDropped}
 use Rattle.model.specs.Request.Operations.{toCopy, toEdit, toLevel, toMark, toRelease}
 use Rattle.model.specs.State.Check.{secureTest}
 use Rattle.model.specs.Tables.Words.{level, value}
@@ -74,24 +74,24 @@ module _ (t q : List ℕ) (u e : ℕ) (k : Taking toLevel t q u) (g : First t q 
   pub level-10 : b ≡ false → Judged t q refusal.wrongKind t
   level-10 z = kind-wrong k e g isEntity refl b h z
 
-  module _ (z : b ≡ true) (a : ℕ) (i : a ≡ requestOf q .a) (x y : Bool) (l : x ≡ lower a (tablesOf t .entity e level))
-      (r : y ≡ hasRole (tablesOf t) u downgrader) where
+  module _ (z : b ≡ true) (a : ℕ) (i : a ≡ requestOf q .a) (x : Bool)
+      (l : x ≡ (drops a (tablesOf t .entity e level) && not (hasRole (tablesOf t) u downgrader))) where
     level-11 : Passed refusal.noSuchUser (tablesOf t) (requestOf q)
     unfolding every free
     level-11 = skip k 1 refusal.wrongKind (lit≤ tt) (lit≤ tt) (kind-right k e g isEntity refl b h z) tt
 
-    lowered-is : levelLowered (tablesOf t) (askedOf t q) ≡ (x && not y)
-    unfolding levelLowered lacks asked
-    lowered-is = rw (g .is, ← i, ← l, k .climbed .user, ← r)
+    dropped-is : levelDropped (tablesOf t) (askedOf t q) ≡ x
+    unfolding levelDropped lacks asked
+    dropped-is = rw (l, g .is, ← i, k .climbed .user)
 
-    pub level-12 : (x && not y) ≡ true → Judged t q refusal.roleMissing t
+    pub level-12 : x ≡ true → Judged t q refusal.roleMissing t
     unfolding refused
-    level-12 w = stop k refusal.noSuchUser (lit≤ tt) (lit< tt) level-11 (lowered-is ∙ w)
+    level-12 w = stop k refusal.noSuchUser (lit≤ tt) (lit< tt) level-11 (dropped-is ∙ w)
 
-    module _ (w : (x && not y) ≡ false) (s : Bool) (m : s ≡ secureTest (setLevel e a (tablesOf t))) where
+    module _ (w : x ≡ false) (s : Bool) (m : s ≡ secureTest (setLevel e a (tablesOf t))) where
       passed-12 : Passed refusal.roleMissing (tablesOf t) (requestOf q)
       unfolding refused
-      passed-12 = pass k refusal.noSuchUser (lit≤ tt) (lit< tt) level-11 (lowered-is ∙ w)
+      passed-12 = pass k refusal.noSuchUser (lit≤ tt) (lit< tt) level-11 (dropped-is ∙ w)
 
       pub level-13 : s ≡ false → Judged t q refusal.levelOrRoles t
       level-13 = trial-failed toLevel level-trial t q u k passed-12 (setLevel e a (tablesOf t)) (level-effect t q e a g i) s m

@@ -9,8 +9,14 @@ use tables::User;
 
 mod trial;
 
+ghost use mathlib.Core.Bool.{_&&_, not};
+ghost use mathlib.Core.Path.{_≡_};
 ghost use Rattle.ladder.specs.Contract.{First, Judged, Second, Taking};
+ghost use Rattle.model.specs.Level.{downgrader, drops};
+ghost use Rattle.model.specs.Request.Asked.{hasRole};
 ghost use Rattle.model.specs.Request.Operations.{toCopy, toEdit, toLevel, toMark, toRelease};
+ghost use Rattle.model.specs.Tables.Layout.{tablesOf};
+ghost use Rattle.tables.specs.Singles.{UserIn};
 
 // Operation 4 sets the value of entity e to argument a.
 pub fn edit(t: &mut [u32], q: &[u32], u: User, e: Entity) -> u32
@@ -40,7 +46,15 @@ pub fn copy(t: &mut [u32], q: &[u32], u: User, e: Entity, c: Entity) -> u32
     refusal::ACCEPTED
 }
 
-// Operation 6 sets the level of entity e to argument a, if the tables stay secure. Only a downgrader sets a strictly lower one.
+// Whether the level drops from old to a, and user u is no downgrader.
+fn lacks_downgrader(t: &[u32], u: User, old: Level, a: Level) -> bool
+    requires { ⌜ UserIn (now t) (u .0) ⌝ }
+    ensures { λ r. ⌜ r ≡ (drops (a .0) (old .0) && not (hasRole (tablesOf (now (t .entry))) (u .0) downgrader)) ⌝ }
+{
+    !levels::at_most(old, a) & !tables::has_role(t, u, role::DOWNGRADER)
+}
+
+// Operation 6 sets the level of entity e to argument a, if the tables stay secure. Only a downgrader lets it drop.
 pub fn level(t: &mut [u32], q: &[u32], u: User, e: Entity) -> u32
     requires { ⌜ Taking toLevel (now t) (now q) (u .0) × First (now t) (now q) (e .0) ⌝ }
     ensures { λ r. ⌜ Judged (now (t .entry)) (now (q .entry)) r (now (t .exit)) ⌝ }
@@ -49,7 +63,7 @@ pub fn level(t: &mut [u32], q: &[u32], u: User, e: Entity) -> u32
         return refusal::WRONG_KIND;
     }
     let a = Level(request::a(q));
-    if levels::lower(a, tables::level(t, e)) & !tables::has_role(t, u, role::DOWNGRADER) {
+    if lacks_downgrader(t, u, tables::level(t, e), a) {
         return refusal::ROLE_MISSING;
     }
     if !crate::trial::try_level(t, e, a) {

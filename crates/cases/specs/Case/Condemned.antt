@@ -3,18 +3,21 @@
 use mathlib.Core.Bool.{not}
 use mathlib.Core.List.{[], _∷_}
 use mathlib.Core.Logic.{_≢_, inl, inr}
-use mathlib.Core.Path.{refl}
+use mathlib.Core.Path.{refl, subst}
 use Prim.Native.Nat.{ℕ}
 use lib.Dec.{T, T-not, eqb}
 use Rattle.model.specs.Basics.Agree.{agrees-eq}
 use Rattle.cases.specs.Case.Cases.{ask, at, highest}
 use Rattle.cases.specs.Case.Opened.{opened}
 use Rattle.cases.specs.Case.S1.{s1, s1Sheet}
+use Rattle.model.specs.Level.{Lower}
+use Rattle.model.specs.Request.Conditions.{levelOf}
 use Rattle.model.specs.Request.Operations.{numberOf, toEdit, toRelease}
+use Rattle.model.specs.Tables.EditLaws.{case}
 use Rattle.model.specs.Tables.Edits.{_and_, onEntity, onUser, userWord, word}
 use Rattle.model.specs.Tables.Words.{Tables, absentKind, authorised, clearance, current, device, draftType, held, level, maximum}
 use Rattle.model.specs.Tables.Words.{releasedType, releaser, spare, type}
-use Rattle.model.specs.Theorem.Definitions.{DowngradeSecure, Quiet, ReleaseSecure, SetSecure}
+use Rattle.model.specs.Theorem.Definitions.{DowngradeSecure, PaperDowngradeSecure, Quiet, ReleaseSecure, SetSecure}
 
 -- two numbers that the test tells apart
 pub differ : (m n : ℕ) → T (not (eqb m n)) → m ≢ n
@@ -91,27 +94,56 @@ other-roles-current-condemned h = elim (h .current 3 (differ 2 0 tt)) [ inl e �
 -- Rule 9.10: the desk lowered container 7 from rank 1 to rank 0 for user 2.
 pub container-downgrade-condemned : DowngradeSecure s1 (ask 2 6 (7 ∷ []) [] 0 0 0) (onEntity 7 (word level 0) s1) → ⊥
 unfolding opened s1 s1Sheet
-container-downgrade-condemned h = h 7 (kept 2 tt) (differ 7 2 tt) (tt, differ 0 (at 1 0) tt)
+container-downgrade-condemned h = h 7 (kept 2 tt) (differ 7 2 tt) (λ t. t)
 
 -- Rule 9.10: the desk lowered object 5 from rank 1 to rank 0 for user 2.
 pub object-downgrade-condemned : DowngradeSecure s1 (ask 2 6 (5 ∷ []) [] 0 0 0) (onEntity 5 (word level 0) s1) → ⊥
 unfolding opened s1 s1Sheet
-object-downgrade-condemned h = h 5 (kept 1 tt) (differ 5 2 tt) (tt, differ 0 (at 1 0) tt)
+object-downgrade-condemned h = h 5 (kept 1 tt) (differ 5 2 tt) (λ t. t)
 
 -- Rule 9.10: the desk lowered device 1 from the highest level to the lowest for user 2, who is on device 2.
 pub device-downgrade-condemned : DowngradeSecure s1 (ask 2 18 (1 ∷ []) [] 0 0 0) (onEntity 1 (word level 0) s1) → ⊥
 unfolding opened s1 s1Sheet
-device-downgrade-condemned h = h 1 (kept 3 tt) (differ 1 2 tt) (tt, differ 0 highest tt)
+device-downgrade-condemned h = h 1 (kept 3 tt) (differ 1 2 tt) (λ t. t)
 
 -- Rule 9.10: the desk took the compartment off container 4, which keeps its rank, for user 2.
 pub compartment-downgrade-condemned : DowngradeSecure s1 (ask 2 6 (4 ∷ []) [] (at 2 0) 0 0) (onEntity 4 (word level (at 2 0)) s1) → ⊥
 unfolding opened s1 s1Sheet
-compartment-downgrade-condemned h = h 4 (kept 2 tt) (differ 4 2 tt) (tt, differ (at 2 0) (at 2 1) tt)
+compartment-downgrade-condemned h = h 4 (kept 2 tt) (differ 4 2 tt) (λ t. t)
 
 -- Rule 9.10: the desk lowered container 7 for user 1, who has the other two roles now and not the downgrader's.
 pub other-roles-downgrade-condemned : DowngradeSecure (s1With 5) (ask 1 6 (7 ∷ []) [] 0 0 0) (onEntity 7 (word level 0) (s1With 5)) → ⊥
 unfolding opened s1 s1Sheet
-other-roles-downgrade-condemned h = h 7 (kept 2 tt) (differ 7 1 tt) (tt, differ 0 (at 1 0) tt)
+other-roles-downgrade-condemned h = h 7 (kept 2 tt) (differ 7 1 tt) (λ t. t)
+
+-- Rule 9.10: the desk took container 7 sideways for user 2, from rank 1 to a compartment without a rank.
+pub sideways-condemned : DowngradeSecure s1 (ask 2 6 (7 ∷ []) [] (at 0 1) 0 0) (onEntity 7 (word level (at 0 1)) s1) → ⊥
+unfolding opened s1 s1Sheet
+sideways-condemned h = h 7 (kept 2 tt) (differ 7 2 tt) (λ t. t)
+
+-- The paper lets that pass: 1 is not strictly lower than 256.
+pub sideways-paper : PaperDowngradeSecure s1 (ask 2 6 (7 ∷ []) [] (at 0 1) 0 0) (onEntity 7 (word level (at 0 1)) s1)
+unfolding opened s1 s1Sheet
+sideways-paper x b o l = absurd (case (λ (y : ℕ). Lower y (levelOf s1 x) → ⊥) x 7 (at 0 1) (levelOf s1 x)
+    (λ r z. beside (subst (λ (y : ℕ). Lower (at 0 1) (levelOf s1 y)) r z)) (λ r z. z .1 refl) l)
+  where
+    beside : Lower (at 0 1) (levelOf s1 7) → ⊥
+    beside z = z .0
+
+-- Rule 9.10: the desk gave container 4, a client's compartment on rank 2, to another client for user 2.
+pub compartments-sideways-condemned : DowngradeSecure s1 (ask 2 6 (4 ∷ []) [] (at 2 2) 0 0) (onEntity 4 (word level (at 2 2)) s1) → ⊥
+unfolding opened s1 s1Sheet
+compartments-sideways-condemned h = h 4 (kept 2 tt) (differ 4 2 tt) (λ t. t)
+
+-- Rule 9.10: the desk raised container 4 in rank for user 2, and took its compartment off.
+pub raised-sideways-condemned : DowngradeSecure s1 (ask 2 6 (4 ∷ []) [] (at 3 0) 0 0) (onEntity 4 (word level (at 3 0)) s1) → ⊥
+unfolding opened s1 s1Sheet
+raised-sideways-condemned h = h 4 (kept 2 tt) (differ 4 2 tt) (λ t. t)
+
+-- Rule 9.10: the desk took device 2 sideways for user 1, who is on device 1.
+pub device-sideways-condemned : DowngradeSecure s1 (ask 1 18 (2 ∷ []) [] (at 1 1) 0 0) (onEntity 2 (word level (at 1 1)) s1) → ⊥
+unfolding opened s1 s1Sheet
+device-sideways-condemned h = h 2 (kept 3 tt) (differ 2 1 tt) (λ t. t)
 
 -- entity e is a released message of user u
 abbrev releasedBy : ℕ → ℕ → Tables → Tables

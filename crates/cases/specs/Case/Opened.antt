@@ -3,7 +3,7 @@ use Rattle.model.specs.Basics.Tests.{imp, every}
 use Rattle.cases.specs.Case.Cases.{item, gone, asking, ask, expect, noted, stand, passesAt, allPass}
 use Rattle.cases.specs.Case.Forms.{all5, counting, forms, made, malformed, none5, reference, right, rightWords, oneWrong, strays}
 use Rattle.cases.specs.Case.Forms.{wellMade, words, wrong, wrongWords}
-use Rattle.model.specs.Level.{bit, subset, rank, atMostOver, atMost, lower}
+use Rattle.model.specs.Level.{bit, subset, rank, atMostOver, atMost, drops}
 use Rattle.model.specs.List.Listing.{entries, showing}
 use Rattle.model.specs.List.Walk.{through, visit, walk}
 use Rattle.model.specs.List.Ways.{ways, showable, found}
@@ -11,9 +11,9 @@ use Rattle.model.specs.Request.After.{effect, noticedOp, leaves, after}
 use Rattle.model.specs.Request.Asked.{asked, hasRole}
 use Rattle.model.specs.Request.Conditions.{isAny, isEntity, isContainer, isDevice, isDraft, between, free, unused, aLevel, someRoles}
 use Rattle.model.specs.Request.Conditions.{aUser, aSort, aFlag, aSum, aWho, anOperation, aPosition, lacks, createAbove, createNoRoom}
-use Rattle.model.specs.Request.Conditions.{onScreen, deleteForbidden, firstAbove, moveNoRoom, moveInside, levelLowered, insecure}
+use Rattle.model.specs.Request.Conditions.{onScreen, deleteForbidden, firstAbove, moveNoRoom, moveInside, levelDropped, insecure}
 use Rattle.model.specs.Request.Conditions.{grantNoRoom, showAbove, showNoRoom, showUnlabelled, loginTaken, userAbsent, rolesOff}
-use Rattle.model.specs.Request.Conditions.{rolesOfAnother, rolesUnauthorised, currentOutside, deviceAbove, deviceLowered}
+use Rattle.model.specs.Request.Conditions.{rolesOfAnother, rolesUnauthorised, currentOutside, deviceAbove, deviceDropped}
 use Rattle.model.specs.Request.Conditions.{notAcknowledged}
 use Rattle.model.specs.Request.Ladder.{ofOp, someOperand, notWellFormed, notSecure, unknownUser, lengthFits, namesFit, rangeAt, fits}
 use Rattle.model.specs.Request.Ladder.{notUnderstood, notLoggedOn, leadsNowhere, permits, noAccess, bars, notCleared, wrongKind}
@@ -37,7 +37,7 @@ unfolding imp every
 openedBasics = tt
 
 unfoldable pub openedLevel : Unit {0}
-unfolding bit subset rank atMostOver atMost lower
+unfolding bit subset rank atMostOver atMost drops
 openedLevel = tt
 
 unfoldable pub openedTables : Unit {0}
@@ -53,8 +53,8 @@ openedState = tt
 unfoldable pub openedRequest : Unit {0}
 unfolding effect noticedOp leaves after asked hasRole isAny isEntity isContainer isDevice isDraft between free unused aLevel someRoles aUser
     aSort aFlag aSum aWho anOperation aPosition lacks createAbove createNoRoom onScreen deleteForbidden firstAbove moveNoRoom moveInside
-    levelLowered insecure grantNoRoom showAbove showNoRoom showUnlabelled loginTaken userAbsent rolesOff rolesOfAnother rolesUnauthorised
-    currentOutside deviceAbove deviceLowered notAcknowledged ofOp someOperand notWellFormed notSecure unknownUser lengthFits namesFit
+    levelDropped insecure grantNoRoom showAbove showNoRoom showUnlabelled loginTaken userAbsent rolesOff rolesOfAnother rolesUnauthorised
+    currentOutside deviceAbove deviceDropped notAcknowledged ofOp someOperand notWellFormed notSecure unknownUser lengthFits namesFit
     rangeAt fits notUnderstood notLoggedOn leadsNowhere permits noAccess bars notCleared wrongKind refused ownRung ladder lowest answer
     never rungAt applies operations withNumber opOf presentTest placeTest follow resolve passed basis referenceAt requestOf names
 openedRequest = tt

@@ -50,7 +50,7 @@ starred =
     ∷ expect (asking 1 14 [] [] 1 5 0 gets 0 ∷ []) (asking 1 19 (6 ∷ []) [] 0 0 0) 0 (entityIs 6 type releasedType ∷ entityIs 6 releaser 1 ∷ [])
     -- user 1 sets the level of 7 to the lowest, and to a compartment without a rank
     ∷ noted (asking 1 6 (7 ∷ []) [] 0 0 0) 12 (entityIs 7 level (at 1 0) ∷ [])
-    ∷ expect [] (asking 1 6 (7 ∷ []) [] (at 0 1) 0 0) 0 (entityIs 7 level (at 0 1) ∷ [])
+    ∷ noted (asking 1 6 (7 ∷ []) [] (at 0 1) 0 0) 12 (entityIs 7 level (at 1 0) ∷ [])
     -- user 3, who is off, shows 5; logs on to 3
     ∷ noted (asking 3 10 (5 ∷ []) [] 3 0 0) 6 []
     ∷ expect [] (asking 3 12 (3 ∷ []) [] 0 0 0) 0 (userIs 3 device 3 ∷ [])

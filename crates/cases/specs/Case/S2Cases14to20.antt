@@ -141,11 +141,11 @@ deviceLevelCases =
     expect [] (asking 2 18 (2 ∷ []) [] (at 0 1) 0 0) 0 (entityIs 2 level (at 0 1) ∷ entityIs 2 maximum (at 3 1) ∷ userIs 2 held 0 ∷ [])
     -- strictly lower on another's device, by a downgrader
     ∷ expect [] (asking 1 18 (2 ∷ []) [] (at 0 1) 0 0) 0 (entityIs 2 level (at 0 1) ∷ userIs 2 device 2 ∷ [])
-    -- at 1 2 is a smaller number than at 2 1, and not lower: no downgrader is needed
-    ∷ expect [] (asking 2 18 (6 ∷ []) [] (at 1 2) 0 0) 0 (entityIs 6 level (at 1 2) ∷ userIs 2 held 0 ∷ [])
+    -- sideways, by a downgrader
+    ∷ expect [] (asking 1 18 (6 ∷ []) [] (at 1 2) 0 0) 0 (entityIs 6 level (at 1 2) ∷ userIs 1 held 0 ∷ [])
     -- a higher rank with the same compartment: no downgrader is needed
     ∷ expect [] (asking 2 18 (6 ∷ []) [] (at 3 1) 0 0) 0 (entityIs 6 level (at 3 1) ∷ entityIs 6 maximum highest ∷ entityIs 2 level (at 1 1) ∷ [])
-    -- the same level is not strictly lower
+    -- the same level does not drop
     ∷ expect [] (asking 2 18 (6 ∷ []) [] (at 2 1) 0 0) 0 (entityIs 6 level (at 2 1) ∷ userIs 2 held 0 ∷ [])
     -- 5: over the highest
     ∷ noted (asking 1 18 (6 ∷ []) [] levelCount 0 0) 5 (entityIs 6 level (at 2 1) ∷ [])
@@ -167,6 +167,8 @@ deviceLevelCases =
     ∷ noted (asking 1 18 (33 ∷ []) [] 0 0 0) 10 []
     -- 12: strictly lower on a device that nobody is on; the requester is a downgrader by authorisation, not by current role
     ∷ noted (asking 2 18 (6 ∷ []) [] (at 2 0) 0 0) 12 (entityIs 6 level (at 2 1) ∷ [])
+    -- 12: sideways; at 1 2 is a smaller number than at 2 1, and not lower
+    ∷ noted (asking 2 18 (6 ∷ []) [] (at 1 2) 0 0) 12 (entityIs 6 level (at 2 1) ∷ [])
     -- 12: strictly lower on another's device
     ∷ noted (asking 2 18 (3 ∷ []) [] 0 0 0) 12 (entityIs 3 level (at 1 0) ∷ [])
     -- 13: not at least what the device shows

@@ -14,11 +14,9 @@ levelCases =
     expect [] (asking 1 6 (13 ∷ []) [] (at 2 0) 0 0) 0 (entityIs 13 level (at 2 0) ∷ entityIs 12 level (at 2 0) ∷ entityIs 13 value 40 ∷ [])
     -- strictly lower, by a downgrader
     ∷ expect [] (asking 1 6 (12 ∷ 1 ∷ []) [] 0 0 0) 0 (entityIs 13 level 0 ∷ entityIs 12 level (at 2 0) ∷ [])
-    -- at 0 1 is a smaller number than at 1 2, and not lower: no downgrader is needed
-    ∷ expect [] (asking 2 6 (30 ∷ []) [] (at 0 1) 0 0) 0 (entityIs 30 level (at 0 1) ∷ userIs 2 held 0 ∷ [])
     -- a higher rank with the same compartment: no downgrader is needed
     ∷ expect [] (asking 2 6 (30 ∷ []) [] (at 3 2) 0 0) 0 (entityIs 30 level (at 3 2) ∷ userIs 2 held 0 ∷ [])
-    -- the same level is not strictly lower
+    -- the same level does not drop
     ∷ expect [] (asking 2 6 (30 ∷ []) [] (at 1 2) 0 0) 0 (entityIs 30 level (at 1 2) ∷ userIs 2 held 0 ∷ [])
     -- 5: over the highest
     ∷ noted (asking 1 6 (13 ∷ []) [] levelCount 0 0) 5 []
@@ -36,6 +34,10 @@ levelCases =
     ∷ noted (asking 6 6 (8 ∷ 1 ∷ []) [] (at 1 0) 0 0) 9 []
     -- 10: a device
     ∷ noted (asking 1 6 (3 ∷ []) [] (at 1 0) 0 0) 10 []
+    -- 12: sideways; at 0 1 is a smaller number than at 1 2, and not lower
+    ∷ noted (asking 2 6 (30 ∷ []) [] (at 0 1) 0 0) 12 (entityIs 30 level (at 1 2) ∷ [])
+    -- 12: sideways; at 3 1 is a greater number than at 1 2, and not higher
+    ∷ noted (asking 2 6 (30 ∷ []) [] (at 3 1) 0 0) 12 (entityIs 30 level (at 1 2) ∷ [])
     -- 12: strictly lower; the requester is a downgrader by authorisation, not by current role
     ∷ noted (asking 2 6 (30 ∷ []) [] (at 1 0) 0 0) 12 (entityIs 30 level (at 1 2) ∷ [])
     -- 13: above what holds it

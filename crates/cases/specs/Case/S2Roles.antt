@@ -27,7 +27,7 @@ officerCases =
     ∷ expect [] (asking 1 19 (29 ∷ []) [] 0 0 0) 12 (entityIs 29 type draftType ∷ [])
     ∷ []
 
--- role 2, the downgrader: a strictly lower level, also of a device that is not one's own
+-- role 2, the downgrader: a level that drops, also of a device that is not one's own
 unfoldable pub downgraderCases : List Case
 downgraderCases =
     expect [] (asking 1 14 [] [] 2 8 0) 12 (userIs 2 current 136 ∷ [])

@@ -7,7 +7,7 @@ use Prim.Native.Nat.{_<_, _≤_, ℕ}
 use lib.Dec.{T}
 use Rattle.model.specs.Effect.Places.{draftSort, leave, objectSort, vacant}
 use Rattle.model.specs.Effect.Screens.{spot}
-use Rattle.model.specs.Level.{AtMost, Lower, Subset, downgrader, levelCount, officer, releasing, roleCount, roleSets}
+use Rattle.model.specs.Level.{AtMost, Drops, Subset, downgrader, levelCount, officer, releasing, roleCount, roleSets}
 use Rattle.model.specs.Request.Asked.{Asked, HasRole, asked, basisOf, namedTriple, operand, own}
 use Rattle.model.specs.Request.Conditions.{levelOf}
 use Rattle.model.specs.Request.Form.{Between, Fits, Names, taken}
@@ -92,7 +92,7 @@ pub record MayCopy (s : Asked) (d : Tables) : Type 0 where
 pub record MayLevel (s : Asked) (d : Tables) : Type 0 where
   pub thing : Thing d (s .first)
   pub levelIn : s .a < levelCount
-  pub downgrade : Lower (s .a) (levelOf d (s .first)) → HasRole d (s .user) downgrader
+  pub downgrade : Drops (s .a) (levelOf d (s .first)) → HasRole d (s .user) downgrader
   pub secure : Secure (levelEffect s d)
 
 -- Rule 6.7.
@@ -159,7 +159,7 @@ pub record MayMaximum (s : Asked) (d : Tables) : Type 0 where
 pub record MayDeviceLevel (s : Asked) (d : Tables) : Type 0 where
   pub screen : Screen (kinds d (s .first))
   pub levelIn : s .a < levelCount
-  pub downgrade : Lower (s .a) (levelOf d (s .first)) → s .first ≢ own d s → HasRole d (s .user) downgrader
+  pub downgrade : Drops (s .a) (levelOf d (s .first)) → s .first ≢ own d s → HasRole d (s .user) downgrader
   pub secure : Secure (levelEffect s d)
 
 -- Rule 6.19.

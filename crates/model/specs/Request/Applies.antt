@@ -8,7 +8,7 @@ use Prim.Native.Nat.{_<_, _≤_, ℕ}
 use lib.Dec.{eqb}
 use lib.ListN.{length}
 use Rattle.model.specs.Basics.Choice.{pick}
-use Rattle.model.specs.Level.{AtMost, Bit, Lower, Subset, downgrader, officer, releasing, roleCount}
+use Rattle.model.specs.Level.{AtMost, Bit, Drops, Subset, downgrader, officer, releasing, roleCount}
 use Rattle.model.specs.Request.Allowed.{Known, Operand, Permitted, WantsDevice}
 use Rattle.model.specs.Request.Asked.{Asked, HasRole, asked, namedTriple, own}
 use Rattle.model.specs.Request.Conditions.{levelOf}
@@ -101,8 +101,8 @@ pub data Own (s : Asked) (d : Tables) : Op → ℕ → Type 0 where
   moveInside : Within (InTables d) (s .second) (s .first) → Own s d toMove refusal.arrangement
   -- copy: the first's level is not at most the second's
   copyAbove : (AtMost (levelOf d (s .first)) (levelOf d (s .second)) → ⊥) → Own s d toCopy refusal.levelOrRoles
-  -- level: strictly lower by no downgrader; the tables with that level are not secure
-  levelLowered : Lower (s .a) (levelOf d (s .first)) → (HasRole d (s .user) downgrader → ⊥) → Own s d toLevel refusal.roleMissing
+  -- level: it drops, by no downgrader; the tables with that level are not secure
+  levelDropped : Drops (s .a) (levelOf d (s .first)) → (HasRole d (s .user) downgrader → ⊥) → Own s d toLevel refusal.roleMissing
   levelInsecure : ((d′ : Tables) → WithEntity (s .first) level (s .a) d d′ → Secure d′ → ⊥) → Own s d toLevel refusal.levelOrRoles
   -- grant: eight other triples are held
   grantFull : EightOthers (triples d (s .first)) (namedTriple s) → Own s d toGrant refusal.noRoom
@@ -130,8 +130,8 @@ pub data Own (s : Asked) (d : Tables) : Op → ℕ → Type 0 where
   -- maximum: no officer; the device stands above it
   maximumRole : (HasRole d (s .user) officer → ⊥) → Own s d toMaximum refusal.roleMissing
   maximumAbove : (AtMost (levelOf d (s .first)) (s .a) → ⊥) → Own s d toMaximum refusal.levelOrRoles
-  -- device level: strictly lower, on a device that is not the requester's own, by no downgrader; the tables with that level are not secure
-  deviceLowered : Lower (s .a) (levelOf d (s .first)) → s .first ≢ own d s → (HasRole d (s .user) downgrader → ⊥)
+  -- device level: it drops, on a device that is not the requester's own, by no downgrader; the tables with that level are not secure
+  deviceDropped : Drops (s .a) (levelOf d (s .first)) → s .first ≢ own d s → (HasRole d (s .user) downgrader → ⊥)
       → Own s d toDeviceLevel refusal.roleMissing
   deviceInsecure : ((d′ : Tables) → WithEntity (s .first) level (s .a) d d′ → Secure d′ → ⊥) → Own s d toDeviceLevel refusal.levelOrRoles
   -- release: no releaser

@@ -8,12 +8,12 @@ use Rattle.model.specs.Basics.Agree.{Agrees, agrees-T, agrees-and, agree
 use Rattle.model.specs.Basics.Fails.{Fails, fails-agreed, fails-and, fails-le, fails-not, fails-or, fails-where}
 use Rattle.model.specs.Effect.Places.{leave, vacant}
 use Rattle.model.specs.Effect.Screens.{spot}
-use Rattle.model.specs.Level.{AtMost, Lower, Subset, atMost, downgrader, officer, roleCount, subset}
-use Rattle.model.specs.LevelLaws.{lower-agrees}
+use Rattle.model.specs.Level.{AtMost, Drops, Subset, atMost, downgrader, officer, roleCount, subset}
+use Rattle.model.specs.LevelLaws.{drops-agrees}
 use Rattle.model.specs.Request.Asked.{Asked, HasRole, namedTriple, own}
 use Rattle.model.specs.Request.Conditions.{between, createAbove, createNoRoom, currentOutside, deleteForbidden, deviceAbove}
-use Rattle.model.specs.Request.Conditions.{deviceLowered, firstAbove, grantNoRoom, insecure, isAny, isContainer, isDevice, isDraft}
-use Rattle.model.specs.Request.Conditions.{isEntity, lacks, levelLowered, levelOf, loginTaken, moveInside, moveNoRoom}
+use Rattle.model.specs.Request.Conditions.{deviceDropped, firstAbove, grantNoRoom, insecure, isAny, isContainer, isDevice, isDraft}
+use Rattle.model.specs.Request.Conditions.{isEntity, lacks, levelDropped, levelOf, loginTaken, moveInside, moveNoRoom}
 use Rattle.model.specs.Request.Conditions.{notAcknowledged, onScreen, rolesOfAnother, rolesOff, rolesUnauthorised, showAbove}
 use Rattle.model.specs.Request.Conditions.{showNoRoom, showUnlabelled, userAbsent}
 use Rattle.model.specs.Request.Form.{Between}
@@ -85,10 +85,10 @@ module _ (d : Tables) (s : Asked) where
   unfolding moveNoRoom
   moveNoRoom-fails = fails-le placeCount (usedPlaces (leave (s .first) d) (s .second))
 
-  -- Rule 6.6: no refusal 12 where a strictly lower level is set by a downgrader.
-  pub levelLowered-fails : Fails (levelLowered d s) (Lower (s .a) (levelOf d (s .first)) → HasRole d (s .user) downgrader)
-  unfolding levelLowered
-  levelLowered-fails = fails-and (lower-agrees (s .a) (levelOf d (s .first))) (lacks-fails downgrader)
+  -- Rule 6.6: no refusal 12 where a downgrader alone lets a level drop.
+  pub levelDropped-fails : Fails (levelDropped d s) (Drops (s .a) (levelOf d (s .first)) → HasRole d (s .user) downgrader)
+  unfolding levelDropped
+  levelDropped-fails = fails-and (drops-agrees (s .a) (levelOf d (s .first))) (lacks-fails downgrader)
 
   -- Rules 6.6, 6.15 and 6.18: no refusal 13 where the tables, well-formed afterwards, are secure too.
   pub insecure-fails : (f : Asked → Tables → Tables) → WellFormed (f s d) → Fails (insecure f d s) (Secure (f s d))
@@ -154,10 +154,10 @@ module _ (d : Tables) (s : Asked) where
   unfolding deviceAbove
   deviceAbove-fails = fails-not (agrees-T (atMost (levelOf d (s .first)) (s .a)))
 
-  -- Rule 6.18: no refusal 12 where a strictly lower level is set, on a device that is not the requester's own, by a downgrader.
-  pub deviceLowered-fails : Fails (deviceLowered d s) (Lower (s .a) (levelOf d (s .first)) → s .first ≢ own d s → HasRole d (s .user) downgrader)
-  unfolding deviceLowered
-  deviceLowered-fails = fails-and (lower-agrees (s .a) (levelOf d (s .first)))
+  -- Rule 6.18: no refusal 12 where a downgrader alone lets the level of a device drop that is not the requester's own.
+  pub deviceDropped-fails : Fails (deviceDropped d s) (Drops (s .a) (levelOf d (s .first)) → s .first ≢ own d s → HasRole d (s .user) downgrader)
+  unfolding deviceDropped
+  deviceDropped-fails = fails-and (drops-agrees (s .a) (levelOf d (s .first)))
       (fails-and (agrees-not (agrees-eq (s .first) (own d s))) (lacks-fails downgrader))
 
   -- Rule 6.20: no refusal 16 where a refusal is held, a is that refusal, and b is the number missed.

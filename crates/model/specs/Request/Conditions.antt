@@ -6,7 +6,7 @@ use lib.Dec.{eqb, leb, ltb}
 use Rattle.model.specs.Basics.Tests.{every, imp}
 use Rattle.model.specs.Effect.Places.{draftSort, leave, objectSort, vacant}
 use Rattle.model.specs.Effect.Screens.{spot}
-use Rattle.model.specs.Level.{atMost, downgrader, levelCount, lower, officer, roleCount, roleSets, subset}
+use Rattle.model.specs.Level.{atMost, downgrader, drops, levelCount, officer, roleCount, roleSets, subset}
 use Rattle.model.specs.Request.Asked.{Asked, hasRole, namedTriple, own}
 use Rattle.model.specs.State.Check.{parent, secureTest}
 use Rattle.model.specs.State.Climb.{climb}
@@ -115,9 +115,9 @@ moveNoRoom d s = leb placeCount (usedPlaces (leave (s .first) d) (s .second))
 unfoldable pub moveInside : Condition
 moveInside d s = climb (parent (kinds d) (usedPlaces d) (places d)) (suc entityCount) (s .second) (s .first)
 
--- Rule 6.6, 12: a downgrade by one who may not.
-unfoldable pub levelLowered : Condition
-levelLowered d s = lower (s .a) (levelOf d (s .first)) && lacks downgrader d s
+-- Rule 6.6, 12: the level drops, by no downgrader.
+unfoldable pub levelDropped : Condition
+levelDropped d s = drops (s .a) (levelOf d (s .first)) && lacks downgrader d s
 
 -- Rules 6.6, 6.15 and 6.18, 13: with that word changed the tables are not secure.
 unfoldable pub insecure : (Asked → Tables → Tables) → Condition
@@ -163,9 +163,9 @@ currentOutside d s = not (subset roleCount (d .user (s .a) current) (s .b))
 unfoldable pub deviceAbove : Condition
 deviceAbove d s = not (atMost (levelOf d (s .first)) (s .a))
 
--- Rule 6.18, 12: a downgrade of another's device by one who may not.
-unfoldable pub deviceLowered : Condition
-deviceLowered d s = lower (s .a) (levelOf d (s .first)) && (not (eqb (s .first) (own d s)) && lacks downgrader d s)
+-- Rule 6.18, 12: the level of a device that is not the requester's own drops, by no downgrader.
+unfoldable pub deviceDropped : Condition
+deviceDropped d s = drops (s .a) (levelOf d (s .first)) && (not (eqb (s .first) (own d s)) && lacks downgrader d s)
 
 -- Rule 6.20, 16: nothing is held, or another refusal or number.
 unfoldable pub notAcknowledged : Condition

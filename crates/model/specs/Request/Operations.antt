@@ -12,9 +12,9 @@ use Rattle.model.specs.Effect.Words.{setMaximum}
 use Rattle.model.specs.Level.{officer, releasing}
 use Rattle.model.specs.Request.Asked.{Asked, namedTriple, own}
 use Rattle.model.specs.Request.Conditions.{Condition, Kind, Range, aFlag, aLevel, aPosition, aSort, aSum, aUser, aWho, anOperation}
-use Rattle.model.specs.Request.Conditions.{createAbove, createNoRoom, currentOutside, deleteForbidden, deviceAbove, deviceLowered}
+use Rattle.model.specs.Request.Conditions.{createAbove, createNoRoom, currentOutside, deleteForbidden, deviceAbove, deviceDropped}
 use Rattle.model.specs.Request.Conditions.{firstAbove, free, grantNoRoom, insecure, isAny, isContainer, isDevice, isDraft, isEntity}
-use Rattle.model.specs.Request.Conditions.{lacks, levelLowered, loginTaken, moveInside, moveNoRoom, notAcknowledged, rolesOfAnother}
+use Rattle.model.specs.Request.Conditions.{lacks, levelDropped, loginTaken, moveInside, moveNoRoom, notAcknowledged, rolesOfAnother}
 use Rattle.model.specs.Request.Conditions.{rolesOff, rolesUnauthorised, showAbove, showNoRoom, showUnlabelled, someRoles, userAbsent}
 use Rattle.model.specs.Tables.Words.{Tables}
 use Rattle.model.specs.Request.Refusals as refusal
@@ -58,7 +58,7 @@ rowOf toEdit = takes (isEntity ∷ []) (free ∷ []) (λ s. edit (s .first) (s .
 rowOf toCopy = takes (isEntity ∷ isEntity ∷ []) [] (λ s. copy (s .first) (s .second))
     (refuse refusal.levelOrRoles firstAbove ∷ [])
 rowOf toLevel = takes (isEntity ∷ []) (aLevel ∷ []) levelEffect
-    (refuse refusal.roleMissing levelLowered ∷ refuse refusal.levelOrRoles (insecure levelEffect) ∷ [])
+    (refuse refusal.roleMissing levelDropped ∷ refuse refusal.levelOrRoles (insecure levelEffect) ∷ [])
 rowOf toMark = takes (isContainer ∷ []) (aFlag ∷ []) (λ s. setMark (s .first) (s .a))
     []
 rowOf toGrant = takes (isAny ∷ []) (aWho ∷ anOperation ∷ aPosition ∷ []) (λ s. grant (s .first) (namedTriple s))
@@ -82,7 +82,7 @@ rowOf toAuthorised = takes [] (aUser ∷ someRoles ∷ []) (λ s. setAuthorised 
 rowOf toMaximum = takes (isDevice ∷ []) (aLevel ∷ []) (λ s. setMaximum (s .first) (s .a))
     (refuse refusal.roleMissing (lacks officer) ∷ refuse refusal.levelOrRoles deviceAbove ∷ [])
 rowOf toDeviceLevel = takes (isDevice ∷ []) (aLevel ∷ []) levelEffect
-    (refuse refusal.roleMissing deviceLowered ∷ refuse refusal.levelOrRoles (insecure levelEffect) ∷ [])
+    (refuse refusal.roleMissing deviceDropped ∷ refuse refusal.levelOrRoles (insecure levelEffect) ∷ [])
 rowOf toRelease = takes (isDraft ∷ []) [] (λ s. release (s .user) (s .first))
     (refuse refusal.roleMissing (lacks releasing) ∷ [])
 rowOf toAcknowledge = takes [] (free ∷ free ∷ []) (λ s. acknowledge (s .user))

@@ -13,8 +13,8 @@ use Rattle.model.specs.Request.Allowed.{Operand}
 use Rattle.model.specs.Request.Applies.{Full, Own, Suits, WithEntity, WithUser, acknowledgeNothing, acknowledgeNumber, acknowledgeOther}
 use Rattle.model.specs.Request.Applies.{authorisedAbsent, authorisedOutside, authorisedRole, clearanceAbsent, clearanceInsecure, clearanceRole, copyAbove}
 use Rattle.model.specs.Request.Applies.{createAbove, createNumber, createPlace, currentAbsent, currentAnothers, currentOff, currentUnauthorised}
-use Rattle.model.specs.Request.Applies.{deleteFilled, deleteReleased, deleteShown, deviceInsecure, deviceLowered, grantFull, levelInsecure}
-use Rattle.model.specs.Request.Applies.{levelLowered, loginOn, loginOccupied, maximumAbove, maximumRole, moveAbove, moveFull, moveInside}
+use Rattle.model.specs.Request.Applies.{deleteFilled, deleteReleased, deleteShown, deviceInsecure, deviceDropped, grantFull, levelInsecure}
+use Rattle.model.specs.Request.Applies.{levelDropped, loginOn, loginOccupied, maximumAbove, maximumRole, moveAbove, moveFull, moveInside}
 use Rattle.model.specs.Request.Applies.{releaseRole, showAboveScreen, showFull, showUncleared, showUnlabelled}
 use Rattle.model.specs.Request.Asked.{Asked, operand, own}
 use Rattle.model.specs.Request.ConditionLaws.{createAbove-fails, currentOutside-fails, deviceAbove-fails, firstAbove-fails, insecure-fails}
@@ -26,8 +26,8 @@ use Rattle.model.specs.Request.OneWordLaws.{entity-insecure, insecure-en
 use Rattle.model.specs.Request.Operations.{Op, clearanceEffect, levelEffect, rowOf, toAcknowledge, toAuthorised, toClear, toClearance, toCopy}
 use Rattle.model.specs.Request.Operations.{toCreate, toCurrent, toDelete, toDeviceLevel, toEdit, toGrant, toLevel, toLogin, toLogout, toMark}
 use Rattle.model.specs.Request.Operations.{toMaximum, toMove, toRelease, toRevoke, toShow}
-use Rattle.model.specs.Request.OwnTestLaws.{createNoRoom-agrees, deleteForbidden-agrees, deviceLowered-agrees, grantNoRoom-agrees, lacks-agrees}
-use Rattle.model.specs.Request.OwnTestLaws.{levelLowered-agrees, loginTaken-agrees, moveInside-agrees, moveNoRoom-agrees}
+use Rattle.model.specs.Request.OwnTestLaws.{createNoRoom-agrees, deleteForbidden-agrees, deviceDropped-agrees, grantNoRoom-agrees, lacks-agrees}
+use Rattle.model.specs.Request.OwnTestLaws.{levelDropped-agrees, loginTaken-agrees, moveInside-agrees, moveNoRoom-agrees}
 use Rattle.model.specs.Request.OwnTestLaws.{notAcknowledged-agrees, rolesOfAnother-agrees, rolesOff-agrees, showAbove-agrees, showNoRoom-agrees}
 use Rattle.model.specs.Request.OwnTestLaws.{showUnlabelled-agrees, userAbsent-agrees}
 use Rattle.model.specs.Request.RefusedLaws.{AllRefusals, refused-of}
@@ -98,7 +98,7 @@ module _ (d : Tables) (s : Asked) where
   refusal-stated toEdit h = tt
   refusal-stated toCopy h = (λ b t. copyAbove (fails-agrees (firstAbove-fails d s) .to t), tt)
   refusal-stated toLevel h = (
-    λ b t. let z = levelLowered-agrees d s .to t in levelLowered (z .0) (z .1),
+    λ b t. let z = levelDropped-agrees d s .to t in levelDropped (z .0) (z .1),
     (λ b t. levelInsecure (level-agrees h .to t), tt),
   )
   refusal-stated toMark h = tt
@@ -153,7 +153,7 @@ module _ (d : Tables) (s : Asked) where
     (λ b t. maximumAbove (fails-agrees (deviceAbove-fails d s) .to t), tt),
   )
   refusal-stated toDeviceLevel h = (
-    λ b t. let z = deviceLowered-agrees d s .to t in deviceLowered (z .0) (z .1 .0) (z .1 .1),
+    λ b t. let z = deviceDropped-agrees d s .to t in deviceDropped (z .0) (z .1 .0) (z .1 .1),
     (λ b t. deviceInsecure (device-level-agrees h .to t), tt),
   )
   refusal-stated toRelease h = (λ b t. releaseRole (lacks-agrees d s releasing .to t), tt)
@@ -186,7 +186,7 @@ module _ (d : Tables) (s : Asked) where
   earned (moveFull f) = of-row tt (λ h b. moveNoRoom-agrees d s (h .wellFormed) (second-box h) .from f)
   earned (moveInside i) = of-row tt (λ h b. moveInside-agrees d s (h .wellFormed) .from i)
   earned (copyAbove f) = of-row tt (λ h b. fails-agrees (firstAbove-fails d s) .from f)
-  earned (levelLowered l f) = of-row tt (λ h b. levelLowered-agrees d s .from (l, f))
+  earned (levelDropped l f) = of-row tt (λ h b. levelDropped-agrees d s .from (l, f))
   earned (levelInsecure f) = of-row tt (λ h b. level-agrees h .from f)
   earned (grantFull f) = of-row tt (λ h b. grantNoRoom-agrees d s .from f)
   earned (showUncleared f) = of-row tt (λ h b. showAbove-agrees d s .from (inl f))
@@ -207,7 +207,7 @@ module _ (d : Tables) (s : Asked) where
   earned (authorisedOutside f) = of-row tt (λ h b. fails-agrees (currentOutside-fails d s) .from f)
   earned (maximumRole f) = of-row tt (λ h b. lacks-agrees d s officer .from f)
   earned (maximumAbove f) = of-row tt (λ h b. fails-agrees (deviceAbove-fails d s) .from f)
-  earned (deviceLowered l n f) = of-row tt (λ h b. deviceLowered-agrees d s .from (l, (n, f)))
+  earned (deviceDropped l n f) = of-row tt (λ h b. deviceDropped-agrees d s .from (l, (n, f)))
   earned (deviceInsecure f) = of-row tt (λ h b. device-level-agrees h .from f)
   earned (releaseRole f) = of-row tt (λ h b. lacks-agrees d s releasing .from f)
   earned (acknowledgeNothing e) = of-row tt (λ h b. notAcknowledged-agrees d s .from (inl e))

@@ -10,12 +10,12 @@ use Rattle.model.specs.Basics.Agree.{Agrees, agrees-T, agrees-and, agree
 use Rattle.model.specs.Basics.Agree.{agrees-or, agrees-some, agrees-twice}
 use Rattle.model.specs.Basics.Fails.{fails-agrees, fails-where}
 use Rattle.model.specs.Basics.Tests.{every, imp}
-use Rattle.model.specs.Level.{AtMost, Bit, Lower, atMost, bit, downgrader, officer}
-use Rattle.model.specs.LevelLaws.{lower-agrees}
+use Rattle.model.specs.Level.{AtMost, Bit, Drops, atMost, bit, downgrader, officer}
+use Rattle.model.specs.LevelLaws.{drops-agrees}
 use Rattle.model.specs.Request.Applies.{EightOthers, Full}
 use Rattle.model.specs.Request.Asked.{Asked, HasRole, namedTriple, own}
 use Rattle.model.specs.Request.ConditionLaws.{lacks-fails}
-use Rattle.model.specs.Request.Conditions.{createNoRoom, deleteForbidden, deviceLowered, grantNoRoom, lacks, levelLowered, levelOf, loginTaken}
+use Rattle.model.specs.Request.Conditions.{createNoRoom, deleteForbidden, deviceDropped, grantNoRoom, lacks, levelDropped, levelOf, loginTaken}
 use Rattle.model.specs.Request.Conditions.{moveInside, moveNoRoom, notAcknowledged, onScreen, rolesOfAnother, rolesOff, showAbove}
 use Rattle.model.specs.Request.Conditions.{showNoRoom, showUnlabelled, userAbsent}
 use Rattle.model.specs.Request.RoomLaws.{full-agrees, moved-agrees, none-agrees, numbers-agrees, others-agrees, shown-agrees}
@@ -35,10 +35,10 @@ module _ (d : Tables) (s : Asked) where
   pub lacks-agrees : (r : ℕ) → Agrees (lacks r d s) (HasRole d (s .user) r → ⊥)
   lacks-agrees r = fails-agrees (lacks-fails d s r)
 
-  -- Rule 6.6, 12: a strictly lower level, by no downgrader.
-  pub levelLowered-agrees : Agrees (levelLowered d s) (Lower (s .a) (levelOf d (s .first)) × (HasRole d (s .user) downgrader → ⊥))
-  unfolding levelLowered
-  levelLowered-agrees = agrees-and (lower-agrees (s .a) (levelOf d (s .first))) (lacks-agrees downgrader)
+  -- Rule 6.6, 12: a level that drops, by no downgrader.
+  pub levelDropped-agrees : Agrees (levelDropped d s) (Drops (s .a) (levelOf d (s .first)) × (HasRole d (s .user) downgrader → ⊥))
+  unfolding levelDropped
+  levelDropped-agrees = agrees-and (drops-agrees (s .a) (levelOf d (s .first))) (lacks-agrees downgrader)
 
   -- Rule 6.8, 14: eight other triples.
   pub grantNoRoom-agrees : Agrees (grantNoRoom d s) (EightOthers (triples d (s .first)) (namedTriple s))
@@ -73,12 +73,12 @@ module _ (d : Tables) (s : Asked) where
   unfolding rolesOfAnother
   rolesOfAnother-agrees = agrees-and (agrees-not (agrees-eq (s .a) (s .user))) (lacks-agrees officer)
 
-  -- Rule 6.18, 12: a strictly lower level, on a device that is not the requester's own, by no downgrader.
-  pub deviceLowered-agrees : Agrees (deviceLowered d s)
-      (Lower (s .a) (levelOf d (s .first)) × ((s .first ≢ own d s) × (HasRole d (s .user) downgrader → ⊥)))
-  unfolding deviceLowered
-  deviceLowered-agrees =
-      agrees-and (lower-agrees (s .a) (levelOf d (s .first))) (agrees-and (agrees-not (agrees-eq (s .first) (own d s))) (lacks-agrees downgrader))
+  -- Rule 6.18, 12: a level that drops, on a device that is not the requester's own, by no downgrader.
+  pub deviceDropped-agrees : Agrees (deviceDropped d s)
+      (Drops (s .a) (levelOf d (s .first)) × ((s .first ≢ own d s) × (HasRole d (s .user) downgrader → ⊥)))
+  unfolding deviceDropped
+  deviceDropped-agrees =
+      agrees-and (drops-agrees (s .a) (levelOf d (s .first))) (agrees-and (agrees-not (agrees-eq (s .first) (own d s))) (lacks-agrees downgrader))
 
   -- Rule 6.20, 16: nothing is held, or another refusal, or another number is missed.
   pub notAcknowledged-agrees : Agrees (notAcknowledged d s)

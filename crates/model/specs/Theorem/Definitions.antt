@@ -5,7 +5,7 @@ use mathlib.Core.Logic.{_≢_, _⊎_}
 use mathlib.Core.Path.{_≡_}
 use Prim.Native.Nat.{_<_, suc, ℕ}
 use lib.Dec.{T, leb}
-use Rattle.model.specs.Level.{AtMost, Lower, bit, downgrader, officer, releasing}
+use Rattle.model.specs.Level.{AtMost, Drops, Lower, bit, downgrader, officer, releasing}
 use Rattle.model.specs.Request.Allowed.{Meant, Open, Operand, Permitted}
 use Rattle.model.specs.Request.Asked.{Asked, HasRole, asked, basisOf, operand, own}
 use Rattle.model.specs.Request.Conditions.{levelOf}
@@ -80,9 +80,14 @@ pub record SetSecure (d : Tables) (q : Request) (d′ : Tables) : Type 0 where
   pub authorised : (x : ℕ) → d′ .user x authorised ≢ d .user x authorised → HasRole d (q .user) officer
   pub current : (x : ℕ) → d′ .user x current ≢ d .user x current → (x ≡ q .user) ⊎ HasRole d (q .user) officer
 
--- Definition 10 (rule 9.10): a strictly lower level wants the downgrader, but on the requester's own device.
+-- Definition 10 (rule 9.10; document 02, M-101): a level that drops wants the downgrader, but on the requester's own device.
 abbrev pub DowngradeSecure : Tables → Request → Tables → Type 0
-DowngradeSecure d q d′ = (x : ℕ) → Both d d′ x → x ≢ devices d (q .user) → Lower (levelOf d′ x) (levelOf d x) → HasRole d (q .user) downgrader
+DowngradeSecure d q d′ = (x : ℕ) → Both d d′ x → x ≢ devices d (q .user) → Drops (levelOf d′ x) (levelOf d x) → HasRole d (q .user) downgrader
+
+-- Definition 10 as the paper has it (rule 9.10): only a strictly lower level wants the downgrader. No rule of this desk asks it; that whoever obeys the
+-- one above obeys it too is DefinitionLaws: `downgrade-stricter`.
+abbrev pub PaperDowngradeSecure : Tables → Request → Tables → Type 0
+PaperDowngradeSecure d q d′ = (x : ℕ) → Both d d′ x → x ≢ devices d (q .user) → Lower (levelOf d′ x) (levelOf d x) → HasRole d (q .user) downgrader
 
 -- Definition 11 (rule 9.11): x was made a released message by a release of x, by the requester, who is its releaser and has the role.
 pub record Released (d : Tables) (q : Request) (d′ : Tables) (x : ℕ) : Type 0 where

@@ -104,14 +104,14 @@ module _ (d : Tables) (q : Request) where
       λ v x m. leave-ids (asked d q .first) d v x (put-ids (asked d q .second) (asked d q .first) 0 (leave (asked d q .first) d) (a .allowed .box) v x m) in
       search sames
 
-  -- Rules 9.8 to 9.11 of level: the downgrader alone lowers it.
+  -- Rules 9.8 to 9.11 of level: the downgrader alone lets it drop.
   level-changes : ChangedBy toLevel
   unfolding asked
   level-changes a =
       let f = downgrade-one q d (rowOf toLevel .effect (asked d q) d) (asked d q .first) (q .a) (λ x. refl) (λ l o. a .allowed .downgrade l) in
       search sames
 
-  -- Rules 9.8 to 9.11 of device level: the downgrader alone lowers it, but that of the own device.
+  -- Rules 9.8 to 9.11 of device level: the downgrader alone lets it drop, but that of the own device.
   device-level-changes : ChangedBy toDeviceLevel
   unfolding asked
   device-level-changes a =

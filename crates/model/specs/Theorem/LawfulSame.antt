@@ -6,8 +6,8 @@ use Prim.Native.Nat.{ℕ}
 use lib.Dec.{eqb}
 use Rattle.model.specs.Basics.Choice.{Same, it, other, pick, same}
 use Rattle.model.specs.Effect.Places.{erase}
-use Rattle.model.specs.Level.{Lower, downgrader, officer}
-use Rattle.model.specs.LevelLaws.{lower-differs}
+use Rattle.model.specs.Level.{Drops, downgrader, officer}
+use Rattle.model.specs.LevelLaws.{drops-differs}
 use Rattle.model.specs.Request.Asked.{HasRole}
 use Rattle.model.specs.Request.Conditions.{levelOf}
 use Rattle.model.specs.Request.Words.{Request}
@@ -44,7 +44,7 @@ set-same q d d′ m c a r = record {
 
 -- Rule 9.10 holds if levels are as they were.
 pub downgrade-same : (q : Request) (d d′ : Tables) → AsWas d d′ (levelOf d′) (levelOf d) → DowngradeSecure d q d′
-downgrade-same q d d′ e x b o l = absurd (lower-differs (levelOf d′ x) (levelOf d x) l (e x b))
+downgrade-same q d d′ e x b o l = absurd (drops-differs (levelOf d′ x) (levelOf d x) l (e x b))
 
 -- Rule 9.11 holds if types and releasers are as they were.
 pub release-same : (q : Request) (d d′ : Tables) → AsWas d d′ (λ x. d′ .entity x type) (λ x. d .entity x type)
@@ -78,13 +78,13 @@ set-current q d d′ u v m c a r h = record {
     theirs x true (it e) n = mine x e (eqb u (q .user)) (same u (q .user))
     theirs x false (other e) n = absurd (n refl)
 
--- Rule 9.10 holds where the level of e is all that has changed, and who lowers it has the role, but on the own device.
+-- Rule 9.10 holds where the level of e is all that has changed, and who lets it drop has the role, but on the own device.
 pub downgrade-one : (q : Request) (d d′ : Tables) (e l : ℕ) → ((x : ℕ) → levelOf d′ x ≡ pick (eqb x e) l (levelOf d x))
-    → (Lower l (levelOf d e) → e ≢ devices d (q .user) → HasRole d (q .user) downgrader) → DowngradeSecure d q d′
+    → (Drops l (levelOf d e) → e ≢ devices d (q .user) → HasRole d (q .user) downgrader) → DowngradeSecure d q d′
 downgrade-one q d d′ e l c h x b o low =
-    case (λ (y : ℕ). Lower y (levelOf d x) → HasRole d (q .user) downgrader) x e l (levelOf d x)
-    (λ r z. h (subst (λ (y : ℕ). Lower l (levelOf d y)) r z) (λ z. o (r ∙ z)))
-    (λ r z. absurd (lower-differs (levelOf d x) (levelOf d x) z refl))
+    case (λ (y : ℕ). Drops y (levelOf d x) → HasRole d (q .user) downgrader) x e l (levelOf d x)
+    (λ r z. h (subst (λ (y : ℕ). Drops l (levelOf d y)) r z) (λ z. o (r ∙ z)))
+    (λ r z. absurd (drops-differs (levelOf d x) (levelOf d x) z refl))
     (rw (c x) at low)
 
 -- A record that was zeroed is not present afterwards, and every other word is as it was.

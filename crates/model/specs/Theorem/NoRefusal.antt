@@ -10,8 +10,8 @@ use Rattle.model.specs.Request.Allowed.{Allowed, On}
 use Rattle.model.specs.Request.Asked.{Asked, namedTriple, operand}
 use Rattle.model.specs.Request.ConditionLaws.{any-agrees, container-agrees, createAbove-fails, createNoRoom-fails}
 use Rattle.model.specs.Request.ConditionLaws.{currentOutside-fails, deleteForbidden-fails, device-agrees, deviceAbove-fails}
-use Rattle.model.specs.Request.ConditionLaws.{deviceLowered-fails, draft-agrees, firstAbove-fails, grantNoRoom-fails, insecure-fails}
-use Rattle.model.specs.Request.ConditionLaws.{lacks-fails, levelLowered-fails, loginTaken-fails, moveInside-fails, moveNoRoom-fails}
+use Rattle.model.specs.Request.ConditionLaws.{deviceDropped-fails, draft-agrees, firstAbove-fails, grantNoRoom-fails, insecure-fails}
+use Rattle.model.specs.Request.ConditionLaws.{lacks-fails, levelDropped-fails, loginTaken-fails, moveInside-fails, moveNoRoom-fails}
 use Rattle.model.specs.Request.ConditionLaws.{notAcknowledged-fails, rolesOfAnother-fails, rolesOff-fails, rolesUnauthorised-fails}
 use Rattle.model.specs.Request.ConditionLaws.{showAbove-fails, showNoRoom-fails, showUnlabelled-fails, thing-agrees, userAbsent-fails}
 use Rattle.model.specs.Request.Form.{Between, InRange}
@@ -85,7 +85,7 @@ module _ (d : Tables) (w : WellFormed d) (s : Asked) where
       record {
         thing = t;
         levelIn = l;
-        downgrade = levelLowered-fails d s .to (h .no12);
+        downgrade = levelDropped-fails d s .to (h .no12);
         secure = insecure-fails d s levelEffect (level-wellFormed d w (s .first) (s .a) (t .0) l) .to (h .no13);
       }
   noRefusal-allowed toMark h = record { box = container-agrees d (s .first) .to (h .kinds .0); flag = h .arguments .0 }
@@ -148,7 +148,7 @@ module _ (d : Tables) (w : WellFormed d) (s : Asked) where
       record {
         screen = k;
         levelIn = l;
-        downgrade = deviceLowered-fails d s .to (h .no12);
+        downgrade = deviceDropped-fails d s .to (h .no12);
         secure = insecure-fails d s levelEffect (level-wellFormed d w (s .first) (s .a) (omega arith) l) .to (h .no13);
       }
   noRefusal-allowed toRelease h =

@@ -10,6 +10,7 @@ use lib.ListN.{length}
 use Rattle.model.specs.Basics.TestLaws.{is-false, is-true}
 use Rattle.model.specs.Request.After.{after}
 use Rattle.model.specs.Request.AfterLaws.{after-accepted, effect-by}
+use Rattle.model.specs.Request.Allowed.{Accepted}
 use Rattle.model.specs.Request.Asked.{asked}
 use Rattle.model.specs.Request.Ladder.{answer}
 use Rattle.model.specs.Request.OperationLaws.{names-found}
@@ -52,6 +53,24 @@ words-done t q e = go (sized t q) refl
         let a = sym (answerOf-sized t q s) ∙ e in
         let f = accepted-done (tablesOf t) (accepted-good (tablesOf t) (requestOf q) a (bounded t) .0) (requestOf q) a in
         (f .0, f .1, subst (Done (f .0) (asked (tablesOf t) (requestOf q)) (tablesOf t)) (sym (afterOf-tables t q s)) (f .2))
+    go false z = absurd (omega (arith, unsized t q (is-false (sized t q) z) .0))
+
+-- What an accepted step has made of the tables is the effect of the operation that it names.
+pub words-effect : (t q : List ℕ) → answerOf t q ≡ refusal.accepted
+    → (o : Op) × Accepted o (tablesOf t) (requestOf q) × (tablesOf (afterOf t q) ≡ rowOf o .effect (asked (tablesOf t) (requestOf q)) (tablesOf t))
+words-effect t q e = go (sized t q) refl
+  where
+    go : (b : Bool) → sized t q ≡ b
+        → (o : Op) × Accepted o (tablesOf t) (requestOf q) × (tablesOf (afterOf t q) ≡ rowOf o .effect (asked (tablesOf t) (requestOf q)) (tablesOf t))
+    go true z =
+        let s = is-true (sized t q) z in
+        let a = sym (answerOf-sized t q s) ∙ e in
+        let f = accepted (tablesOf t) (requestOf q) a (accepted-good (tablesOf t) (requestOf q) a (bounded t) .0) in (
+          f .0,
+          f .1,
+          afterOf-tables t q s ∙ after-accepted (tablesOf t) (requestOf q) a
+              ∙ effect-by (tablesOf t) (requestOf q) (f .0) (names-found (requestOf q) (f .0) (f .1 .meant .named)),
+        )
     go false z = absurd (omega (arith, unsized t q (is-false (sized t q) z) .0))
 
 -- The tables after an accepted request are the outcome of the operation that it names, and no other tables are.

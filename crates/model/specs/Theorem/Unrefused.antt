@@ -9,8 +9,8 @@ use Rattle.model.specs.Request.Allowed.{Allowed}
 use Rattle.model.specs.Request.Asked.{Asked, operand}
 use Rattle.model.specs.Request.ConditionLaws.{any-agrees, container-agrees, createAbove-fails, createNoRoom-fails}
 use Rattle.model.specs.Request.ConditionLaws.{currentOutside-fails, deleteForbidden-fails, device-agrees, deviceAbove-fails}
-use Rattle.model.specs.Request.ConditionLaws.{deviceLowered-fails, draft-agrees, firstAbove-fails, grantNoRoom-fails, insecure-fails}
-use Rattle.model.specs.Request.ConditionLaws.{lacks-fails, levelLowered-fails, loginTaken-fails, moveInside-fails, moveNoRoom-fails}
+use Rattle.model.specs.Request.ConditionLaws.{deviceDropped-fails, draft-agrees, firstAbove-fails, grantNoRoom-fails, insecure-fails}
+use Rattle.model.specs.Request.ConditionLaws.{lacks-fails, levelDropped-fails, loginTaken-fails, moveInside-fails, moveNoRoom-fails}
 use Rattle.model.specs.Request.ConditionLaws.{notAcknowledged-fails, rolesOfAnother-fails, rolesOff-fails, rolesUnauthorised-fails}
 use Rattle.model.specs.Request.ConditionLaws.{showAbove-fails, showNoRoom-fails, showUnlabelled-fails, thing-agrees, userAbsent-fails}
 use Rattle.model.specs.Request.Ladder.{refused}
@@ -48,7 +48,7 @@ module _ (d : Tables) (w : WellFormed d) (s : Asked) where
   )
   parts toLevel h =
       let i = insecure-fails d s levelEffect (level-wellFormed d w (s .first) (s .a) (h .thing .0) (h .levelIn)) .from (h .secure) in
-      ((thing-agrees d (s .first) .from (h .thing), tt), (levelLowered-fails d s .from (h .downgrade), (i, tt)))
+      ((thing-agrees d (s .first) .from (h .thing), tt), (levelDropped-fails d s .from (h .downgrade), (i, tt)))
   parts toMark h = ((container-agrees d (s .first) .from (h .box), tt), tt)
   parts toGrant h = ((any-agrees d (s .first) .from (h .here), tt), (grantNoRoom-fails d s .from (h .room), tt))
   parts toRevoke h = ((any-agrees d (s .first) .from (h .here), tt), tt)
@@ -74,7 +74,7 @@ module _ (d : Tables) (w : WellFormed d) (s : Asked) where
   )
   parts toDeviceLevel h =
       let i = insecure-fails d s levelEffect (level-wellFormed d w (s .first) (s .a) (omega arith) (h .levelIn)) .from (h .secure) in
-      ((device-agrees d (s .first) .from (h .screen), tt), (deviceLowered-fails d s .from (h .downgrade), (i, tt)))
+      ((device-agrees d (s .first) .from (h .screen), tt), (deviceDropped-fails d s .from (h .downgrade), (i, tt)))
   parts toRelease h = ((draft-agrees d (s .first) .from (h .box, h .draft), tt), (lacks-fails d s releasing .from (h .releaser), tt))
   parts toAcknowledge h = (tt, (notAcknowledged-fails d s .from (h .holding, (h .refusal, h .missed)), tt))
 
