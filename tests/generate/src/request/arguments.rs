@@ -39,8 +39,8 @@ impl Drawing<'_> {
         }
     }
 
-    /// A level for the operand: the one that it has, one sideways of that, or one near it in any way. Chance alone would seldom go sideways. Who
-    /// may not let the level drop is given a higher one instead most of the time, so that not too many end for want of the role.
+    /// A level for the operand: the one that it has, one sideways of that, or one near it in any way. Chance alone would seldom go sideways. Where
+    /// who may let the level drop goes sideways once more, who may not goes up, so that not too many requests end for want of the role.
     fn new_level(&mut self, first: u32) -> u32 {
         let level = entity_record(self.tables, first)[entity::LEVEL];
         let requester = user_record(self.tables, self.words[request::USER]);
