@@ -41,7 +41,7 @@ fn each_case_has_its_answer() {
         (create(0), 0),
         (Request::release(user(1), &reference("6")), 12),
         (Request::set_level(user(1), &reference("7"), level(0)), 12),
-        (Request::set_level(user(1), &reference("7"), level(1)), 0),
+        (Request::set_level(user(1), &reference("7"), level(1)), 12),
         (show(3, "5"), 6),
         (Request::login(user(3), &reference("3")), 0),
         (show(9, "5"), 4),
@@ -61,9 +61,6 @@ fn what_is_accepted_has_its_effect() {
     assert_eq!(created.contents_of(entity(7)), [entity(8)]);
     assert_eq!(created.triples_of(entity(8)), created.triples_of(entity(7)));
 
-    let (_, levelled) = asked(&Request::set_level(user(1), &reference("7"), level(1)));
-    assert_eq!(levelled.level_of(entity(7)), Some(level(1)));
-
     let (_, logged_on) = asked(&Request::login(user(3), &reference("3")));
     assert_eq!(logged_on.device_of(user(3)), Some(entity(3)));
 
@@ -80,6 +77,26 @@ fn a_releaser_releases() {
     assert_eq!(tables.step(&Request::release(user(1), &reference("6"))), Ok(()));
     assert_eq!(tables.type_of(entity(6)), Some(Type::Released));
     assert_eq!(tables.releaser_of(entity(6)), Some(user(1)));
+}
+
+#[test]
+fn a_downgrader_drops_a_level() {
+    // strictly lower, and sideways
+    for to in [level(0), level(1)] {
+        let dropping = Request::set_level(user(1), &reference("7"), to);
+        let (answer, mut tables) = asked(&dropping);
+        let refused = Notice { held: Refusal::RoleMissing, operation: Some(Operation::Level), missed: 1 };
+        assert_eq!((answer, tables.level_of(entity(7))), (12, Some(level(256))));
+        assert_eq!(tables.notice(user(1)), Some(refused));
+        assert_eq!(tables.step(&Request::set_current_roles(user(1), user(1), Roles::DOWNGRADER)), Ok(()));
+        assert_eq!(tables.step(&dropping), Ok(()));
+        assert_eq!(tables.level_of(entity(7)), Some(to));
+    }
+    // to keep the level, or to raise it, takes no role
+    for to in [level(256), level(257), level(512)] {
+        let (answer, tables) = asked(&Request::set_level(user(1), &reference("7"), to));
+        assert_eq!((answer, tables.level_of(entity(7))), (0, Some(to)));
+    }
 }
 
 #[test]

@@ -29,7 +29,7 @@ usage: differential tables SEED STEPS [wrong=NAME] [table=NUMBER]
 tables: check, step and list of tables good and bad; table=NUMBER replays one of them alone
 texts:  request texts read and written, good ones and damaged ones
 runs:   requests in one run, in pieces and in single steps, and runs of odd lengths; round=NUMBER replays one round alone
-s1:     the answers that document 01 lists for case state S1
+s1:     the answers that are listed for case state S1, by document 01 and by request M-101
 rooms:  lists of S1, of S1 with something amiss and of full tables, in rooms of every length
 wrong:  every wrong desk through tables, texts or runs, where it must be noticed
 script: tables as state.words has them, then a script of requests to them
@@ -148,7 +148,7 @@ fn run_runs(seed: &str, rounds: &str, rest: &[&str]) -> Result<Outcome, Unclear>
     Ok(runs::run(&what, Out::LOUD))
 }
 
-/// What document 01 says of S1, in single requests and in runs.
+/// What is said of S1, in single requests and in runs.
 fn run_s1() -> Outcome {
     let (single, runs) = (tables::s1::run(Out::LOUD), runs::s1::run(Out::LOUD));
     let (differences, amiss) = (single.differences + runs.differences, single.amiss + runs.amiss);

@@ -106,11 +106,11 @@ pub fn present_user(dice: &mut Dice, tables: &[u32]) -> u32 {
     any_of(dice, &users_where(tables, |record| record[user::PRESENT] != 0)).unwrap_or(1)
 }
 
-/// One of some numbers, if there are any.
-pub fn any_of(dice: &mut Dice, numbers: &[u32]) -> Option<u32> {
-    if numbers.is_empty() {
+/// One of some things, if there are any.
+pub fn any_of<T: Copy>(dice: &mut Dice, things: &[T]) -> Option<T> {
+    if things.is_empty() {
         None
     } else {
-        Some(dice.one_of(numbers))
+        Some(dice.one_of(things))
     }
 }

@@ -19,9 +19,14 @@ impl Level {
         self.rank() <= other.rank() && lacking == 0
     }
 
-    /// At most the other, and not the same.
-    pub fn strictly_below<R: Rules>(self, other: Level) -> bool {
-        self != other && self.at_most::<R>(other)
+    /// Whether a change from the old level to this one is a drop: this one is not at least the old.
+    pub fn drops_from<R: Rules>(self, old: Level) -> bool {
+        !old.at_most::<R>(self)
+    }
+
+    /// Whether neither is at most the other. A drop is sideways where this holds, and else to a strictly lower level.
+    pub fn is_sideways_of<R: Rules>(self, other: Level) -> bool {
+        !self.at_most::<R>(other) && !other.at_most::<R>(self)
     }
 
     /// The part that has an order.

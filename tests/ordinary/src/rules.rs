@@ -95,6 +95,10 @@ macro_rules! errors {
 
 errors! {
     LEVELS, Levels, "levels", Tables, "a level is taken to be lower wherever its number is";
+    SIDEWAYS, Sideways, "sideways", Tables, "an entity's level goes sideways without a downgrader";
+    ASIDE, Aside, "aside", Tables, "a device's level goes sideways without a downgrader, whoever's it is";
+    EQUAL, Equal, "equal", Tables, "to set the level that an entity has takes a downgrader";
+    OWN, Own, "own", Tables, "the own device's level goes sideways with a downgrader only";
     MARK, Mark, "mark", Tables, "a mark bars what bears it, and not what lies behind it";
     ROLES, Roles, "roles", Tables, "a role counts that is authorised, current or not";
     NOTICE, Notice, "notice", Tables, "a later refusal takes the place of the one that is held";

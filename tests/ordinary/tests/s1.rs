@@ -76,9 +76,16 @@ fn user_1_releases_6_as_a_releaser_only() {
 }
 
 #[test]
-fn user_1_sets_the_level_of_7() {
-    for (level, expected) in [(0, 12), (1, 0)] {
-        assert_eq!(answer(&mut s1(), &request(1, SET_LEVEL, &[7], &[], [level, 0, 0])), expected, "to {}", level);
+fn user_1_drops_the_level_of_7_as_a_downgrader_only() {
+    // Strictly lower, and sideways.
+    for level in [0, 1] {
+        let set_level = request(1, SET_LEVEL, &[7], &[], [level, 0, 0]);
+        let mut tables = s1();
+        assert_eq!(answer(&mut tables, &set_level), 12, "to {}", level);
+        assert_eq!((notice(&tables, 1), entity_word(&tables, 7, entity::LEVEL)), ([12, SET_LEVEL, 1], 256));
+        assert_eq!(answer(&mut tables, &request(1, CURRENT_ROLES, &[], &[], [1, 2, 0])), 0);
+        assert_eq!(answer(&mut tables, &set_level), 0, "to {}", level);
+        assert_eq!((notice(&tables, 1), entity_word(&tables, 7, entity::LEVEL)), ([12, SET_LEVEL, 1], level));
     }
 }
 

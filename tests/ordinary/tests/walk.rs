@@ -5,10 +5,10 @@ mod common;
 use common::random::{first_tables, follow, operand, permit, random_request, BEYOND};
 use common::*;
 use generate::layout::{
-    entity, entity_base, kind, op, refusal, request, triple, user, user_base, ENTITIES, NAMES, NOTICE_WORDS,
-    OPERATION_MOST, PLACES, STEP_MOST, USERS,
+    at_most, entity, entity_base, kind, op, refusal, request, role, triple, user, user_base, ENTITIES, NAMES,
+    NOTICE_WORDS, OPERATION_MOST, PLACES, STEP_MOST, USERS,
 };
-use generate::view::{is_on, users_where};
+use generate::view::{is_on, user_record, users_where};
 use generate::Dice;
 use ordinary::{advance, check, list, step, Right, ENTRY_WORDS};
 
@@ -32,6 +32,20 @@ fn compare_with_whole_check(before: &Tables, request: &[u32], given: u32) {
     match given {
         refusal::ACCEPTED => assert_eq!(check::<Right>(&changed).answer, refusal::ACCEPTED),
         refusal::LEVEL_OR_ROLES => assert_eq!(check::<Right>(&changed).answer, refusal::NOT_SECURE),
+        _ => (),
+    }
+}
+
+/// A level that drops takes a downgrader, but for the own device: 12 says that and nothing else, and is said first.
+fn compare_drop(before: &Tables, request: &[u32], given: u32) {
+    let is_judged = [refusal::ACCEPTED, refusal::ROLE_MISSING, refusal::LEVEL_OR_ROLES].contains(&given);
+    match (request[request::OPERATION], operand(before, request)) {
+        (op::SET_LEVEL, Some(entity)) | (op::DEVICE_LEVEL, Some(entity)) if is_judged => {
+            let requester = user_record(before, request[request::USER]);
+            let drops = !at_most(entity_word(before, entity, entity::LEVEL), request[request::A]);
+            let free = requester[user::CURRENT] & role::DOWNGRADER != 0 || requester[user::DEVICE] == entity;
+            assert_eq!(given == refusal::ROLE_MISSING, drops && !free, "{:?} with {}", request, given);
+        }
         _ => (),
     }
 }
@@ -106,6 +120,7 @@ impl Walk {
         let given = step::<Right>(&mut self.tables, &request).answer;
         assert_eq!(check::<Right>(&self.tables), accepted(0), "after {:?} with {}", request, given);
         compare_with_whole_check(&before, &request, given);
+        compare_drop(&before, &request, given);
         if given != refusal::ACCEPTED {
             compare_notice(&before, &self.tables, &request, given);
         }

@@ -86,8 +86,33 @@ impl Request {
         Request::made(user, Operation::Copy, [from, to], NOTHING)
     }
 
-    /// 6: the entity has this level [rule 6.6]. Its own refusals: 12 where that is strictly lower and the requester is
-    /// no downgrader, 13 where the tables would not be secure.
+    /// 6: the entity has this level [rule 6.6]. Its own refusals: 12 where that is a drop and the requester is no
+    /// downgrader, 13 where the tables would not be secure.
+    ///
+    /// A level drops where the new one is not at least the old one: it is strictly lower, or goes sideways, so that
+    /// neither is at most the other. Then a rank or a compartment is lost. To set the level that it has is no drop.
+    ///
+    /// ```
+    /// use mms::{Entity, Level, Operation, Position, Refusal, Request, Roles, Tables, Triple, User};
+    ///
+    /// fn main() -> Result<(), Box<dyn std::error::Error>> {
+    ///     let (user, device, finding) = (User::try_from(1)?, Entity::try_from(1)?, Entity::try_from(2)?);
+    ///     let mut tables = Tables::empty();
+    ///     tables.put_device(device, Level::HIGHEST, Level::HIGHEST);
+    ///     tables.put_user(user, Level::HIGHEST, Roles::DOWNGRADER);
+    ///     tables.put_on(user, device, Roles::NONE);
+    ///     tables.put_object(finding, Level::try_from(256)?);
+    ///     tables.put_triple(finding, Triple::new(user, Operation::Level, Position::First))?;
+    ///
+    ///     // from rank 1 to rank 0 with a compartment: sideways
+    ///     let sideways = Request::set_level(user, &finding.into(), Level::try_from(1)?);
+    ///     assert_eq!(tables.step(&sideways), Err(Refusal::RoleMissing));
+    ///     tables.step(&Request::set_current_roles(user, user, Roles::DOWNGRADER))?;
+    ///     tables.step(&sideways)?;
+    ///     assert_eq!(tables.level_of(finding), Level::from_number(1));
+    ///     Ok(())
+    /// }
+    /// ```
     pub fn set_level(user: User, entity: &Reference, level: Level) -> Request {
         Request::made(user, Operation::Level, [entity, NONE], [level.number(), 0, 0])
     }
@@ -155,8 +180,9 @@ impl Request {
         Request::made(user, Operation::Maximum, [device, NONE], [maximum.number(), 0, 0])
     }
 
-    /// 18: the device has this level [rule 6.18]. Its own refusals: 12 where that is strictly lower, the device is not
-    /// the requester's and the requester is no downgrader, 13 where the tables would not be secure.
+    /// 18: the device has this level [rule 6.18]. Its own refusals: 12 where that is a drop, as in
+    /// [`set_level`](Request::set_level), the device is not the requester's and the requester is no downgrader, 13
+    /// where the tables would not be secure.
     pub fn set_device_level(user: User, device: &Reference, level: Level) -> Request {
         Request::made(user, Operation::DeviceLevel, [device, NONE], [level.number(), 0, 0])
     }

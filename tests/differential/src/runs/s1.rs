@@ -1,7 +1,7 @@
-//! What document 01 says of case state S1 in several requests, each time asked of both desks in one run.
+//! What document 01, as request M-101 has changed it, says of case state S1 in several requests, each time asked of both desks in one run.
 use crate::outcome::{Out, Outcome};
 use crate::side::Side;
-use crate::tables::s1::{acknowledge, release_6, request, show, Words};
+use crate::tables::s1::{acknowledge, current_roles_of_1, level_of_7, release_6, show, Words};
 use generate::layout::{entity, entity_base, op, types, user, user_base};
 use generate::s1;
 use ordinary::{Reply, Right};
@@ -33,15 +33,29 @@ fn released(held: u32) -> Vec<(usize, u32)> {
     vec![(base + entity::TYPE, types::RELEASED), (base + entity::RELEASER, 1), of_user(1, user::HELD, held)]
 }
 
+/// 7 must have this level, and user 1 two drops of it refused.
+fn dropped(level: u32) -> Vec<(usize, u32)> {
+    let of_7 = (entity_base(7) + entity::LEVEL, level);
+    vec![of_7, of_user(1, user::HELD, 12), of_user(1, user::HELD_OPERATION, op::SET_LEVEL), of_user(1, user::MISSED, 2)]
+}
+
 /// All of them.
 fn cases() -> Vec<Case> {
     let (marked, unlabelled) = (show(2, &[4, 1], 3), show(2, &[5], 1));
-    let roles = request(1, op::CURRENT_ROLES, [&[], &[]], [1, 5]);
+    let (roles, downgrader) = (current_roles_of_1(5), current_roles_of_1(3));
+    let (lower, sideways) = (level_of_7(0), level_of_7(1));
     let case = |what, requests, answers, left| Case { what, requests, answers, left };
     vec![
         case("no request", vec![], vec![], notice(0, 0, 0)),
         case("release after current roles 5", vec![roles, release_6()], vec![0, 0], released(0)),
         case("release, and again after", vec![release_6(), roles, release_6()], vec![12, 0, 0], released(12)),
+        case("levels that drop", vec![lower, sideways], vec![12, 12], dropped(256)),
+        case(
+            "levels that drop, and again after current roles 3",
+            vec![lower, sideways, downgrader, sideways],
+            vec![12, 12, 0, 0],
+            dropped(1),
+        ),
         case("9, then 15", vec![marked, unlabelled], vec![9, 15], notice(9, op::SHOW, 2)),
         case(
             "9, then 15, acknowledged as 9,1",
@@ -78,7 +92,7 @@ pub fn run(out: Out) -> Outcome {
     for side in [Side::Ordinary(&Right), Side::Proved] {
         let wrong: Vec<&Case> = cases.iter().filter(|case| !case.holds(side)).collect();
         for case in &wrong {
-            let line = format!("{}: run, {}: not as document 01 says", side.name(), case.what);
+            let line = format!("{}: run, {}: not as it must be", side.name(), case.what);
             out.line(format_args!("{}", line));
             outcome.first.get_or_insert(line);
             outcome.differences += 1;

@@ -1,10 +1,11 @@
 //! Corners of the rules that a run must have been to: a cell of operation and answer says nothing of them.
 use crate::outcome::Out;
 use generate::layout::{
-    at_most, entity, kind, op, refusal, request, role, triple, user, ENTITIES, MISSED_MOST, NAMES, OPERATION_MOST,
-    PLACES, TRIPLES,
+    at_most, entity, kind, op, refusal, request, role, triple, user, COMPARTMENT_BITS, ENTITIES, MISSED_MOST, NAMES,
+    OPERATION_MOST, PLACES, TRIPLES,
 };
 use generate::view::{contents, entity_record, is_full_container, place_in, triples, user_record, Holders};
+use std::cmp::Ordering;
 
 /// A step that both desks did alike, by a requester who is present.
 pub struct Done<'a> {
@@ -35,12 +36,12 @@ impl Done<'_> {
         user_record(self.before, self.request[request::USER])
     }
 
-    /// Did the requester act with a role?
-    fn has_role(&self, role: u32) -> bool {
-        self.requester()[user::CURRENT] & role != 0
+    /// Did the requester act as a downgrader?
+    fn is_by_downgrader(&self) -> bool {
+        self.requester()[user::CURRENT] & role::DOWNGRADER != 0
     }
 
-    /// The entity that an accepted request names.
+    /// The entity that a request names which got past rung 7.
     fn operand(&self, at: usize) -> u32 {
         let names = &self.request[at + 1..at + 1 + self.request[at] as usize];
         let further = &names[1..];
@@ -82,24 +83,55 @@ impl Done<'_> {
         triples(self.first()).contains(&self.asked_triple())
     }
 
-    /// Was the level asked for strictly lower than the old one?
-    fn is_lower_than_first(&self) -> bool {
-        let (new, old) = (self.request[request::A], self.first()[entity::LEVEL]);
-        new != old && at_most(new, old)
+    /// The level asked for, and the old one.
+    fn levels(&self) -> [u32; 2] {
+        [self.request[request::A], self.first()[entity::LEVEL]]
     }
 
-    /// Were the level asked for and the old one incomparable?
-    fn is_beside_first(&self) -> bool {
-        let (new, old) = (self.request[request::A], self.first()[entity::LEVEL]);
-        !at_most(new, old) && !at_most(old, new)
+    /// How the level asked for stands to the old one.
+    fn change(&self) -> Change {
+        let [new, old] = self.levels();
+        match (at_most(new, old), at_most(old, new)) {
+            (true, true) => Change::Equal,
+            (true, false) => Change::Lower,
+            (false, true) => Change::Higher,
+            (false, false) => Change::Sideways,
+        }
     }
+
+    /// Was it this operation on a level, answered so, and such a change?
+    fn changes(&self, operation: u32, given: u32, change: Change) -> bool {
+        self.is(operation, given) && self.change() == change
+    }
+
+    /// Was an entity's level to go sideways, with a rank that stands so to the old one, and refused for the role?
+    fn is_sideways_refused(&self, rank: Ordering) -> bool {
+        self.changes(op::SET_LEVEL, refusal::ROLE_MISSING, Change::Sideways) && {
+            let [new, old] = self.levels().map(|level| level >> COMPARTMENT_BITS);
+            new.cmp(&old) == rank
+        }
+    }
+
+    /// Was the operand the requester's own device?
+    fn is_of_own_device(&self) -> bool {
+        self.operand(request::FIRST) == self.requester()[user::DEVICE]
+    }
+}
+
+/// How a new level stands to the old one. It drops where it is strictly lower or sideways.
+#[derive(Clone, Copy, PartialEq, Eq)]
+enum Change {
+    Equal,
+    Higher,
+    Lower,
+    Sideways,
 }
 
 /// A corner: its name, and how to know it.
 type Corner = (&'static str, fn(&Done) -> bool);
 
 /// All corners, with the rules that they belong to.
-const CORNERS: [Corner; 26] = [
+const CORNERS: [Corner; 34] = [
     ("a refusal where another is held [8.2]", |d| {
         d.is_refused() && d.requester()[user::HELD] != 0 && d.requester()[user::HELD] != d.given
     }),
@@ -144,9 +176,13 @@ const CORNERS: [Corner; 26] = [
     ("a copy of something to itself [6.5]", |d| {
         d.accepted(op::COPY) && d.operand(request::FIRST) == d.operand(request::SECOND)
     }),
-    ("a strictly lower level, by a downgrader [6.6]", |d| d.accepted(op::SET_LEVEL) && d.is_lower_than_first()),
-    ("a level beside the old one, without a downgrader [6.6]", |d| {
-        d.accepted(op::SET_LEVEL) && d.is_beside_first() && !d.has_role(role::DOWNGRADER)
+    ("a strictly lower level, by a downgrader [6.6]", |d| d.changes(op::SET_LEVEL, refusal::ACCEPTED, Change::Lower)),
+    ("a level sideways, by a downgrader [6.6]", |d| d.changes(op::SET_LEVEL, refusal::ACCEPTED, Change::Sideways)),
+    ("a level sideways, its rank lower, refused for the role [6.6]", |d| d.is_sideways_refused(Ordering::Less)),
+    ("a level sideways, its rank the same, refused for the role [6.6]", |d| d.is_sideways_refused(Ordering::Equal)),
+    ("a level sideways, its rank higher, refused for the role [6.6]", |d| d.is_sideways_refused(Ordering::Greater)),
+    ("the level that it has, without a downgrader [6.6]", |d| {
+        d.changes(op::SET_LEVEL, refusal::ACCEPTED, Change::Equal) && !d.is_by_downgrader()
     }),
     ("a grant of what is there among eight [6.8]", |d| {
         d.accepted(op::GRANT) && d.holds_asked_triple() && triples(d.first()).len() == TRIPLES as usize
@@ -162,11 +198,22 @@ const CORNERS: [Corner; 26] = [
     ("current roles of somebody else, by an officer [6.14]", |d| {
         d.accepted(op::CURRENT_ROLES) && d.request[request::A] != d.request[request::USER]
     }),
-    ("a lower level of the own device, without a downgrader [6.18]", |d| {
-        d.accepted(op::DEVICE_LEVEL)
-            && d.is_lower_than_first()
-            && d.operand(request::FIRST) == d.requester()[user::DEVICE]
-            && !d.has_role(role::DOWNGRADER)
+    ("a strictly lower level of the own device, without a downgrader [6.18]", |d| {
+        d.changes(op::DEVICE_LEVEL, refusal::ACCEPTED, Change::Lower) && d.is_of_own_device() && !d.is_by_downgrader()
+    }),
+    ("a level sideways of the own device, without a downgrader [6.18]", |d| {
+        d.changes(op::DEVICE_LEVEL, refusal::ACCEPTED, Change::Sideways)
+            && d.is_of_own_device()
+            && !d.is_by_downgrader()
+    }),
+    ("a level sideways of another device, by a downgrader [6.18]", |d| {
+        d.changes(op::DEVICE_LEVEL, refusal::ACCEPTED, Change::Sideways) && !d.is_of_own_device()
+    }),
+    ("a level sideways of another device, refused for the role [6.18]", |d| {
+        d.changes(op::DEVICE_LEVEL, refusal::ROLE_MISSING, Change::Sideways)
+    }),
+    ("the level that another device has, without a downgrader [6.18]", |d| {
+        d.changes(op::DEVICE_LEVEL, refusal::ACCEPTED, Change::Equal) && !d.is_of_own_device() && !d.is_by_downgrader()
     }),
     ("an acknowledgement by somebody who is off [6.20]", |d| {
         d.accepted(op::ACKNOWLEDGE) && d.requester()[user::DEVICE] == 0

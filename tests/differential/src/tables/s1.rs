@@ -1,5 +1,6 @@
-//! Case state S1 and every answer that document 01 gives for it, asked of both desks. The disclosure list is asked twice: by its own call, and
-//! by its meaning, which is the references whose show is answered 0 or 14.
+//! Case state S1 and every answer that document 01 gives for it, asked of both desks. One answer has changed since: the level of 7 to 1 is a drop
+//! sideways, which takes a downgrader [request M-101]. The disclosure list is asked twice: by its own call, and by its meaning, which is the
+//! references whose show is answered 0 or 14.
 use super::by_step::{by_ordinary_step, by_proved_step};
 use crate::guarded::Guarded;
 use crate::outcome::{Out, Outcome};
@@ -63,7 +64,7 @@ pub const LISTS: [ListCase; 8] = [
 ];
 
 /// A request with these operands and arguments.
-pub fn request(requester: u32, operation: u32, operands: [&[u32]; 2], arguments: [u32; 2]) -> Words {
+fn request(requester: u32, operation: u32, operands: [&[u32]; 2], arguments: [u32; 2]) -> Words {
     let mut words = [0; REQUEST_WORDS];
     words[request::USER] = requester;
     words[request::OPERATION] = operation;
@@ -93,6 +94,11 @@ pub fn release_6() -> Words {
     request(1, op::RELEASE, [&[6], &[]], [0, 0])
 }
 
+/// User 1 takes these roles on.
+pub fn current_roles_of_1(roles: u32) -> Words {
+    request(1, op::CURRENT_ROLES, [&[], &[]], [1, roles])
+}
+
 /// User 2 copies 5 to 7.
 fn copy_5_to_7() -> Words {
     request(2, op::COPY, [&[5], &[7]], [0, 0])
@@ -104,7 +110,7 @@ fn create_in_7(level: u32) -> Words {
 }
 
 /// User 1 sets the level of 7.
-fn level_of_7(level: u32) -> Words {
+pub fn level_of_7(level: u32) -> Words {
     request(1, op::SET_LEVEL, [&[7], &[]], [level, 0])
 }
 
@@ -126,7 +132,7 @@ fn single_requests() -> Vec<(&'static str, Words, u32)> {
         ("user 2 create in 7, level 0", create_in_7(0), 0),
         ("user 1 release 6", release_6(), 12),
         ("user 1 level of 7 to 0", level_of_7(0), 12),
-        ("user 1 level of 7 to 1", level_of_7(1), 0),
+        ("user 1 level of 7 to 1", level_of_7(1), 12),
         ("user 3 show 5", show(3, &[5], 3), 6),
         ("user 3 login 3", request(3, op::LOGIN, [&[3], &[]], [0, 0]), 0),
         ("user 9 show 5", show(9, &[5], 3), 4),
@@ -198,7 +204,7 @@ impl Trial<'_> {
     /// The release that is accepted after a change of roles.
     fn check_release(&mut self) {
         self.tables = s1();
-        let given = self.ask(&request(1, op::CURRENT_ROLES, [&[], &[]], [1, 5]));
+        let given = self.ask(&current_roles_of_1(5));
         self.expect("user 1 current roles 5", given, 0);
         let given = self.ask(&release_6());
         self.expect("user 1 release 6 after that", given, 0);
@@ -206,12 +212,24 @@ impl Trial<'_> {
         self.expect("releaser of 6 after that", self.entity(6, entity::RELEASER), 1);
     }
 
-    /// Asks user 2's request, and expects the answer and what is then held and how many were missed.
+    /// Asks a request, and expects the answer and what the requester then has held and how many were missed.
     fn expect_notice(&mut self, what: &str, request: &Words, wanted: [u32; 3]) {
         let given = self.ask(request);
+        let requester = request[request::USER];
         self.expect(what, given, wanted[0]);
-        self.expect(&format!("held after {}", what), self.user(2, user::HELD), wanted[1]);
-        self.expect(&format!("missed after {}", what), self.user(2, user::MISSED), wanted[2]);
+        self.expect(&format!("held after {}", what), self.user(requester, user::HELD), wanted[1]);
+        self.expect(&format!("missed after {}", what), self.user(requester, user::MISSED), wanted[2]);
+    }
+
+    /// Drops of a level: refused for want of a downgrader, and accepted of one.
+    fn check_drops(&mut self) {
+        self.tables = s1();
+        self.expect_notice("level of 7 to 0", &level_of_7(0), [12, 12, 1]);
+        self.expect_notice("level of 7 to 1", &level_of_7(1), [12, 12, 2]);
+        self.expect("level of 7 after both", self.entity(7, entity::LEVEL), 256);
+        self.expect_notice("user 1 current roles 3", &current_roles_of_1(3), [0, 12, 2]);
+        self.expect_notice("level of 7 to 1 after that", &level_of_7(1), [0, 12, 2]);
+        self.expect("level of 7 after that", self.entity(7, entity::LEVEL), 1);
     }
 
     /// Two refusals, a wrong acknowledgement and a right one.
@@ -249,11 +267,12 @@ impl Trial<'_> {
         }
     }
 
-    /// All that document 01 says of S1.
+    /// All that is said of S1.
     fn check_all(&mut self) {
         self.check_single_requests();
         self.check_effects();
         self.check_release();
+        self.check_drops();
         self.check_notice();
         self.check_script();
         for case in &LISTS {

@@ -1,6 +1,9 @@
 //! Arguments that lie in their ranges, and mostly let the operation succeed.
 use super::Drawing;
-use crate::layout::{entity, op, parts_of, request, sort, user, OPERATION_MOST, ROLES_MOST, SUM_MOST, USERS, WHO_MOST};
+use crate::layout::{
+    entity, kind, op, parts_of, request, role, sort, user, LEVEL_MOST, OPERATION_MOST, ROLES_MOST, SUM_MOST, USERS,
+    WHO_MOST,
+};
 use crate::view::{entity_record, present_user, triples, user_record};
 use crate::{levels, Dice};
 
@@ -22,7 +25,8 @@ impl Drawing<'_> {
                     if inside { levels::lower(self.dice, level) } else { levels::near(self.dice, level) };
             }
             EDIT => self.words[request::A] = self.odd_word(),
-            SET_LEVEL | MAXIMUM | DEVICE_LEVEL => {
+            SET_LEVEL | DEVICE_LEVEL => self.words[request::A] = self.new_level(first),
+            MAXIMUM => {
                 self.words[request::A] = if self.dice.chance(25) { level } else { levels::near(self.dice, level) }
             }
             SET_MARK => self.words[request::A] = self.dice.below(2),
@@ -32,6 +36,38 @@ impl Drawing<'_> {
             CURRENT_ROLES | CLEARANCE | AUTHORISED_ROLES => self.fill_user(),
             ACKNOWLEDGE => self.fill_acknowledgement(),
             _ => (),
+        }
+    }
+
+    /// A level for the operand: the one that it has, one sideways of that, or one near it in any way. Chance alone would seldom go sideways. Where
+    /// who may let the level drop goes sideways once more, who may not goes up, so that not too many requests end for want of the role.
+    fn new_level(&mut self, first: u32) -> u32 {
+        let level = entity_record(self.tables, first)[entity::LEVEL];
+        let requester = user_record(self.tables, self.words[request::USER]);
+        let may_drop = requester[user::CURRENT] & role::DOWNGRADER != 0 || requester[user::DEVICE] == first;
+        match self.dice.below(100) {
+            0..=24 => level,
+            25..=39 => self.sideways(first),
+            40..=64 if may_drop => self.sideways(first),
+            40..=64 => levels::higher(self.dice, level),
+            _ => levels::near(self.dice, level),
+        }
+    }
+
+    /// A level sideways of the operand's, mostly one that what holds the operand has room for; where there is none, any that is near.
+    fn sideways(&mut self, first: u32) -> u32 {
+        let level = entity_record(self.tables, first)[entity::LEVEL];
+        let most = if self.dice.chance(75) { self.level_above(first) } else { LEVEL_MOST };
+        levels::sideways(self.dice, level, most).unwrap_or_else(|| levels::near(self.dice, level))
+    }
+
+    /// What the level of an entity must be at most: that of its container, and the maximum of a device.
+    fn level_above(&self, number: u32) -> u32 {
+        let record = entity_record(self.tables, number);
+        match self.holders.container_of(number) {
+            _ if record[entity::KIND] == kind::DEVICE => record[entity::MAXIMUM],
+            Some(holder) => entity_record(self.tables, holder)[entity::LEVEL],
+            None => LEVEL_MOST,
         }
     }
 

@@ -21,11 +21,13 @@ pub fn copy<R: Rules>(turn: &mut Turn, from: Entity, to: Entity) -> Result<(), R
     Ok(())
 }
 
-/// Sets the entity's level. To lower it needs a downgrader [rule 6.6].
+/// Sets the entity's level. A drop needs a downgrader, also one sideways: a rank or a compartment is lost either way
+/// [rule 6.6].
 pub fn level<R: Rules>(turn: &mut Turn, entity: Entity) -> Result<(), Refusal> {
-    let new = Level(turn.a());
-    let lowers = new.strictly_below::<R>(turn.level_of(entity));
-    Refusal::RoleMissing.unless(!lowers || turn.has_role::<R>(role::DOWNGRADER))?;
+    let (old, new) = (turn.level_of(entity), Level(turn.a()));
+    let excepted = R::SIDEWAYS && new.is_sideways_of::<R>(old);
+    let drops = new.drops_from::<R>(old) && !excepted || R::EQUAL && new == old;
+    Refusal::RoleMissing.unless(!drops || turn.has_role::<R>(role::DOWNGRADER))?;
     Refusal::LevelOrRoles.unless(stays_secure::<R>(turn.tables, entity, new))?;
     turn.entity_mut(entity)[entity::LEVEL] = new.0;
     Ok(())
@@ -61,15 +63,16 @@ pub fn maximum<R: Rules>(turn: &mut Turn, device: Entity) -> Result<(), Refusal>
     Ok(())
 }
 
-/// Sets the device's level. To lower it needs a downgrader, but for the device that the requester is on [rule 6.18].
+/// Sets the device's level. A drop needs a downgrader, but for the device that the requester is on [rule 6.18].
 ///
 /// Of all that makes tables secure, only the device's maximum and what it shows are compared with its level, since no
 /// device stands in a place.
 pub fn device_level<R: Rules>(turn: &mut Turn, device: Entity) -> Result<(), Refusal> {
-    let new = Level(turn.a());
-    let lowers = new.strictly_below::<R>(turn.level_of(device));
-    let free = device == turn.own_device() || turn.has_role::<R>(role::DOWNGRADER);
-    Refusal::RoleMissing.unless(!lowers || free)?;
+    let (old, new) = (turn.level_of(device), Level(turn.a()));
+    let sideways = new.is_sideways_of::<R>(old);
+    let drops = new.drops_from::<R>(old) && !(R::ASIDE && sideways);
+    let own = device == turn.own_device() && !(R::OWN && sideways);
+    Refusal::RoleMissing.unless(!drops || own || turn.has_role::<R>(role::DOWNGRADER))?;
     let words = turn.entity(device);
     let secure =
         new.at_most::<R>(Level(words[entity::MAXIMUM])) && secure::contents_are_at_most::<R>(turn.tables, words, new);
