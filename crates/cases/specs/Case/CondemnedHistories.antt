@@ -1,28 +1,30 @@
 -- Document 02, M-101; rule 9.15: wrong histories of case state S1, in which a level is lost that nobody accounts for, and that the statement rejects them; and
 -- a right one, with the request that accounts for it.
-use mathlib.Core.Bool.{Bool, false, true}
+use mathlib.Core.Bool.{Bool, _&&_, false, true}
 use mathlib.Core.List.{[], _∷_}
 use mathlib.Core.Logic.{_≢_, inl, inr}
-use mathlib.Core.Path.{_≡_, refl, subst, sym}
-use Prim.Native.Nat.{_<_, suc, zero, ℕ}
+use mathlib.Core.Path.{_∙_, _≡_, refl, subst, sym}
+use Prim.Native.Nat.{_+_, _<_, suc, zero, ℕ}
 use native.Mathlib.Omega.{arith}
-use lib.Dec.{eqb}
+use lib.Dec.{T, eqb, leb}
 use Rattle.cases.specs.Case.Cases.{ask, at}
 use Rattle.cases.specs.Case.Condemned.{differ, s1With}
 use Rattle.cases.specs.Case.Opened.{opened}
 use Rattle.cases.specs.Case.S1.{s1, s1Sheet}
 use Rattle.cases.specs.Case.S1Holds.{s1-good}
+use Rattle.model.specs.Basics.Agree.{agrees-and, agrees-eq}
 use Rattle.model.specs.Basics.Cases.{cases, lt-or-le}
 use Rattle.model.specs.Basics.Choice.{pick}
+use Rattle.model.specs.Basics.TestLaws.{T-l, T-r}
 use Rattle.model.specs.Level.{Drops}
-use Rattle.model.specs.LevelLaws.{drops-differs}
+use Rattle.model.specs.LevelLaws.{drops-differs, incomparable}
 use Rattle.model.specs.Request.After.{after}
 use Rattle.model.specs.Request.Conditions.{levelOf}
 use Rattle.model.specs.Request.Ladder.{answer}
 use Rattle.model.specs.Request.Words.{Request}
 use Rattle.model.specs.State.Agree.{wellFormed-bounded}
 use Rattle.model.specs.Tables.Edits.{onEntity, onUser, userWord, word}
-use Rattle.model.specs.Tables.Words.{Tables, absentKind, device, kinds, level}
+use Rattle.model.specs.Tables.Words.{Tables, absentKind, containerKind, device, kinds, level}
 use Rattle.model.specs.Theorem.Accountable.{Accountable, Accounted, MayDrop, Throughout, levelAt}
 use Rattle.model.specs.Theorem.AccountableLaws.{history-accountable}
 use Rattle.model.specs.Theorem.Definitions.{History}
@@ -123,19 +125,51 @@ unfoldable pub right : ℕ → Tables
 right zero = s1
 right (suc i) = after (right i) (rightAsks i)
 
+-- the level that 7 has before request i
+abbrev rightLevel : ℕ → ℕ
+rightLevel i = pick (leb i 1) (at 1 0) (at 0 1)
+
+-- 7 is a container of the level l
+abbrev stands : Tables → ℕ → Bool
+stands d l = eqb (kinds d 7) containerKind && eqb (levelOf d 7) l
+
+-- so it is at n moments from the tables d of moment i on; the tables are handed on, so that they are computed once
+abbrev along : ℕ → Tables → ℕ → Bool
+along zero d i = true
+along (suc n) d i = stands d (rightLevel i) && along n (after d (rightAsks i)) (suc i)
+
+right-stands : T (along 4 s1 0)
+unfolding opened s1 s1Sheet rightAsks
+right-stands = tt
+
+-- what stands at moment j
+abbrev At : ℕ → Type 0
+At j = T (stands (right j) (rightLevel j))
+
+along-at : (n i : ℕ) → T (along n (right i) i) → (k : ℕ) → k < n → At (k + i)
+unfolding right
+along-at zero i t k h = absurd (omega arith)
+along-at (suc n) i t zero h =
+    let e : i ≡ 0 + i = omega arith in
+    subst At e (T-l (stands (right i) (rightLevel i)) (along n (right (suc i)) (suc i)) t)
+along-at (suc n) i t (suc k) h =
+    let e : k + suc i ≡ suc k + i = omega arith in
+    subst At e (along-at n (suc i) (T-r (stands (right i) (rightLevel i)) (along n (right (suc i)) (suc i)) t) k (omega arith))
+
+right-at : (k : ℕ) → k < 4 → (kinds (right k) 7 ≡ containerKind) × (levelAt right 7 k ≡ rightLevel k)
+unfolding right
+right-at k h =
+    let e : k + 0 ≡ k = omega arith in
+    let t = subst At e (along-at 4 0 right-stands k h) in
+    agrees-and (agrees-eq (kinds (right k) 7) containerKind) (agrees-eq (levelAt right 7 k) (rightLevel k)) .to t
+
 -- 7 is there throughout,
 pub right-there : Throughout 3 right 7
-unfolding opened s1 s1Sheet right rightAsks
-right-there zero h = differ 2 0 tt
-right-there (suc zero) h = differ 2 0 tt
-right-there (suc (suc zero)) h = differ 2 0 tt
-right-there (suc (suc (suc zero))) h = differ 2 0 tt
-right-there (suc (suc (suc (suc i)))) h = absurd (omega arith)
+right-there i h = let e = right-at i (omega arith) .0 in omega arith
 
 -- and its level is not what it was.
 pub right-lost : Drops (levelAt right 7 3) (levelAt right 7 0)
-unfolding opened s1 s1Sheet right rightAsks
-right-lost = λ t. t
+right-lost = rw (right-at 3 (omega arith) .1, right-at 0 (omega arith) .1) (incomparable .0)
 
 -- So one of the three requests accounts for it,
 pub right-accounted : Accounted 3 right rightAsks (λ i. answer (right i) (rightAsks i)) 7
@@ -146,11 +180,11 @@ right-accounted =
 
 -- which is the second.
 pub right-second : (z : Accounted 3 right rightAsks (λ i. answer (right i) (rightAsks i)) 7) → z .moment ≡ 1
-unfolding opened s1 s1Sheet right rightAsks
 right-second z = go (z .moment) refl (z .among)
   where
     go : (m : ℕ) → m ≡ z .moment → m < 3 → m ≡ 1
-    go zero e h = absurd (subst (λ (i : ℕ). Drops (levelAt right 7 (suc i)) (levelAt right 7 0)) (sym e) (z .lost) tt)
+    go zero e h = absurd (drops-differs (levelAt right 7 1) (levelAt right 7 0)
+        (subst (λ (i : ℕ). Drops (levelAt right 7 (suc i)) (levelAt right 7 0)) (sym e) (z .lost)) (right-at 1 (omega arith) .1 ∙ sym (right-at 0 (omega arith) .1)))
     go (suc zero) e h = refl
-    go (suc (suc zero)) e h = absurd (z .until 2 (omega arith))
+    go (suc (suc zero)) e h = absurd (incomparable .0 (rw (right-at 0 (omega arith) .1, right-at 2 (omega arith) .1) at (z .until 2 (omega arith))))
     go (suc (suc (suc i))) e h = absurd (omega arith)
