@@ -13,16 +13,16 @@ use Rattle.mms.specs.HistoryLaws.{calls-obey, calls-sound}
 use Rattle.mms.specs.MixedLaws.{begins-history, singly-accountable, singly-through, through-run}
 use Rattle.mms.specs.ScriptLaws.{requests-length, runs-calls}
 use Rattle.model.specs.Basics.Together.{together}
+use Rattle.model.specs.Request.Words.{requestOf}
 use Rattle.model.specs.Run.Requests.{AllSixteen}
 use Rattle.model.specs.Run.RequestsLaws.{sixteen-take}
-use Rattle.model.specs.Request.Words.{requestOf}
 use Rattle.model.specs.Script.Reports.{Report, answersIn, output, unread}
 use Rattle.model.specs.Script.Runs.{Answered, Outputs, Runs, cut, requests, whole}
 use Rattle.model.specs.Tables.Layout.{tablesOf, wordCount}
-use Rattle.model.specs.Theorem.Accountable.{Accountable}
 use Rattle.model.specs.Text.Wording.{Wording, badLine, lines, readSeven}
 use Rattle.model.specs.Text.WordingLaws.{text-there}
 use Rattle.model.specs.Text.WordsLaws.{sixteen-length}
+use Rattle.model.specs.Theorem.Accountable.{Accountable}
 
 -- the requests of wordings have sixteen words
 requests-sixteen : (ms : List Wording) → AllSixteen (requests ms)

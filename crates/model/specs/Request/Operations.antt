@@ -1,4 +1,5 @@
--- Document 01, "The request and its operations"; rule 6: the twenty operations, and their table: operands, arguments, own conditions, effect.
+-- Document 01, "The request and its operations"; document 02, M-101; rule 6: the twenty operations, and their table: operands, arguments, own conditions,
+-- effect.
 use mathlib.Core.Bool.{Bool, _||_, false, true}
 use mathlib.Core.List.{List, [], _∷_}
 use mathlib.Core.Option.{Option, none, some}

@@ -13,7 +13,7 @@ use Rattle.model.specs.Request.Allowed.{Operand}
 use Rattle.model.specs.Request.Applies.{Full, Own, Suits, WithEntity, WithUser, acknowledgeNothing, acknowledgeNumber, acknowledgeOther}
 use Rattle.model.specs.Request.Applies.{authorisedAbsent, authorisedOutside, authorisedRole, clearanceAbsent, clearanceInsecure, clearanceRole, copyAbove}
 use Rattle.model.specs.Request.Applies.{createAbove, createNumber, createPlace, currentAbsent, currentAnothers, currentOff, currentUnauthorised}
-use Rattle.model.specs.Request.Applies.{deleteFilled, deleteReleased, deleteShown, deviceInsecure, deviceDropped, grantFull, levelInsecure}
+use Rattle.model.specs.Request.Applies.{deleteFilled, deleteReleased, deleteShown, deviceDropped, deviceInsecure, grantFull, levelInsecure}
 use Rattle.model.specs.Request.Applies.{levelDropped, loginOn, loginOccupied, maximumAbove, maximumRole, moveAbove, moveFull, moveInside}
 use Rattle.model.specs.Request.Applies.{releaseRole, showAboveScreen, showFull, showUncleared, showUnlabelled}
 use Rattle.model.specs.Request.Asked.{Asked, operand, own}
