@@ -183,8 +183,9 @@ pub right-second : (z : Accounted 3 right rightAsks (λ i. answer (right i) (rig
 right-second z = go (z .moment) refl (z .among)
   where
     go : (m : ℕ) → m ≡ z .moment → m < 3 → m ≡ 1
-    go zero e h = absurd (drops-differs (levelAt right 7 1) (levelAt right 7 0)
-        (subst (λ (i : ℕ). Drops (levelAt right 7 (suc i)) (levelAt right 7 0)) (sym e) (z .lost)) (right-at 1 (omega arith) .1 ∙ sym (right-at 0 (omega arith) .1)))
+    go zero e h =
+        let l = subst (λ (i : ℕ). Drops (levelAt right 7 (suc i)) (levelAt right 7 0)) (sym e) (z .lost) in
+        absurd (drops-differs (levelAt right 7 1) (levelAt right 7 0) l (right-at 1 (omega arith) .1 ∙ sym (right-at 0 (omega arith) .1)))
     go (suc zero) e h = refl
     go (suc (suc zero)) e h = absurd (incomparable .0 (rw (right-at 0 (omega arith) .1, right-at 2 (omega arith) .1) at (z .until 2 (omega arith))))
     go (suc (suc (suc i))) e h = absurd (omega arith)
