@@ -7,16 +7,17 @@ use Prim.Native.Nat.{ℕ}
 use Rattle.cases.specs.Case.Cases.{Case, _gets_, allPass, asking, at, entityIs, expect, highest, noted}
 use Rattle.cases.specs.Case.Opened.{opened}
 use Rattle.cases.specs.Case.S1.{s1, s1Sheet}
-use Rattle.cases.specs.Case.S2.{s2, s2Sheet}
 use Rattle.model.specs.Tables.Edits.{_and_, onEntity, onUser, userWord, word}
-use Rattle.model.specs.Tables.Words.{Tables, current, level, maximum, place, shown, used}
+use Rattle.model.specs.Tables.Words.{Tables, authorised, current, level, maximum, triple, tripleOf}
 
--- State S2 with three entities of one level, at 1 1, each of which may have any other: container 30, device 6, which nobody is on, and device 2, which user 2
--- is on and whose screen is empty. User 1 is on device 1. Users 1 and 2 have the current roles r and s.
+-- State S1 with three entities of one level, at 1 1, each of which may have any other: container 7, device 3, which nobody is on, and device 2, which user 2
+-- is on. User 1 is on device 1. Users 1 and 2 have the current roles r and s, and the triples for the two operations.
 unfoldable pub level11 : ℕ → ℕ → Tables
 level11 r s =
-    onUser 1 (userWord current r) (onUser 2 (userWord current s) (onEntity 30 (word level (at 1 1)) (onEntity 6 (word level (at 1 1))
-    (onEntity 2 (word maximum highest and (word used 0 and (word (place 0) 0 and word (shown 0) 0))) s2))))
+    onUser 1 (userWord current r) (onUser 2 (userWord authorised 10 and userWord current s)
+    (onEntity 7 (word level (at 1 1) and word (triple 3) (tripleOf 2 6 1))
+    (onEntity 3 (word level (at 1 1) and word (triple 1) (tripleOf 2 18 1))
+    (onEntity 2 (word level (at 1 1) and (word maximum highest and (word (triple 0) (tripleOf 2 18 1) and word (triple 1) (tripleOf 1 18 1)))) s1))))
 
 -- all three named roles; the officer's and the releaser's; a house role; the downgrader's
 abbrev allRoles : ℕ
@@ -67,28 +68,28 @@ eachSet u o e (l ∷ ls) = expect [] (asking u o (e ∷ []) [] l 0 0) 0 (entityI
 unfoldable pub withoutRole : List Case
 withoutRole =
     -- the level of a container
-    eachRefused 2 6 30 dropping ++ (eachSet 2 6 30 rising
+    eachRefused 2 6 7 dropping ++ (eachSet 2 6 7 rising
     -- of one's own device: whoever is on it needs no role
     ++ (eachSet 2 18 2 dropping ++ (eachSet 2 18 2 rising
     -- of a device that another is on
     ++ (eachRefused 1 18 2 dropping ++ (eachSet 1 18 2 rising
     -- of a device that nobody is on
-    ++ (eachRefused 2 18 6 dropping ++ eachSet 2 18 6 rising))))))
+    ++ (eachRefused 2 18 3 dropping ++ eachSet 2 18 3 rising))))))
 
 -- both have the downgrader's role
 unfoldable pub withRole : List Case
 withRole =
-    eachSet 2 6 30 dropping ++ (eachSet 2 6 30 rising
+    eachSet 2 6 7 dropping ++ (eachSet 2 6 7 rising
     ++ (eachSet 2 18 2 dropping ++ (eachSet 2 18 2 rising
     ++ (eachSet 1 18 2 dropping ++ (eachSet 1 18 2 rising
-    ++ (eachSet 2 18 6 dropping ++ eachSet 2 18 6 rising))))))
+    ++ (eachSet 2 18 3 dropping ++ eachSet 2 18 3 rising))))))
 
 pub without-role-holds : allPass (level11 otherRoles houseRole) withoutRole ≡ true
-unfolding opened s2 s2Sheet level11 withoutRole eachRefused eachSet dropping rising
+unfolding opened s1 s1Sheet level11 withoutRole eachRefused eachSet dropping rising
 without-role-holds = refl
 
 pub with-role-holds : allPass (level11 allRoles downgraderRole) withRole ≡ true
-unfolding opened s2 s2Sheet level11 withRole eachSet dropping rising
+unfolding opened s1 s1Sheet level11 withRole eachSet dropping rising
 with-role-holds = refl
 
 -- User 1 of S1 is refused the starred change from rank 1 to a compartment, and gets it with the downgrader's role, which the same user may take up.
