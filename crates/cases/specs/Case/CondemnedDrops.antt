@@ -10,8 +10,8 @@ use Rattle.cases.specs.Case.S1.{s1, s1Sheet}
 use Rattle.model.specs.Level.{Lower}
 use Rattle.model.specs.Request.Conditions.{levelOf}
 use Rattle.model.specs.Tables.EditLaws.{case}
-use Rattle.model.specs.Tables.Edits.{onEntity, word}
-use Rattle.model.specs.Tables.Words.{level}
+use Rattle.model.specs.Tables.Edits.{onEntity, onUser, userWord, word}
+use Rattle.model.specs.Tables.Words.{device, level}
 use Rattle.model.specs.Theorem.Definitions.{DowngradeSecure, PaperDowngradeSecure}
 
 -- ---- strictly lower: the paper condemns these, and so ours does
@@ -40,6 +40,17 @@ compartment-downgrade-condemned h = h 4 (kept 2 tt) (differ 4 2 tt) (tt, differ 
 pub other-roles-downgrade-condemned : PaperDowngradeSecure (s1With 5) (ask 1 6 (7 ∷ []) [] 0 0 0) (onEntity 7 (word level 0) (s1With 5)) → ⊥
 unfolding opened s1 s1Sheet
 other-roles-downgrade-condemned h = h 7 (kept 2 tt) (differ 7 1 tt) (tt, differ 0 (at 1 0) tt)
+
+-- The desk lowered container 7 for user 1 and made the requester a downgrader in the same step: it is the role before that counts.
+pub role-after-condemned : PaperDowngradeSecure s1 (ask 1 6 (7 ∷ []) [] 0 0 0) (onEntity 7 (word level 0) (s1With 2)) → ⊥
+unfolding opened s1 s1Sheet
+role-after-condemned h = h 7 (kept 2 tt) (differ 7 1 tt) (tt, differ 0 (at 1 0) tt)
+
+-- The desk lowered device 3, here on rank 1, for user 3 and put the requester on it in the same step: it is the device before that counts.
+pub device-after-condemned : PaperDowngradeSecure (onEntity 3 (word level (at 1 0)) s1) (ask 3 18 (3 ∷ []) [] 0 0 0)
+    (onUser 3 (userWord device 3) (onEntity 3 (word level 0) s1)) → ⊥
+unfolding opened s1 s1Sheet
+device-after-condemned h = h 3 (kept 3 tt) (differ 3 0 tt) (tt, differ 0 (at 1 0) tt)
 
 -- ---- sideways: ours alone condemns these
 

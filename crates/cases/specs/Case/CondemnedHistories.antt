@@ -116,6 +116,21 @@ later-login-condemned h = elim (first-accounts (screenAt (at 1 0)) (screenAt (at
     (ask 3 18 (3 ∷ []) [] (at 0 1) 0 0) (ask 3 12 (3 ∷ []) [] 0 0 0) 3 (differ 3 0 tt) (differ 3 0 tt) (differ 3 0 tt) (λ t. t) refl refusal.accepted h .1)
     [ inl z ↦ differ 18 6 tt (z .asks .named) | inr z ↦ elim (z .role) [ inl t ↦ t | inr e ↦ differ 0 3 tt e ] ]
 
+-- The same request gave user 1 the role and took the level of 7 away.
+pub role-with-it-condemned : Accountable 2 (second s1 (lowered (s1With 2)) (lowered s1)) (first (ask 1 6 (7 ∷ []) [] 0 0 0) (roles 1))
+    (first refusal.accepted refusal.accepted) → ⊥
+unfolding opened s1 s1Sheet
+role-with-it-condemned h = elim (first-accounts s1 (lowered (s1With 2)) (lowered s1) (ask 1 6 (7 ∷ []) [] 0 0 0) (roles 1) 7 (differ 2 0 tt) (differ 2 0 tt)
+    (differ 2 0 tt) (λ t. t) refl refusal.accepted h .1) [ inl z ↦ z .role | inr z ↦ differ 6 18 tt (z .asks .named) ]
+
+-- The same request put user 3 on device 3 and took it sideways.
+pub login-with-it-condemned : Accountable 2 (second (screenAt (at 1 0)) (onUser 3 (userWord device 3) (screenAt (at 0 1))) (screenAt (at 0 1)))
+    (first (ask 3 18 (3 ∷ []) [] (at 0 1) 0 0) (ask 3 13 [] [] 0 0 0)) (first refusal.accepted refusal.accepted) → ⊥
+unfolding opened s1 s1Sheet
+login-with-it-condemned h = elim (first-accounts (screenAt (at 1 0)) (onUser 3 (userWord device 3) (screenAt (at 0 1))) (screenAt (at 0 1))
+    (ask 3 18 (3 ∷ []) [] (at 0 1) 0 0) (ask 3 13 [] [] 0 0 0) 3 (differ 3 0 tt) (differ 3 0 tt) (differ 3 0 tt) (λ t. t) refl refusal.accepted h .1)
+    [ inl z ↦ differ 18 6 tt (z .asks .named) | inr z ↦ elim (z .role) [ inl t ↦ t | inr e ↦ differ 0 3 tt e ] ]
+
 -- ---- the right one: user 1 takes up the downgrader's role, takes 7 sideways, and goes back to the officer's
 
 unfoldable pub rightAsks : ℕ → Request
