@@ -1,7 +1,7 @@
 // Each name is the model's number: were one of them another, this crate would not be proved.
 ghost use mathlib.Core.Path.{_≡_};
 ghost use mathlib.Core.List.{[], _∷_};
-ghost use Prim.Native.Nat.{_+_, _-_, _/_, _^_, suc};
+ghost use Prim.Native.Nat.{_+_, _-_, _/_, suc};
 ghost use lib.ListN.{length};
 ghost use Rattle.model.specs.Effect.Places.{draftSort, objectSort};
 ghost use Rattle.model.specs.Level.{compartmentCount, downgrader, levelCount, officer, releasing, roleCount, roleSets};
@@ -185,11 +185,10 @@ fn bits_are() -> [u32; 5]
     ]
 }
 
-fn weights_are() -> [u32; 4]
-    ensures { λ r. ⌜ r ≡ 2 ^ compartmentCount ∷ whoWeight ∷ operationWeight ∷ whoRole 0 ∷ [] ⌝ }
+fn weights_are() -> [u32; 3]
+    ensures { λ r. ⌜ r ≡ whoWeight ∷ operationWeight ∷ whoRole 0 ∷ [] ⌝ }
 {
     [
-        weight::RANK,
         weight::WHO,
         weight::OPERATION,
         weight::FIRST_ROLE,

@@ -1,6 +1,4 @@
-// What the parts of a number weigh: the rank in a level (rule 1.1), who and the operation in a triple (rule 2.5).
-pub const RANK: u32 = 256;
-
+// What the parts of a triple weigh: who, and the operation (rule 2.5).
 pub const WHO: u32 = 65536;
 
 pub const OPERATION: u32 = 256;

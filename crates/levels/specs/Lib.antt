@@ -1,0 +1,2 @@
+-- Sets of bits, and levels, compared as whole words.
+pub mod MaskLaws
