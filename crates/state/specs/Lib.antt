@@ -6,6 +6,7 @@ pub mod RowLaws
 pub mod UserLaws
 pub mod EntityLaws
 pub mod UnlikeLaws
+pub mod TripleLaws
 pub mod OwnLaws
 pub mod PassLaws
 pub mod HolderLaws

@@ -1,11 +1,10 @@
 // The records of the entities, each by itself, what stands in their places, and screens that nobody is on.
+use crate::access;
 use names::kind;
-use names::op;
 use names::range;
 use names::size;
 use names::types;
 use tables::Entity;
-use tables::triples;
 ghost use mathlib.Core.Path.{_≡_};
 ghost use mathlib.Core.Bool.{not, true};
 ghost use Prim.Native.Nat.{_+_, _<_, _≤_, suc};
@@ -18,9 +17,6 @@ ghost use Rattle.model.specs.Tables.WordAt.{entityWordAt};
 ghost use Rattle.model.specs.Tables.Words.{entityCount, kinds, placeCount, places, triples, usedPlaces};
 ghost use Rattle.state.specs.Passes.{Counted, usedTest, entityBlank, newAt, ownTest, placeTest, shapeAt, tripleNew, unlike};
 ghost use Rattle.tables.specs.Singles.{EntityIn};
-
-// The place of the last triple.
-const LAST_TRIPLE: u32 = size::TRIPLES - 1;
 
 // Whether word f of entity e is zero.
 fn word_zero(t: &[u32], e: Entity, f: usize) -> bool
@@ -166,74 +162,6 @@ fn places_new(t: &[u32], e: Entity, n: u32) -> bool
     true
 }
 
-// Whether a word names somebody, an operation and a position.
-fn named(x: u32) -> bool
-    ensures { λ r. ⌜ r ≡ tripleTest x ⌝ }
-{
-    let w = triples::who(x);
-    let o = triples::operation(x);
-    let p = triples::position(x);
-    ((1 <= w) & (w <= range::WHO_MOST))
-        & (((1 <= o) & (o <= range::OPERATION_MOST))
-            & ((op::FIRST <= p) & (p <= range::POSITION_MOST)))
-}
-
-// Whether triple j of entity e is another than x.
-fn triple_other(t: &[u32], e: Entity, x: u32, j: u32) -> bool
-    requires { ⌜ EntityIn (now t) (e .0) × (j < placeCount) ⌝ }
-    ensures { λ r. ⌜ r ≡ not (eqb (triples (tablesOf (now (t .entry))) (e .0) j) x) ⌝ }
-{
-    !(tables::triple(t, e, j) == x)
-}
-
-// Whether none of the first n triples of entity e is x.
-fn triple_unlike(t: &[u32], e: Entity, n: u32, x: u32) -> bool
-    requires { ⌜ EntityIn (now t) (e .0) × (n ≤ placeCount) ⌝ }
-    ensures { λ r. ⌜ r ≡ every n (λ j. not (eqb (triples (tablesOf (now (t .entry))) (e .0) j) x)) ⌝ }
-{
-    let mut j: u32 = 0;
-    while j < n {
-        if !triple_other(t, e, x, j) {
-            return false;
-        }
-        j += 1;
-    }
-    true
-}
-
-// Whether triple i of entity e is zero and so is the next one, or it names what it may and is none of those before it.
-fn triple_fine(t: &[u32], e: Entity, i: u32) -> bool
-    requires { ⌜ EntityIn (now t) (e .0) × (i < placeCount) ⌝ }
-    ensures { λ r. ⌜ r ≡ tripleNew (triples (tablesOf (now (t .entry))) (e .0)) i ⌝ }
-{
-    let x = tables::triple(t, e, i);
-    if x == 0 {
-        if LAST_TRIPLE <= i {
-            return true;
-        }
-        return tables::triple(t, e, i + 1) == 0;
-    }
-    if !named(x) {
-        return false;
-    }
-    triple_unlike(t, e, i, x)
-}
-
-// Whether the access triples of entity e are in order.
-fn triples_fine(t: &[u32], e: Entity) -> bool
-    requires { ⌜ EntityIn (now t) (e .0) ⌝ }
-    ensures { λ r. ⌜ r ≡ every placeCount (tripleNew (triples (tablesOf (now (t .entry))) (e .0))) ⌝ }
-{
-    let mut i: u32 = 0;
-    while i < size::TRIPLES {
-        if !triple_fine(t, e, i) {
-            return false;
-        }
-        i += 1;
-    }
-    true
-}
-
 // Whether entity e, which is there, is in order.
 fn present_fine(t: &[u32], e: Entity, k: u32) -> bool
     requires { ⌜ EntityIn (now t) (e .0) × (k ≡ kinds (tablesOf (now t)) (e .0)) × (1 ≤ k) ⌝ }
@@ -253,7 +181,7 @@ fn present_fine(t: &[u32], e: Entity, k: u32) -> bool
     if !places_new(t, e, n) {
         return false;
     }
-    if !triples_fine(t, e) {
+    if !access::triples_fine(t, e) {
         return false;
     }
     if !shows | (n == 0) {

@@ -6,6 +6,7 @@ ghost use lib.ListN.{length};
 ghost use Rattle.model.specs.State.Check.{check, judge, secureTest, wellFormedTest};
 ghost use Rattle.model.specs.Tables.Layout.{tablesOf, wordCount};
 
+mod access;
 mod entities;
 mod secure;
 mod tree;

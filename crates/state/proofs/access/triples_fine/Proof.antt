@@ -9,8 +9,8 @@ use Rattle.laws.specs.Loops.{every-done, every-fails, every-more, every-none}
 use Rattle.model.specs.Tables.Layout.{tablesOf}
 use Rattle.model.specs.Tables.Words.{placeCount, triples}
 use Rattle.state.specs.Passes.{tripleNew}
-use Rattle.state.proofs.entities.triples_fine.Statement.{statement}
-use Rattle.state.proofs.entities.triples_fine.Tie as tie
+use Rattle.state.proofs.access.triples_fine.Statement.{statement}
+use Rattle.state.proofs.access.triples_fine.Tie as tie
 
 abbrev Inv-loop : tie.InvT-loop
 Inv-loop t e i₀ i = (i ≤ placeCount) × (every i (tripleNew (triples (tablesOf t) (e .0))) ≡ true)

@@ -9,8 +9,8 @@ use Rattle.laws.specs.Loops.{every-done, every-fails, every-more, every-none}
 use Rattle.model.specs.Tables.Layout.{tablesOf}
 use lib.Dec.{eqb}
 use Rattle.model.specs.Tables.Words.{triples}
-use Rattle.state.proofs.entities.triple_unlike.Statement.{statement}
-use Rattle.state.proofs.entities.triple_unlike.Tie as tie
+use Rattle.state.proofs.access.triple_unlike.Statement.{statement}
+use Rattle.state.proofs.access.triple_unlike.Tie as tie
 
 abbrev Inv-loop : tie.InvT-loop
 Inv-loop t e n x j₀ j = (j ≤ n) × (every j (λ k. not (eqb (triples (tablesOf t) (e .0) k) x)) ≡ true)

@@ -3,8 +3,8 @@ use Rattle.model.specs.Tables.Layout.{tablesOf}
 use Rattle.model.specs.Tables.Words.{triples}
 use Rattle.state.specs.RowLaws.{triple-last, triple-named, triple-next, triple-unnamed}
 use borrow.Author.Needs.{needs}
-use Rattle.state.proofs.entities.triple_fine.Statement.{statement}
-use Rattle.state.proofs.entities.triple_fine.Tie as tie
+use Rattle.state.proofs.access.triple_fine.Statement.{statement}
+use Rattle.state.proofs.access.triple_fine.Tie as tie
 
 triple-requires : tie.Need-triple-requires
 triple-requires c κs = search needs

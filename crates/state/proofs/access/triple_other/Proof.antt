@@ -1,6 +1,6 @@
 use borrow.Author.Needs.{needs}
-use Rattle.state.proofs.entities.triple_other.Statement.{statement}
-use Rattle.state.proofs.entities.triple_other.Tie as tie
+use Rattle.state.proofs.access.triple_other.Statement.{statement}
+use Rattle.state.proofs.access.triple_other.Tie as tie
 
 triple-requires : tie.Need-triple-requires
 triple-requires c κs = search needs
