@@ -7,6 +7,7 @@ pub mod UserLaws
 pub mod EntityLaws
 pub mod UnlikeLaws
 pub mod TripleLaws
+pub mod ObjectLaws
 pub mod OwnLaws
 pub mod PassLaws
 pub mod HolderLaws

@@ -6,7 +6,7 @@ use Prim.Native.Nat.{_+_, _-_, _<_, _≤_, suc, zero, ℕ}
 use native.Mathlib.Omega.{arith}
 use lib.Dec.{eqb, ltb}
 use borrow.Author.Tests.{ne-eqb}
-use Rattle.laws.specs.Bools.{agrees-pick, imp-quiet, imp-shown}
+use Rattle.laws.specs.Bools.{agrees-pick, and-comm, imp-quiet, imp-shown}
 use Rattle.laws.specs.Loops.{seek-within}
 use Rattle.model.specs.Basics.Agree.{Agrees, agrees-and, agrees-eq, agrees-every, agrees-le, agrees-or}
 use Rattle.model.specs.Basics.Choice.{Below, below, over, under}
@@ -21,7 +21,7 @@ use Rattle.model.specs.Tables.Rows.{Sought, seek}
 use Rattle.model.specs.Tables.Words.{Tables, usedPlaces, deviceKind, devices, kinds, placeCount, places, sums}
 use Rattle.model.specs.Tables.Words.{triples, userCount}
 use Rattle.state.specs.EntityLaws.{apart, used-agrees, filled-passes, unlike-agrees}
-use Rattle.state.specs.Passes.{contentsAt, usedTest, idleAt, lastTriple, ownTest, placeTest, shapeAt, tripleNew, unlike}
+use Rattle.state.specs.Passes.{contentsAt, holdingTest, usedTest, idleAt, lastTriple, ownTest, placeTest, shapeAt, tripleNew, unlike}
 
 -- ---- triples
 
@@ -105,37 +105,56 @@ one-by-one true true false u x = refl
 one-by-one true false p u x = refl
 one-by-one false n p u x = refl
 
+-- the triples come last
+triples-last : (s n p u t i : Bool) → (s && (n && (p && (u && (t && i))))) ≡ ((s && (n && (p && (u && i)))) && t)
+triples-last true true true true t i = and-comm t i
+triples-last true true true false t i = refl
+triples-last true true false u t i = refl
+triples-last true false p u t i = refl
+triples-last false n p u t i = refl
+
 module _ (d : Tables) (o : Bounded d) (e : ℕ) (present : 1 ≤ kinds d e) where
   -- all that is asked of an entity that is there, in the order of the code
-  pub own-present : (shapeAt d e && (usedTest (kinds d e) (usedPlaces d e) && (every placeCount (placeTest d e)
-      && (every (usedPlaces d e) (unlike (places d e)) && (every placeCount (tripleNew (triples d e)) && idleAt d e))))) ≡ ownTest d e
-  unfolding ownTest entityTest imp
+  own-present : (holdingTest d e && every placeCount (tripleNew (triples d e))) ≡ ownTest d e
+  unfolding holdingTest ownTest entityTest imp
   own-present = rw (ne-eqb (kinds d e) 0 (λ q. omega arith), triples-pass (triples d e) (o .triplesOut e))
-      (sym (one-by-one (shapeAt d e) (usedTest (kinds d e) (usedPlaces d e)) (every placeCount (placeTest d e)) (every (usedPlaces d e) (unlike (places d e)))
+      (sym (triples-last (shapeAt d e) (usedTest (kinds d e) (usedPlaces d e)) (every placeCount (placeTest d e)) (every (usedPlaces d e) (unlike (places d e)))
+      (accessTest (triples d e)) (idleAt d e))
+      ∙ sym (one-by-one (shapeAt d e) (usedTest (kinds d e) (usedPlaces d e)) (every placeCount (placeTest d e)) (every (usedPlaces d e) (unlike (places d e)))
       (accessTest (triples d e) && idleAt d e))
       ∙ ap (λ (b : Bool). shapeAt d e && (b && (accessTest (triples d e) && idleAt d e))) (sym (filled-passes d o e))
       ∙ sym (contents-first (shapeAt d e) (filledTest (kinds d e) (usedPlaces d e) (places d e) (sums d e)) (accessTest (triples d e))
       (contentsAt d e) (idleAt d e)))
 
+  -- what the pass over it has found of what stands in it: that is not in order
+  pub own-holding : (b : Bool) → b ≡ holdingTest d e → b ≡ false → false ≡ ownTest d e
+  own-holding b be f = rw (← be, f) at own-present
+
+  -- it is, and the triples are left
+  pub own-triples : (b : Bool) → b ≡ holdingTest d e → b ≡ true → (c : Bool) → c ≡ every placeCount (tripleNew (triples d e)) → c ≡ ownTest d e
+  own-triples b be t c ce = ce ∙ (rw (← be, t) at own-present)
+
+-- ---- what stands in it
+
 -- what the pass over entity e, which is there, has read and found
-module _ (d : Tables) (o : Bounded d) (e k : ℕ) (ke : k ≡ kinds d e) (present : 1 ≤ k) (s : Bool) (se : s ≡ shapeAt d e) where
+module _ (d : Tables) (o : Bounded d) (e k : ℕ) (ke : k ≡ kinds d e) (s : Bool) (se : s ≡ shapeAt d e) where
   -- all is asked from the shape on
-  from-shape : (s && (usedTest k (usedPlaces d e) && (every placeCount (placeTest d e) && (every (usedPlaces d e) (unlike (places d e))
-      && (every placeCount (tripleNew (triples d e)) && idleAt d e))))) ≡ ownTest d e
-  from-shape = rw (se, ke) (own-present d o e (omega arith))
+  from-shape : (s && (usedTest k (usedPlaces d e) && (every placeCount (placeTest d e) && (every (usedPlaces d e) (unlike (places d e)) && idleAt d e))))
+      ≡ holdingTest d e
+  unfolding holdingTest
+  from-shape = rw (se, ke)
 
   -- the single words but for the last are not in order
-  pub own-shape : s ≡ false → false ≡ ownTest d e
+  pub own-shape : s ≡ false → false ≡ holdingTest d e
   own-shape f = rw f at from-shape
 
   module _ (st : s ≡ true) (n : ℕ) (ne : n ≡ usedPlaces d e) (c : Bool) (ce : c ≡ usedTest k n) where
     -- what is left to ask from the count on
-    from-count : (c && (every placeCount (placeTest d e) && (every n (unlike (places d e))
-        && (every placeCount (tripleNew (triples d e)) && idleAt d e)))) ≡ ownTest d e
+    from-count : (c && (every placeCount (placeTest d e) && (every n (unlike (places d e)) && idleAt d e))) ≡ holdingTest d e
     from-count = rw (ce, ne) (rw st at from-shape)
 
     -- too many places are used
-    pub own-count : c ≡ false → false ≡ ownTest d e
+    pub own-count : c ≡ false → false ≡ holdingTest d e
     own-count f = rw f at from-count
 
     -- no more are used than there are
@@ -144,40 +163,31 @@ module _ (d : Tables) (o : Bounded d) (e k : ℕ) (ke : k ≡ kinds d e) (presen
 
     module _ (ct : c ≡ true) (p : Bool) (pe : p ≡ every placeCount (placeTest d e)) where
       -- what is left from the places on
-      from-places : (p && (every n (unlike (places d e)) && (every placeCount (tripleNew (triples d e)) && idleAt d e))) ≡ ownTest d e
+      from-places : (p && (every n (unlike (places d e)) && idleAt d e)) ≡ holdingTest d e
       from-places = rw pe (rw ct at from-count)
 
       -- some place is not in order
-      pub own-places : p ≡ false → false ≡ ownTest d e
+      pub own-places : p ≡ false → false ≡ holdingTest d e
       own-places f = rw f at from-places
 
       module _ (pt : p ≡ true) (q : Bool) (qe : q ≡ every n (unlike (places d e))) where
         -- what is left from their likeness on
-        from-unlike : (q && (every placeCount (tripleNew (triples d e)) && idleAt d e)) ≡ ownTest d e
+        from-unlike : (q && idleAt d e) ≡ holdingTest d e
         from-unlike = rw qe (rw pt at from-places)
 
         -- two places hold the same
-        pub own-unlike : q ≡ false → false ≡ ownTest d e
+        pub own-unlike : q ≡ false → false ≡ holdingTest d e
         own-unlike f = rw f at from-unlike
 
-        module _ (qt : q ≡ true) (r : Bool) (re : r ≡ every placeCount (tripleNew (triples d e))) where
-          -- what is left from the triples on
-          from-triples : (r && idleAt d e) ≡ ownTest d e
-          from-triples = rw re (rw qt at from-unlike)
+        module _ (qt : q ≡ true) where
+          -- what shows nothing may have nobody on it; w says whether what is of kind k shows things
+          pub own-quiet : (w : Bool) → w ≡ eqb k deviceKind → (not w || eqb n 0) ≡ true → true ≡ holdingTest d e
+          unfolding idleAt
+          own-quiet w we h = sym (imp-quiet (eqb k deviceKind) (eqb n 0) (every userCount (λ u. not (eqb (devices d (suc u)) e))) (rw we at h))
+              ∙ rw (ke, ne) (rw qt at from-unlike)
 
-          -- some triple is not in order
-          pub own-triples : r ≡ false → false ≡ ownTest d e
-          own-triples f = rw f at from-triples
-
-          module _ (rt : r ≡ true) where
-            -- what shows nothing may have nobody on it; w says whether what is of kind k shows things
-            pub own-quiet : (w : Bool) → w ≡ eqb k deviceKind → (not w || eqb n 0) ≡ true → true ≡ ownTest d e
-            unfolding idleAt
-            own-quiet w we h = sym (imp-quiet (eqb k deviceKind) (eqb n 0) (every userCount (λ u. not (eqb (devices d (suc u)) e))) (rw we at h))
-                ∙ rw (ke, ne) (rw rt at from-triples)
-
-            -- on a device that shows something somebody is
-            pub own-shown : (w : Bool) → w ≡ eqb k deviceKind → (not w || eqb n 0) ≡ false
-                → (z : Bool) → z ≡ every userCount (λ u. not (eqb (devices d (suc u)) e)) → not z ≡ ownTest d e
-            unfolding idleAt
-            own-shown w we h z ze = sym (imp-shown (eqb k deviceKind) (eqb n 0) z (rw we at h)) ∙ rw (ke, ne, ze) (rw rt at from-triples)
+          -- on a device that shows something somebody is
+          pub own-shown : (w : Bool) → w ≡ eqb k deviceKind → (not w || eqb n 0) ≡ false
+              → (z : Bool) → z ≡ every userCount (λ u. not (eqb (devices d (suc u)) e)) → not z ≡ holdingTest d e
+          unfolding idleAt
+          own-shown w we h z ze = sym (imp-shown (eqb k deviceKind) (eqb n 0) z (rw we at h)) ∙ rw (ke, ne, ze) (rw qt at from-unlike)

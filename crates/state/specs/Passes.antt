@@ -10,10 +10,10 @@ use Rattle.model.specs.Level.{atMost, levelCount, roleSets}
 use Rattle.model.specs.State.Check.{ceilingTest, containedTest, labelledTest, loopTest, oneTest, rolesTest, seenTest}
 use Rattle.model.specs.State.Secure.{labelled}
 use Rattle.model.specs.State.Tests.{entityTest, shapeTest, tripleTest}
-use Rattle.model.specs.Tables.Layout.{entityWidth, userWidth}
+use Rattle.model.specs.Tables.Layout.{entityWidth, offset, userWidth}
 use Rattle.model.specs.Tables.WordAt.{entityWordAt, userWordAt}
 use Rattle.model.specs.Tables.Words.{Tables, containerKind, usedPlaces, deviceKind, devices, entityCount, kinds, level, objectKind, placeCount, places}
-use Rattle.model.specs.Tables.Words.{mark, maximum, releaser, sumMost, sums, type, userCount, value}
+use Rattle.model.specs.Tables.Words.{mark, maximum, plainType, releaser, sumMost, sums, type, userCount, value}
 
 -- ---- users
 
@@ -77,6 +77,22 @@ contentsAt d e = every placeCount (λ i. imp (ltb i (usedPlaces d e)) (leb objec
 -- a device that nobody is on shows nothing
 unfoldable pub idleAt : Tables → ℕ → Bool
 idleAt d e = imp (eqb (kinds d e) deviceKind) (imp (every userCount (λ u. not (eqb (devices d (suc u)) e))) (eqb (usedPlaces d e) 0))
+
+-- all that is asked of what stands in entity e, of its single words and of its screen
+unfoldable pub holdingTest : Tables → ℕ → Bool
+holdingTest d e = shapeAt d e && (usedTest (kinds d e) (usedPlaces d e) && (every placeCount (placeTest d e)
+    && (every (usedPlaces d e) (unlike (places d e)) && idleAt d e)))
+
+-- the words from the releaser to the last that is shown: how many there are, and that they are zero
+abbrev pub bareWidth : ℕ
+bareWidth = entityWidth - placeCount - offset releaser
+
+unfoldable pub bare : Tables → ℕ → Bool
+bare d e = every bareWidth (λ i. eqb (d .entity e (entityWordAt (offset releaser + i))) 0)
+
+-- the same as `holdingTest` of an object, which has a level, a value and triples only
+unfoldable pub objectTest : Tables → ℕ → Bool
+objectTest d e = ltb (d .entity e level) levelCount && (eqb (d .entity e type) plainType && (eqb (d .entity e mark) 0 && bare d e))
 
 -- all that is asked of entity e but for what it stands in
 unfoldable pub ownTest : Tables → ℕ → Bool

@@ -4,6 +4,7 @@ use names::kind;
 use names::range;
 use names::size;
 use names::types;
+use names::word;
 use tables::Entity;
 ghost use mathlib.Core.Path.{_≡_};
 ghost use mathlib.Core.Bool.{not, true};
@@ -11,12 +12,15 @@ ghost use Prim.Native.Nat.{_+_, _<_, _≤_, suc};
 ghost use lib.Dec.{eqb};
 ghost use lib.ListN.{length};
 ghost use Rattle.model.specs.Basics.Tests.{every};
-ghost use Rattle.model.specs.State.Tests.{shapeTest, tripleTest};
+ghost use Rattle.model.specs.State.Tests.{shapeTest};
 ghost use Rattle.model.specs.Tables.Layout.{entityWidth, tablesOf, wordCount};
 ghost use Rattle.model.specs.Tables.WordAt.{entityWordAt};
-ghost use Rattle.model.specs.Tables.Words.{entityCount, kinds, placeCount, places, triples, usedPlaces};
-ghost use Rattle.state.specs.Passes.{Counted, usedTest, entityBlank, newAt, ownTest, placeTest, shapeAt, tripleNew, unlike};
+ghost use Rattle.model.specs.Tables.Words.{entityCount, kinds, placeCount, places, usedPlaces};
+ghost use Rattle.state.specs.Passes.{Counted, bare, entityBlank, holdingTest, newAt, objectTest, ownTest, placeTest, shapeAt, unlike, usedTest};
 ghost use Rattle.tables.specs.Singles.{EntityIn};
+
+// An object has nothing in the words from the releaser to the last that is shown.
+const BARE_WORDS: usize = size::ENTITY_WORDS - size::ROW_WORDS - word::RELEASER;
 
 // Whether word f of entity e is zero.
 fn word_zero(t: &[u32], e: Entity, f: usize) -> bool
@@ -162,11 +166,37 @@ fn places_new(t: &[u32], e: Entity, n: u32) -> bool
     true
 }
 
-// Whether entity e, which is there, is in order.
-fn present_fine(t: &[u32], e: Entity, k: u32) -> bool
-    requires { ⌜ EntityIn (now t) (e .0) × (k ≡ kinds (tablesOf (now t)) (e .0)) × (1 ≤ k) ⌝ }
-    ensures { λ r. ⌜ r ≡ ownTest (tablesOf (now (t .entry))) (e .0) ⌝ }
+// Whether the words of entity e from the releaser to the last that is shown are zero.
+fn is_bare(t: &[u32], e: Entity) -> bool
+    requires { ⌜ EntityIn (now t) (e .0) ⌝ }
+    ensures { λ r. ⌜ r ≡ bare (tablesOf (now (t .entry))) (e .0) ⌝ }
 {
+    let mut blank = true;
+    let mut f: usize = 0;
+    while f < BARE_WORDS {
+        blank = word_zero(t, e, word::RELEASER + f) & blank;
+        f += 1;
+    }
+    blank
+}
+
+// Whether the words of object e before its triples are in order: but for its level and its value they are zero.
+fn object_fine(t: &[u32], e: Entity) -> bool
+    requires { ⌜ EntityIn (now t) (e .0) ⌝ }
+    ensures { λ r. ⌜ r ≡ objectTest (tablesOf (now (t .entry))) (e .0) ⌝ }
+{
+    (tables::level(t, e).0 < range::LEVELS)
+        & ((tables::type_of(t, e) == types::PLAIN) & ((tables::mark(t, e) == 0) & is_bare(t, e)))
+}
+
+// Whether entity e, which is there, is in order but for its triples. Of an object, less is asked than of what can hold something.
+fn holding_fine(t: &[u32], e: Entity, k: u32) -> bool
+    requires { ⌜ EntityIn (now t) (e .0) × (k ≡ kinds (tablesOf (now t)) (e .0)) ⌝ }
+    ensures { λ r. ⌜ r ≡ holdingTest (tablesOf (now (t .entry))) (e .0) ⌝ }
+{
+    if k == kind::OBJECT {
+        return object_fine(t, e);
+    }
     if !words_fine(t, e, k) {
         return false;
     }
@@ -181,13 +211,21 @@ fn present_fine(t: &[u32], e: Entity, k: u32) -> bool
     if !places_new(t, e, n) {
         return false;
     }
-    if !access::triples_fine(t, e) {
-        return false;
-    }
     if !shows | (n == 0) {
         return true;
     }
     !tables::nobody_on(t, e, size::USERS)
+}
+
+// Whether entity e, which is there, is in order.
+fn present_fine(t: &[u32], e: Entity, k: u32) -> bool
+    requires { ⌜ EntityIn (now t) (e .0) × (k ≡ kinds (tablesOf (now t)) (e .0)) × (1 ≤ k) ⌝ }
+    ensures { λ r. ⌜ r ≡ ownTest (tablesOf (now (t .entry))) (e .0) ⌝ }
+{
+    if !holding_fine(t, e, k) {
+        return false;
+    }
+    access::triples_fine(t, e)
 }
 
 // Whether entity e is in order: its record by itself, what stands in its places, and its screen.
