@@ -188,11 +188,7 @@ fn bits_are() -> [u32; 5]
 fn weights_are() -> [u32; 3]
     ensures { λ r. ⌜ r ≡ whoWeight ∷ operationWeight ∷ whoRole 0 ∷ [] ⌝ }
 {
-    [
-        weight::WHO,
-        weight::OPERATION,
-        weight::FIRST_ROLE,
-    ]
+    [weight::WHO, weight::OPERATION, weight::FIRST_ROLE]
 }
 
 fn sorts_are() -> [u32; 3]
