@@ -8,9 +8,9 @@ use native.Mathlib.Numerals.{add-one, towards-suc}
 use native.Mathlib.Omega.{arith}
 use lib.Dec.{ltb}
 use lib.ListN.{List·getD-eq-default, getD, length, length-map, length-set, set, take}
-use lib.Seq.{append-snoc, getD-set-other, getD-take, length-take-le, sets, take-suc-set}
+use lib.Seq.{append-snoc, ext-getD, getD-set-other, getD-take, length-take-le, set-comm, set-set, sets, take-suc-set}
 use borrow.Author.Tests.{ltb-false, ltb-true}
-use Rattle.disclosure.specs.Visited.{Padded, entriesOf}
+use Rattle.disclosure.specs.Visited.{Padded, entriesOf, stores}
 use Rattle.model.specs.List.Listing.{entries, entry, entryWords}
 use Rattle.model.specs.List.ListingLaws.{entries-length}
 use Rattle.model.specs.Request.Words.{nameCount}
@@ -27,12 +27,23 @@ padded-at ns n k l p = go (ltb k n) refl
         let f : length ns ≡ nameCount = p .size in
         List·getD-eq-default (take n ns) 0 (omega (arith, length-take-le n ns (omega arith))) ∙ sym (p .zeros k h)
 
+-- the words of all names, one by one
+all-names : (ns : List ℕ) → length ns ≡ nameCount → ns ≡ getD ns 0 0 ∷ getD ns 1 0 ∷ getD ns 2 0 ∷ getD ns 3 0 ∷ []
+all-names ns f = ext-getD 0 ns (getD ns 0 0 ∷ getD ns 1 0 ∷ getD ns 2 0 ∷ getD ns 3 0 ∷ []) f go
+  where
+    go : (k : ℕ) → k < length ns → getD ns k 0 ≡ getD (getD ns 0 0 ∷ getD ns 1 0 ∷ getD ns 2 0 ∷ getD ns 3 0 ∷ []) k 0
+    go zero h = refl
+    go (suc zero) h = refl
+    go (suc (suc zero)) h = refl
+    go (suc (suc (suc zero))) h = refl
+    go (suc (suc (suc (suc k)))) h = absurd (omega arith)
+
 -- their entry has the words of the names as they are
-entry-padded : (ns : List ℕ) (n : ℕ) → n ≤ nameCount → Padded ns n → entry (take n ns) ≡ n ∷ getD ns 0 0 ∷ getD ns 1 0 ∷ getD ns 2 0 ∷ getD ns 3 0 ∷ []
+entry-padded : (ns : List ℕ) (n : ℕ) → n ≤ nameCount → Padded ns n → entry (take n ns) ≡ n ∷ ns
 entry-padded ns n l p =
     let f : length ns ≡ nameCount = p .size in
     let e : length (take n ns) ≡ n = length-take-le n ns (omega arith) in
-    rw (e, padded-at ns n 0 l p, padded-at ns n 1 l p, padded-at ns n 2 l p, padded-at ns n 3 l p) refl
+    rw (e, padded-at ns n 0 l p, padded-at ns n 1 l p, padded-at ns n 2 l p, padded-at ns n 3 l p) (ap (λ (w : List ℕ). n ∷ w) (sym (all-names ns f)))
 
 -- one name, and one name more
 pub padded-one : (x : ℕ) → Padded (x ∷ 0 ∷ 0 ∷ 0 ∷ []) 1
@@ -59,15 +70,33 @@ take-more ns n m x e l p =
 
 -- ---- runs of stores
 
-entry-stores : (l : List ℕ) (at a b c d e : ℕ)
-    → set (set (set (set (set l at a) (at + 1) b) (at + 2) c) (at + 3) d) (at + 4) e ≡ sets l at (a ∷ b ∷ c ∷ d ∷ e ∷ [])
-entry-stores l at a b c d e = simp towards-suc
+-- a store before the words of a run does not touch them, and one among them is as if that word had been stored in its place
+sets-before : (vs l : List ℕ) (i j x : ℕ) → j < i → set (sets l i vs) j x ≡ sets (set l j x) i vs
+sets-before [] l i j x h = refl
+sets-before (v ∷ vs) l i j x h =
+    sets-before vs (set l i v) (suc i) j x (omega arith) ∙ ap (λ (m : List ℕ). sets m (suc i) vs) (set-comm l i j v x (λ q. omega arith))
 
--- the stores of an entry
-pub entry-stored : (l : List ℕ) (at n : ℕ) (ns : List ℕ) → n ≤ nameCount → Padded ns n
-    → set (set (set (set (set l at n) (at + 1) (getD ns 0 0)) (at + 2) (getD ns 1 0)) (at + 3) (getD ns 2 0)) (at + 4) (getD ns 3 0)
-    ≡ sets l at (entry (take n ns))
-entry-stored l at n ns h p = entry-stores l at n (getD ns 0 0) (getD ns 1 0) (getD ns 2 0) (getD ns 3 0) ∙ ap (sets l at) (sym (entry-padded ns n h p))
+sets-within : (vs l : List ℕ) (i k x : ℕ) → k < length vs → set (sets l i vs) (i + k) x ≡ sets l i (set vs k x)
+sets-within [] l i k x h = absurd (omega arith)
+sets-within (v ∷ vs) l i zero x h =
+    rw add-zero (sets-before vs (set l i v) (suc i) i x (omega arith)) ∙ ap (λ (m : List ℕ). sets m (suc i) vs) (set-set l i v x)
+sets-within (v ∷ vs) l i (suc k) x h = rw (add-suc, ← suc-add) (sets-within vs (set l i v) (suc i) k x (omega arith))
+
+-- a word and all names, stored one by one, are a run
+stores-run : (l : List ℕ) (at n : ℕ) (ns : List ℕ) → length ns ≡ nameCount → stores l at n ns ≡ sets l at (n ∷ ns)
+stores-run l at n ns f = (simp towards-suc) ∙ ap (λ (w : List ℕ). sets l at (n ∷ w)) (sym (all-names ns f))
+
+-- so an entry is stored
+pub entry-stored : (l : List ℕ) (at n : ℕ) (ns : List ℕ) → n ≤ nameCount → Padded ns n → stores l at n ns ≡ sets l at (entry (take n ns))
+entry-stored l at n ns h p = stores-run l at n ns (p .size) ∙ ap (sets l at) (sym (entry-padded ns n h p))
+
+-- and one with a name more, which goes over the zero after the others
+pub last-stored : (l : List ℕ) (at n m j x : ℕ) (ns : List ℕ) → n < nameCount → m ≡ n + 1 → j ≡ at + suc n → Padded ns n
+    → set (stores l at m ns) j x ≡ sets l at (entry (take n ns ++ (x ∷ [])))
+last-stored l at n m j x ns h e f p =
+    let g : length ns ≡ nameCount = p .size in
+    ap₂ (λ (r : List ℕ) (k : ℕ). set r k x) (stores-run l at m ns g) f ∙ sets-within (m ∷ ns) l at (suc n) x (omega arith)
+    ∙ ap (sets l at) (sym (entry-padded (set ns n x) m (omega arith) (padded-more ns n m x e p)) ∙ ap entry (take-more ns n m x e h p))
 
 sets-append : (a b l : List ℕ) (i : ℕ) → sets (sets l i a) (i + length a) b ≡ sets l i (a ++ b)
 sets-append [] b l i = rw add-zero refl

@@ -1,5 +1,5 @@
 -- What a visit says and writes, put together from the visits in it.
-use mathlib.Core.Bool.{Bool, false, true}
+use mathlib.Core.Bool.{Bool, _||_, false, true}
 use mathlib.Core.List.{List, [], _++_, _∷_, append-nil, map}
 use mathlib.Core.Logic.{_≢_}
 use mathlib.Core.Path.{_∙_, _≡_, ap, refl, subst, sym}
@@ -7,16 +7,19 @@ use Prim.Native.Nat.{_*_, _+_, _-_, _<_, _≤_, pred, suc, zero, ℕ}
 use native.Mathlib.Nat.{add-zero}
 use native.Mathlib.Numerals.{add-one}
 use native.Mathlib.Omega.{arith}
-use lib.ListN.{length, length-append, length-map, set, take}
+use lib.Dec.{eqb, ltb}
+use lib.ListN.{getD, length, length-append, length-map}
 use lib.Seq.{length-sets, sets}
-use Rattle.disclosure.specs.EntryLaws.{entriesOf-under, entriesOf-whole, stored-both, take-more}
-use Rattle.disclosure.specs.Verdicts.{leads, listed}
-use Rattle.disclosure.specs.Visited.{Fits, Padded, Visited, entriesOf, followed, furtherMost, inside, under}
+use borrow.Author.Tests.{eqb-true, ltb-true}
+use Rattle.disclosure.specs.EntryLaws.{entriesOf-under, entriesOf-whole, stored-both}
+use Rattle.disclosure.specs.Verdicts.{leads, listed, wayWeight}
+use Rattle.disclosure.specs.Visited.{Fits, Visited, entriesOf, followed, furtherMost, inside, under}
+use Rattle.laws.specs.Bools.{or-cases}
+use Rattle.model.specs.Basics.Cases.{cases}
 use Rattle.model.specs.List.BoundLaws.{through-grows, through-more}
 use Rattle.model.specs.List.Listing.{entries, entry, entryWords}
 use Rattle.model.specs.List.Walk.{here, through, visit, walk}
 use Rattle.model.specs.Request.Reference.{standing}
-use Rattle.model.specs.Request.Words.{nameCount}
 use Rattle.model.specs.Tables.Layout.{tablesOf}
 use Rattle.model.specs.Tables.Words.{places}
 
@@ -109,15 +112,23 @@ module _ (t v : List ℕ) where
   entity-last k e b pre l r i n z s h = visited-as pre l r i n (here b) (under t v k e) (ap here s ∙ sym (visit-last k e z)) h
 
   -- no place leads on
-  pub entity-alone : (k e : ℕ) (b : Bool) (pre l r : List ℕ) (i n : ℕ) → leads v e ≡ 0 → b ≡ listed v e → Visited pre l i (here b) n r
-      → Visited pre l i (under t v k e) n r
+  visit-alone : (k e : ℕ) → leads v e ≡ 0 → under t v k e ≡ here (listed v e)
   unfolding through
-  entity-alone k e b pre l r i n z s h = visited-as pre l r i n (here b) (under t v k e) (ap here s ∙ sym (alone k)) h
-    where
-      alone : (k : ℕ) → under t v k e ≡ here (listed v e)
-      alone zero = visit-last zero e refl
-      alone (suc k) =
-          visit-more (suc k) e (λ q. omega arith) ∙ ap (λ (m : ℕ). here (listed v e) ++ inside t v (suc k - 1) e m) z ∙ append-nil (here (listed v e))
+  visit-alone zero e z = visit-last zero e refl
+  visit-alone (suc k) e z =
+      visit-more (suc k) e (λ q. omega arith) ∙ ap (λ (m : ℕ). here (listed v e) ++ inside t v (suc k - 1) e m) z ∙ append-nil (here (listed v e))
+
+  -- a verdict that weighs less than a place, or no name left after the entity's own: the entity itself is all
+  visit-ends : (left e : ℕ) → (ltb (getD v e 0) wayWeight || eqb left 1) ≡ true → under t v (left - 1) e ≡ here (listed v e)
+  unfolding leads
+  visit-ends left e w =
+      cases (or-cases (ltb (getD v e 0) wayWeight) (eqb left 1) w)
+      (λ q. visit-alone (left - 1) e (omega (arith, ltb-true (getD v e 0) wayWeight q)))
+      (λ q. visit-last (left - 1) e (omega (arith, eqb-true left 1 q)))
+
+  pub entity-ends : (left e : ℕ) (b : Bool) (pre l r : List ℕ) (i n : ℕ) → (ltb (getD v e 0) wayWeight || eqb left 1) ≡ true → b ≡ listed v e
+      → Visited pre l i (here b) n r → Visited pre l i (under t v (left - 1) e) n r
+  entity-ends left e b pre l r i n w s h = visited-as pre l r i n (here b) (under t v (left - 1) e) (ap here s ∙ sym (visit-ends left e w)) h
 
   pub here-room : (k e : ℕ) (b : Bool) (l : List ℕ) (i : ℕ) → b ≡ listed v e → Fits l i (under t v k e) → Fits l i (here b)
   here-room zero e b l i s h =
@@ -162,14 +173,13 @@ module _ (t v : List ℕ) where
   places-done k e p n pre l r i j h y = visited-as pre l r i j (inside t v k e p) (inside t v k e n) (ap (inside t v k e) h) y
 
   module _ (k e p c : ℕ) (z : c ≡ places (tablesOf t) e p) where
-    pub places-turn : (ns : List ℕ) (a b : ℕ) (l x r : List ℕ) (at i n : ℕ) → Padded ns a → a < nameCount → b ≡ a + 1
-        → Visited (take a ns) l at (inside t v k e p) i x → Visited (take b (set ns a (p + 1))) x i (under t v k c) n r
-        → Visited (take a ns) l at (inside t v k e (p + 1)) n r
-    places-turn ns a b l x r at i n pad lt more y w =
-        visited-as (take a ns) l r at n (inside t v k e p ++ map (λ o. (p + 1) ∷ o) (under t v k c)) (inside t v k e (p + 1))
+    pub places-turn : (pre more l x r : List ℕ) (at i n : ℕ) → more ≡ pre ++ ((p + 1) ∷ []) → Visited pre l at (inside t v k e p) i x
+        → Visited more x i (under t v k c) n r → Visited pre l at (inside t v k e (p + 1)) n r
+    places-turn pre more l x r at i n q y w =
+        visited-as pre l r at n (inside t v k e p ++ map (λ o. (p + 1) ∷ o) (under t v k c)) (inside t v k e (p + 1))
         (ap (λ (y : ℕ). inside t v k e p ++ map (λ o. (p + 1) ∷ o) (under t v k y)) z ∙ sym (inside-more k e p))
-        (visited-both (take a ns) l x r at i n (inside t v k e p) (map (λ o. (p + 1) ∷ o) (under t v k c)) y
-        (visited-under (take a ns) (take b (set ns a (p + 1))) x r (p + 1) i n (under t v k c) (take-more ns a b (p + 1) more lt pad) w))
+        (visited-both pre l x r at i n (inside t v k e p) (map (λ o. (p + 1) ∷ o) (under t v k c)) y
+        (visited-under pre more x r (p + 1) i n (under t v k c) q w))
 
     -- a place that leads to nothing is passed by
     pub places-skip : (pre l r : List ℕ) (at i : ℕ) → length (under t v k c) ≡ 0 → Visited pre l at (inside t v k e p) i r

@@ -5,6 +5,7 @@ use crate::sizes;
 use crate::verdicts;
 use names::size;
 use tables::Entity;
+ghost use mathlib.Core.List.{[], _++_, _∷_};
 ghost use mathlib.Core.Path.{_≡_};
 ghost use Prim.Native.Nat.{_+_, _-_, _<_, _≤_};
 ghost use lib.ListN.{length, take};
@@ -47,6 +48,39 @@ fn visit_here(
     at + size::ENTRY_WORDS
 }
 
+// Stores the entry of all names but the last `left`, and of one more after them. The room is written twice where that one goes, and no array
+// is made of them all: an array with a word just stored by its index, read as a whole, makes the processor wait for that word.
+fn put_last(left: usize, names: [u32; sizes::NAMES], last: u32, room: &mut [u32], at: usize)
+    requires { ⌜ (0 < left) × (left ≤ furtherMost) × Padded names (nameCount - left) × (at + entryWords ≤ length (now room)) ⌝ }
+    ensures { λ _. ⌜ now (room .exit) ≡ sets (now (room .entry)) at (entry (take (nameCount - left) names ++ (last ∷ []))) ⌝ }
+{
+    room[at] = (sizes::NAMES + 1 - left) as u32;
+    room[at + 1] = names[0];
+    room[at + 2] = names[1];
+    room[at + 3] = names[2];
+    room[at + 4] = names[3];
+    room[at + 1 + sizes::NAMES - left] = last;
+}
+
+// Stores the entry of one name more if it is to be listed. Returns where the next one goes.
+fn visit_last(
+    shown: bool,
+    left: usize,
+    names: [u32; sizes::NAMES],
+    last: u32,
+    room: &mut [u32],
+    at: usize,
+) -> usize
+    requires { ⌜ (0 < left) × (left ≤ furtherMost) × Padded names (nameCount - left) × Fits (now room) at (here shown) ⌝ }
+    ensures { λ r. ⌜ Visited (take (nameCount - left) names ++ (last ∷ [])) (now (room .entry)) at (here shown) r (now (room .exit)) ⌝ }
+{
+    if !shown {
+        return at;
+    }
+    put_last(left, names, last, room, at);
+    at + size::ENTRY_WORDS
+}
+
 // Visits entity e, which the names before the last `left` lead to, and what they lead to by further names.
 fn visit_entity(
     t: &[u32],
@@ -70,8 +104,8 @@ fn visit_entity(
     visit_places(t, v, b, e, w / verdicts::WAY, left, names, room, next)
 }
 
-// Visits the places of entity e that lead on, but for those from which nothing can be listed. What has no places that lead on is done with at
-// once: most visits are of that kind.
+// Visits the places of entity e that lead on, but for those from which nothing can be listed. What nothing follows, for want of places that
+// lead on or of names, is done with at once and before all else: most visits are of that kind.
 fn visit_places(
     t: &[u32],
     v: &[u32; size::ENTITY_NUMBERS],
@@ -92,18 +126,18 @@ fn visit_places(
     let mut p: u32 = 0;
     while p < n {
         let c = tables::place(t, e, p);
+        let w = v[c.0 as usize];
+        if (w < verdicts::WAY) | (left == 1) {
+            i = visit_last(w % verdicts::WAY == 1, left, names, p + 1, room, i);
+            p += 1;
+            continue;
+        }
         if b[(left - 1) * sizes::ROW + c.0 as usize] == 0 {
             p += 1;
             continue;
         }
         let mut longer = names;
         longer[sizes::NAMES - left] = p + 1;
-        let w = v[c.0 as usize];
-        if w < verdicts::WAY {
-            i = visit_here(w % verdicts::WAY == 1, left - 1, longer, room, i);
-            p += 1;
-            continue;
-        }
         i = visit_entity(t, v, b, c, left - 1, longer, room, i);
         p += 1;
     }
