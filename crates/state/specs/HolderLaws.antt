@@ -1,4 +1,4 @@
--- What the list of holders says while it is filled and when it is whole, where every entity is in order by itself.
+-- What the list of holders says while it is filled and when it is whole, where every entity is in order by itself; and what one that is says of its places.
 use mathlib.Core.Bool.{Bool, _&&_, false, true}
 use mathlib.Core.List.{List}
 use mathlib.Core.Logic.{_≢_, _⊎_, inl, inr}
@@ -24,23 +24,9 @@ use Rattle.model.specs.Tables.Layout.{Bounded}
 use Rattle.model.specs.Tables.Rows.{Packed}
 use Rattle.model.specs.Tables.Words.{Tables, containerKind, used, usedPlaces, device, devices, entityCount, kind, kinds, place, placeCount, places}
 use Rattle.state.specs.EntityLaws.{contents-agrees}
-use Rattle.state.specs.Holders.{Filled, Filling, Low, Slot, entityNumbers, slotCount}
+use Rattle.state.specs.Holders.{Amiss, Filled, Low, Noted, Noting, Slot, entityNumbers, slotCount}
 use Rattle.state.specs.Jumps.{allEnd}
-use Rattle.state.specs.Passes.{contentsAt, idleAt, ownTest}
-
--- a list of zeros
-getD-zeros : (n x : ℕ) → _≡_ {A = ℕ} (getD (replicate n 0) x 0) 0
-getD-zeros zero x = refl
-getD-zeros (suc n) zero = refl
-getD-zeros (suc n) (suc x) = getD-zeros n x
-
--- nothing is noted at the start
-pub filled-none : (d : Tables) (h : List ℕ) → h ≡ replicate entityNumbers 0 → Filled d 0 h
-filled-none d h e = record {
-  size = ap length e;
-  sound = λ x l. absurd (omega (arith, ap (λ (k : List ℕ). getD k x 0) e ∙ getD-zeros entityNumbers x));
-  whole = λ c i x s l. absurd (omega arith);
-}
+use Rattle.state.specs.Passes.{allOwn, contentsAt, idleAt, ownTest, treeTest}
 
 -- there is no slot between n and m
 filled-more : (d : Tables) (n m : ℕ) (h : List ℕ) → Filled d n h → n ≤ m
@@ -55,35 +41,40 @@ filled-more d n m h f l g = record {
     go c i x s k true (under q) = f .whole c i x s q
     go c i x s k false (over q) = absurd (g c i x s q k)
 
--- the numbers of slots as the loops count them
-pub filled-start : (d : Tables) (c : ℕ) (h : List ℕ) → Filled d ((c - 1) * placeCount) h → Filled d ((c - 1) * placeCount + 0) h
-filled-start d c h f = let e : (c - 1) * placeCount + 0 ≡ (c - 1) * placeCount = omega arith in rw e f
+-- the slot that the loop is at, over the values read
+pub slot-at : (d : Tables) (c i x k n : ℕ) → 1 ≤ c → k ≡ kinds d c → k ≡ containerKind → n ≡ usedPlaces d c → i < n → x ≡ places d c i → Slot d c i x
+slot-at d c i x k n l ke k2 ne h xe = record { low = l; box = sym ke ∙ k2; used = omega arith; at = sym xe }
 
--- the next container
-pub filled-next : (d : Tables) (i : ℕ) (h : List ℕ) → Filled d (i * placeCount) h → Filled d ((i + 1 - 1) * placeCount) h
-filled-next d i h f = let e : (i + 1 - 1) * placeCount ≡ i * placeCount = omega arith in rw e f
+-- ---- an entity that is in order by itself
 
--- after the last container
-pub filled-end : (d : Tables) (i : ℕ) (h : List ℕ) → i ≤ entityCount → entityCount ≤ i → Filled d (i * placeCount) h → Filled d slotCount h
-filled-end d i h a b f = let e : slotCount ≡ i * placeCount = omega arith in rw e f
+module _ (d : Tables) (o : Bounded d) (e : ℕ) (w : T (ownTest d e)) where
+  -- its places are packed
+  own-packed : Packed (places d e) (usedPlaces d e)
+  unfolding ownTest
+  own-packed = entity-agrees (d .entity e) (eights d o e) .to (T-l (entityTest (d .entity e)) (contentsAt d e && idleAt d e) w) .filled .packed
 
--- what a pass says that went on, or stopped
-pub went-on : (d : Tables) (n : ℕ) (h : List ℕ) → Filled d n h → Filling d n true h
-went-on d n h f = record { filled = λ e. f; refused = λ e. clash true refl e }
+  -- no more places are used than there are
+  pub packed-room : (n : ℕ) → n ≡ usedPlaces d e → n ≤ placeCount
+  packed-room n q = omega (arith, own-packed .room)
 
--- the pass has stopped
-pub stopped : (d : Tables) (n : ℕ) (h : List ℕ) → oneTest (kinds d) (usedPlaces d) (places d) (devices d) ≡ false → Filling d n false h
-stopped d n h f = record { filled = λ e. clash false e refl; refused = λ e. f }
+  -- what stands in them are entities
+  own-content : (i : ℕ) → i < usedPlaces d e → (1 ≤ places d e i) × (places d e i ≤ entityCount)
+  unfolding ownTest
+  own-content i h =
+      let c = contents-agrees d o e .to (T-l (contentsAt d e) (idleAt d e) (T-r (entityTest (d .entity e)) (contentsAt d e && idleAt d e) w))
+      i (omega (arith, own-packed .room)) h in
+      let b : ¬ (entityCount < places d e i) = λ q. omega (arith, o .entityOut (places d e i) (inr q) kind, c .0) in
+      (own-packed .used i h, omega arith)
 
--- it has stopped at one container
-pub stopped-in : (d : Tables) (m n : ℕ) (r : Bool) (g h : List ℕ) → Filling d m r g → r ≡ false → Filling d n false h
-stopped-in d m n r g h f e = stopped d n h (f .refused e)
+  -- the same, over the values read
+  pub packed-entity : (i x n : ℕ) → n ≡ usedPlaces d e → i < n → x ≡ places d e i → (1 ≤ x) × (x ≤ entityCount)
+  packed-entity i x n ne h xe = rw xe (own-content i (omega arith))
 
 -- ---- where every entity is in order by itself
 
-module _ (d : Tables) (o : Bounded d) (w : every entityCount (λ e. ownTest d (suc e)) ≡ true) where
+module _ (d : Tables) (o : Bounded d) (w : allOwn d ≡ true) where
   -- entity e is in order
-  own-at : (e : ℕ) → 1 ≤ e → e ≤ entityCount → T (ownTest d e)
+  pub own-at : (e : ℕ) → 1 ≤ e → e ≤ entityCount → T (ownTest d e)
   own-at zero l h = absurd (omega arith)
   own-at (suc e) l h = every-at entityCount (λ e. ownTest d (suc e)) (is-true (every entityCount (λ e. ownTest d (suc e))) w) e (omega arith)
 
@@ -98,13 +89,11 @@ module _ (d : Tables) (o : Bounded d) (w : every entityCount (λ e. ownTest d (s
 
   -- the places of every entity are packed
   packed : (e : ℕ) → Packed (places d e) (usedPlaces d e)
-  unfolding ownTest
   packed e = go (ltb 0 e) (below 0 e) (ltb entityCount e) (below entityCount e)
     where
       go : (a : Bool) → Below 0 e a → (b : Bool) → Below entityCount e b → Packed (places d e) (usedPlaces d e)
       go true (under h) true (under l) = nothing-out e (inr l)
-      go true (under h) false (over l) =
-          entity-agrees (d .entity e) (eights d o e) .to (T-l (entityTest (d .entity e)) (contentsAt d e && idleAt d e) (own-at e h l)) .filled .packed
+      go true (under h) false (over l) = own-packed d o e (own-at e h l)
       go false (over h) b l = nothing-out e (inl (omega arith))
 
   -- the number of an entity that has a place
@@ -116,29 +105,15 @@ module _ (d : Tables) (o : Bounded d) (w : every entityCount (λ e. ownTest d (s
 
   -- what stands in places are entities
   content : (e i : ℕ) → i < usedPlaces d e → (1 ≤ places d e i) × (places d e i ≤ entityCount)
-  unfolding ownTest
-  content e i h =
-      let n = number e i h in
-      let c = contents-agrees d o e .to (T-l (contentsAt d e) (idleAt d e) (T-r (entityTest (d .entity e)) (contentsAt d e && idleAt d e)
-      (own-at e (n .0) (n .1)))) i (omega (arith, packed e .room)) h in
-      let b : ¬ (entityCount < places d e i) = λ q. omega (arith, o .entityOut (places d e i) (inr q) kind, c .0) in
-      (packed e .used i h, omega arith)
+  content e i h = let n = number e i h in own-content d o e (own-at e (n .0) (n .1)) i h
 
   -- the numbers of a slot
   slot-in : (c i x : ℕ) → Slot d c i x → (c ≤ entityCount) × (i < placeCount)
   slot-in c i x s = (number c i (s .used) .1, omega (arith, s .used, packed c .room))
 
-  -- the slot that the loop is at, over the values read
-  pub slot-at : (c i x k n : ℕ) → 1 ≤ c → k ≡ kinds d c → k ≡ containerKind → n ≡ usedPlaces d c → i < n → x ≡ places d c i → Slot d c i x
-  slot-at c i x k n l ke k2 ne h xe = record { low = l; box = sym ke ∙ k2; used = omega arith; at = sym xe }
-
   -- what stands in a slot is an entity
-  pub slot-entity : (c i x : ℕ) → Slot d c i x → (1 ≤ x) × (x ≤ entityCount)
+  slot-entity : (c i x : ℕ) → Slot d c i x → (1 ≤ x) × (x ≤ entityCount)
   slot-entity c i x s = rw (← s .at) (content c i (s .used))
-
-  -- no more places are used than there are
-  pub used-low : (c n : ℕ) → n ≡ usedPlaces d c → n ≤ placeCount
-  used-low c n e = omega (arith, packed c .room)
 
   -- no container
   pub filled-skip : (c k : ℕ) (h : List ℕ) → 1 ≤ c → k ≡ kinds d c → k ≢ containerKind → Filled d ((c - 1) * placeCount) h → Filled d (c * placeCount) h
@@ -255,12 +230,6 @@ module _ (d : Tables) (o : Bounded d) (w : every entityCount (λ e. ownTest d (s
       let z : ¬ (1 ≤ getD h 0 0) = λ l. let r = f .sound 0 l in omega (arith, slot-entity (getD h 0 0) (r .0) 0 (r .1)) in
       omega arith
 
-  -- both tests from the list
-  pub tree-refused : (n : ℕ) (r : Bool) (h : List ℕ) → Filling d n r h → r ≡ false
-      → false ≡ (oneTest (kinds d) (usedPlaces d) (places d) (devices d) && loopTest (kinds d) (usedPlaces d) (places d) (devices d))
-  tree-refused n r h f e = rw (f .refused e)
-
   -- the list is whole: what is left to ask is that every way up ends
-  pub tree-ends : (r : Bool) (h : List ℕ) → Filling d slotCount r h → r ≡ true → (b : Bool) → b ≡ allEnd h
-      → b ≡ (oneTest (kinds d) (usedPlaces d) (places d) (devices d) && loopTest (kinds d) (usedPlaces d) (places d) (devices d))
-  tree-ends r h f e b be = rw (filled-one h (f .filled e)) (be ∙ filled-loop h (f .filled e))
+  pub tree-ends : (h : List ℕ) → Filled d slotCount h → (b : Bool) → b ≡ allEnd h → b ≡ treeTest d
+  tree-ends h f b be = rw (filled-one h f) (be ∙ filled-loop h f)

@@ -11,6 +11,9 @@ pub mod ObjectLaws
 pub mod OwnLaws
 pub mod PassLaws
 pub mod HolderLaws
+pub mod NotedLaws
+pub mod Judging
+pub mod JudgingLaws
 pub mod JumpLaws
 pub mod SecureLaws
 pub mod ReachLaws

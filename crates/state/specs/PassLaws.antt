@@ -15,7 +15,8 @@ use Rattle.model.specs.State.Check.{aloneTest, contentsTest, deviceTest, idleTe
 use Rattle.model.specs.State.Tests.{entityTest, userTest}
 use Rattle.model.specs.Tables.Layout.{Bounded}
 use Rattle.model.specs.Tables.Words.{Tables, usedPlaces, device, deviceKind, devices, entityCount, kind, kinds, places, userCount}
-use Rattle.state.specs.Passes.{contentsAt, idleAt, onDevice, ownTest}
+use Rattle.state.specs.Holders.{Amiss}
+use Rattle.state.specs.Passes.{allOwn, contentsAt, idleAt, onDevice, ownTest, treeTest}
 
 -- ---- who is on what
 
@@ -125,15 +126,15 @@ module _ (d : Tables) (o : Bounded d) where
       pub devices-fail : v ≡ false → false ≡ wellFormedTest d
       devices-fail f = rw f at from-devices
 
-      module _ (vt : v ≡ true) (w : Bool) (we : w ≡ every entityCount (λ e. ownTest d (suc e))) where
+      module _ (vt : v ≡ true) where
         -- what is left from the entities on
-        from-entities : (w && Tree) ≡ wellFormedTest d
-        from-entities = rw we (rw vt at from-devices)
+        from-entities : (every entityCount (λ e. ownTest d (suc e)) && Tree) ≡ wellFormedTest d
+        from-entities = rw vt at from-devices
 
-        -- some entity is not in order
-        pub entities-fail : w ≡ false → false ≡ wellFormedTest d
-        entities-fail f = rw f at from-entities
+        -- some entity is not in order by itself, or the containers are not
+        pub amiss-fails : Amiss d → false ≡ wellFormedTest d
+        amiss-fails a = sym a ∙ from-entities
 
-        -- what stands in what is all that is left
-        pub tree-left : w ≡ true → (b : Bool) → b ≡ Tree → b ≡ wellFormedTest d
+        -- every entity is, and what stands in what is all that is left
+        pub tree-left : allOwn d ≡ true → (b : Bool) → b ≡ treeTest d → b ≡ wellFormedTest d
         tree-left t b be = be ∙ (rw t at from-entities)

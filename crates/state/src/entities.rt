@@ -1,21 +1,29 @@
-// The records of the entities, each by itself, what stands in their places, and screens that nobody is on.
+// The records of the entities, each by itself, what stands in their places, and screens that nobody is on; and the one pass over all of them, which notes
+// what stands in what and asks what is secure on the way.
 use crate::access;
+use crate::secure;
+use crate::tree;
 use names::kind;
 use names::range;
+use names::refusal;
 use names::size;
 use names::types;
 use names::word;
 use tables::Entity;
 ghost use mathlib.Core.Path.{_≡_};
 ghost use mathlib.Core.Bool.{not, true};
-ghost use Prim.Native.Nat.{_+_, _<_, _≤_, suc};
+ghost use Prim.Native.Nat.{_*_, _+_, _-_, _<_, _≤_};
 ghost use lib.Dec.{eqb};
 ghost use lib.ListN.{length};
+ghost use Rattle.model.specs.Basics.Choice.{pick};
 ghost use Rattle.model.specs.Basics.Tests.{every};
+ghost use Rattle.model.specs.Request.Refusals as refusal;
 ghost use Rattle.model.specs.State.Tests.{shapeTest};
 ghost use Rattle.model.specs.Tables.Layout.{entityWidth, tablesOf, wordCount};
 ghost use Rattle.model.specs.Tables.WordAt.{entityWordAt};
-ghost use Rattle.model.specs.Tables.Words.{entityCount, kinds, placeCount, places, usedPlaces};
+ghost use Rattle.model.specs.Tables.Words.{kinds, placeCount, places, usedPlaces};
+ghost use Rattle.state.specs.Holders.{Noted};
+ghost use Rattle.state.specs.Judging.{Judging, JudgingAll};
 ghost use Rattle.state.specs.Passes.{Counted, bare, entityBlank, holdingTest, newAt, objectTest, ownTest, placeTest, shapeAt, unlike, usedTest};
 ghost use Rattle.tables.specs.Singles.{EntityIn};
 
@@ -240,17 +248,51 @@ fn entity_fine(t: &[u32], e: Entity) -> bool
     present_fine(t, e, k)
 }
 
-// Whether every entity is in order.
-pub fn entities_fine(t: &[u32]) -> bool
-    requires { ⌜ length (now t) ≡ wordCount ⌝ }
-    ensures { λ r. ⌜ r ≡ every entityCount (λ e. ownTest (tablesOf (now (t .entry))) (suc e)) ⌝ }
+// The judgement of entity e by itself: whether it is in order, what stands in it being noted in h, and whether it is secure. What is absent holds nothing.
+fn entity_judged(t: &[u32], h: &mut [u32; size::ENTITY_NUMBERS], e: Entity) -> u32
+    requires { ⌜ EntityIn (now t) (e .0) × Noted (tablesOf (now t)) ((e .0 - 1) * placeCount) (now h) ⌝ }
+    ensures { λ r. ⌜ Judging (tablesOf (now (t .entry))) (e .0) r (now (h .exit)) ⌝ }
 {
+    if !entity_fine(t, e) {
+        return refusal::NOT_WELL_FORMED;
+    }
+    if tables::kind(t, e) == kind::ABSENT {
+        return refusal::ACCEPTED;
+    }
+    if !tree::note_row(t, h, e) {
+        return refusal::NOT_WELL_FORMED;
+    }
+    if !secure::entity_secure(t, e) {
+        return refusal::NOT_SECURE;
+    }
+    refusal::ACCEPTED
+}
+
+// The answer r, or x where x is a refusal.
+fn worse(r: u32, x: u32) -> u32
+    ensures { λ z. ⌜ z ≡ pick (eqb x refusal.accepted) r x ⌝ }
+{
+    if x == refusal::ACCEPTED {
+        return r;
+    }
+    x
+}
+
+// The judgement of every entity, in one pass. It stops where the tables are not well-formed; that they are not secure is answered only at its end, since
+// the refusal of tables that are not well-formed comes first.
+pub fn entities_judged(t: &[u32], h: &mut [u32; size::ENTITY_NUMBERS]) -> u32
+    requires { ⌜ (length (now t) ≡ wordCount) × Noted (tablesOf (now t)) 0 (now h) ⌝ }
+    ensures { λ r. ⌜ JudgingAll (tablesOf (now (t .entry))) r (now (h .exit)) ⌝ }
+{
+    let mut r: u32 = refusal::ACCEPTED;
     let mut i: u32 = 0;
     while i < size::ENTITIES {
-        if !entity_fine(t, Entity(i + 1)) {
-            return false;
+        let x = entity_judged(t, h, Entity(i + 1));
+        if x == refusal::NOT_WELL_FORMED {
+            return x;
         }
+        r = worse(r, x);
         i += 1;
     }
-    true
+    r
 }

@@ -3,7 +3,7 @@ use names::refusal;
 use names::size;
 ghost use mathlib.Core.Path.{_≡_};
 ghost use lib.ListN.{length};
-ghost use Rattle.model.specs.State.Check.{check, judge, secureTest, wellFormedTest};
+ghost use Rattle.model.specs.State.Check.{check, judge};
 ghost use Rattle.model.specs.Tables.Layout.{tablesOf, wordCount};
 
 mod access;
@@ -12,43 +12,30 @@ mod secure;
 mod tree;
 mod users;
 
-// Whether the tables are well-formed: each record by itself, then what joins them.
-pub fn well_formed(t: &[u32]) -> bool
-    requires { ⌜ length (now t) ≡ wordCount ⌝ }
-    ensures { λ r. ⌜ r ≡ wellFormedTest (tablesOf (now (t .entry))) ⌝ }
-{
-    if !users::users_fine(t) {
-        return false;
-    }
-    if !users::devices_fine(t) {
-        return false;
-    }
-    if !entities::entities_fine(t) {
-        return false;
-    }
-    tree::tree_fine(t)
-}
-
-// Whether the tables, well-formed or not, are secure.
-pub fn is_secure(t: &[u32]) -> bool
-    requires { ⌜ length (now t) ≡ wordCount ⌝ }
-    ensures { λ r. ⌜ r ≡ secureTest (tablesOf (now (t .entry))) ⌝ }
-{
-    if !secure::entities_secure(t) {
-        return false;
-    }
-    secure::users_secure(t)
-}
-
-// The refusal of tables that are not well-formed, else of tables that are not secure, else none.
+// The refusal of tables that are not well-formed, else of tables that are not secure, else none. Each record is read once; what joins the entities is asked
+// of the list of holders, and what a user is shown comes last.
 pub fn judged(t: &[u32]) -> u32
     requires { ⌜ length (now t) ≡ wordCount ⌝ }
     ensures { λ r. ⌜ r ≡ judge (tablesOf (now (t .entry))) ⌝ }
 {
-    if !well_formed(t) {
+    if !users::users_fine(t) {
         return refusal::NOT_WELL_FORMED;
     }
-    if !is_secure(t) {
+    if !users::devices_fine(t) {
+        return refusal::NOT_WELL_FORMED;
+    }
+    let mut h = [0u32; size::ENTITY_NUMBERS];
+    let r = entities::entities_judged(t, &mut h);
+    if r == refusal::NOT_WELL_FORMED {
+        return refusal::NOT_WELL_FORMED;
+    }
+    if !tree::all_end(&h) {
+        return refusal::NOT_WELL_FORMED;
+    }
+    if r != refusal::ACCEPTED {
+        return r;
+    }
+    if !secure::users_secure(t) {
         return refusal::NOT_SECURE;
     }
     refusal::ACCEPTED

@@ -1,4 +1,4 @@
-// Whether any tables are secure (definition 2): one pass over the entities, and one over the users.
+// Whether any tables are secure (definition 2): what is asked of an entity, and the pass over the users.
 use levels::Level;
 use names::size;
 use tables::Entity;
@@ -10,7 +10,7 @@ ghost use lib.ListN.{length};
 ghost use Rattle.model.specs.Basics.Tests.{every};
 ghost use Rattle.model.specs.Level.{atMost};
 ghost use Rattle.model.specs.Tables.Layout.{tablesOf, wordCount};
-ghost use Rattle.model.specs.Tables.Words.{entityCount, level, placeCount, places, userCount};
+ghost use Rattle.model.specs.Tables.Words.{level, placeCount, places, userCount};
 ghost use Rattle.state.specs.Passes.{Graded, allSecure, capped, entitySecure, placeSecure, userSecure};
 ghost use Rattle.tables.specs.Singles.{EntityIn, UserIn};
 
@@ -49,7 +49,7 @@ fn capped(n: u32) -> u32
 }
 
 // Whether entity e keeps rules 4.1, 4.3 and 4.5.
-fn entity_secure(t: &[u32], e: Entity) -> bool
+pub fn entity_secure(t: &[u32], e: Entity) -> bool
     requires { ⌜ EntityIn (now t) (e .0) ⌝ }
     ensures { λ r. ⌜ r ≡ entitySecure (tablesOf (now (t .entry))) (e .0) ⌝ }
 {
@@ -63,21 +63,6 @@ fn entity_secure(t: &[u32], e: Entity) -> bool
         return true;
     }
     levels::at_most(l, tables::maximum(t, e))
-}
-
-// Whether every entity keeps rules 4.1, 4.3 and 4.5.
-pub fn entities_secure(t: &[u32]) -> bool
-    requires { ⌜ length (now t) ≡ wordCount ⌝ }
-    ensures { λ r. ⌜ r ≡ every entityCount (λ e. entitySecure (tablesOf (now (t .entry))) (suc e)) ⌝ }
-{
-    let mut i: u32 = 0;
-    while i < size::ENTITIES {
-        if !entity_secure(t, Entity(i + 1)) {
-            return false;
-        }
-        i += 1;
-    }
-    true
 }
 
 // Whether what stands in place i of device v is at most level c.

@@ -1,4 +1,4 @@
-// Containers in containers: no entity stands in two, and none lies in itself. One pass notes for each entity the container that it stands in.
+// Containers in containers: no entity stands in two, and none lies in itself. The pass over the entities notes for each the container that it stands in.
 // Then all entities climb that list at once: whoever has not come out of the last container after as many steps as there are entities, lies in itself.
 use names::kind;
 use names::size;
@@ -7,17 +7,17 @@ ghost use mathlib.Core.Path.{_≡_};
 ghost use mathlib.Core.Bool.{true};
 ghost use Prim.Native.Nat.{_*_, _-_};
 ghost use lib.ListN.{getD, length};
-ghost use Rattle.model.specs.Tables.Layout.{tablesOf, wordCount};
+ghost use Rattle.model.specs.Tables.Layout.{tablesOf};
 ghost use Rattle.model.specs.Tables.Words.{placeCount};
-ghost use Rattle.state.specs.Holders.{Filled, Filling, Low, entityNumbers, slotCount};
+ghost use Rattle.state.specs.Holders.{Low, Noted, Noting, entityNumbers};
 ghost use Rattle.state.specs.Jumps.{Jumped, allEnd};
-ghost use Rattle.state.specs.Passes.{allOwn, treeTest};
+ghost use Rattle.state.specs.Passes.{ownTest};
 ghost use Rattle.tables.specs.Singles.{EntityIn};
 
-// Notes in h what stands in the places of entity c, if it is a container. Returns false where some of it is noted already.
-fn note_row(t: &[u32], h: &mut [u32; size::ENTITY_NUMBERS], c: Entity) -> bool
-    requires { ⌜ EntityIn (now t) (c .0) × (allOwn (tablesOf (now t)) ≡ true) × Filled (tablesOf (now t)) ((c .0 - 1) * placeCount) (now h) ⌝ }
-    ensures { λ r. ⌜ Filling (tablesOf (now (t .entry))) (c .0 * placeCount) r (now (h .exit)) ⌝ }
+// Notes in h what stands in the places of entity c, which is in order by itself, if it is a container. Returns false where some of it is noted already.
+pub fn note_row(t: &[u32], h: &mut [u32; size::ENTITY_NUMBERS], c: Entity) -> bool
+    requires { ⌜ EntityIn (now t) (c .0) × (ownTest (tablesOf (now t)) (c .0) ≡ true) × Noted (tablesOf (now t)) ((c .0 - 1) * placeCount) (now h) ⌝ }
+    ensures { λ r. ⌜ Noting (tablesOf (now (t .entry))) (c .0 * placeCount) r (now (h .exit)) ⌝ }
 {
     if tables::kind(t, c) != kind::CONTAINER {
         return true;
@@ -30,21 +30,6 @@ fn note_row(t: &[u32], h: &mut [u32; size::ENTITY_NUMBERS], c: Entity) -> bool
             return false;
         }
         h[x as usize] = c.0;
-        i += 1;
-    }
-    true
-}
-
-// Notes in h what stands in every container. Returns false where something stands in two.
-fn note_all(t: &[u32], h: &mut [u32; size::ENTITY_NUMBERS]) -> bool
-    requires { ⌜ (length (now t) ≡ wordCount) × (allOwn (tablesOf (now t)) ≡ true) × Filled (tablesOf (now t)) 0 (now h) ⌝ }
-    ensures { λ r. ⌜ Filling (tablesOf (now (t .entry))) slotCount r (now (h .exit)) ⌝ }
-{
-    let mut i: u32 = 0;
-    while i < size::ENTITIES {
-        if !note_row(t, h, Entity(i + 1)) {
-            return false;
-        }
         i += 1;
     }
     true
@@ -71,7 +56,7 @@ fn jump(
 }
 
 // Whether the way up from every entity ends. All of them climb at once, each time twice as far, so that no branch waits for how deep one lies.
-fn all_end(h: &[u32; size::ENTITY_NUMBERS]) -> bool
+pub fn all_end(h: &[u32; size::ENTITY_NUMBERS]) -> bool
     requires { ⌜ Low (now h) × (getD (now h) 0 0 ≡ 0) ⌝ }
     ensures { λ r. ⌜ r ≡ allEnd (now (h .entry)) ⌝ }
 {
@@ -96,16 +81,4 @@ fn all_end(h: &[u32; size::ENTITY_NUMBERS]) -> bool
         return true;
     }
     jump(&b, h, &mut a)
-}
-
-// Whether, where every entity is in order by itself, none stands in two containers and none lies in itself.
-pub fn tree_fine(t: &[u32]) -> bool
-    requires { ⌜ (length (now t) ≡ wordCount) × (allOwn (tablesOf (now t)) ≡ true) ⌝ }
-    ensures { λ r. ⌜ r ≡ treeTest (tablesOf (now (t .entry))) ⌝ }
-{
-    let mut h = [0u32; size::ENTITY_NUMBERS];
-    if !note_all(t, &mut h) {
-        return false;
-    }
-    all_end(&h)
 }

@@ -1,0 +1,36 @@
+-- What the one pass over the entities answers and leaves: every record is read in it once, and what is not well-formed ends it.
+use mathlib.Core.Bool.{true}
+use mathlib.Core.List.{List}
+use mathlib.Core.Logic.{_⊎_}
+use mathlib.Core.Path.{_≡_}
+use Prim.Native.Nat.{_*_, suc, ℕ}
+use Rattle.model.specs.Basics.Choice.{pick}
+use Rattle.model.specs.Basics.Tests.{every}
+use Rattle.model.specs.Request.Refusals as refusal
+use Rattle.model.specs.Tables.Words.{Tables, entityCount, placeCount}
+use Rattle.state.specs.Holders.{Amiss, Noted}
+use Rattle.state.specs.Passes.{entitySecure, ownTest}
+
+-- entity e is in order, what stands in it is noted, and r says whether it is secure
+pub record Sound (d : Tables) (e r : ℕ) (h : List ℕ) : Type 0 where
+  pub own : ownTest d e ≡ true
+  pub noted : Noted d (e * placeCount) h
+  pub graded : r ≡ pick (entitySecure d e) refusal.accepted refusal.notSecure
+
+-- r refuses tables that are not well-formed
+abbrev pub Refusing : Tables → ℕ → Type 0
+Refusing d r = (r ≡ refusal.notWellFormed) × Amiss d
+
+-- what is answered of entity e
+abbrev pub Judging : Tables → (e r : ℕ) → List ℕ → Type 0
+Judging d e r h = Refusing d r ⊎ Sound d e r h
+
+-- the same of the first i entities
+pub record SoundTo (d : Tables) (i r : ℕ) (h : List ℕ) : Type 0 where
+  pub own : every i (λ e. ownTest d (suc e)) ≡ true
+  pub noted : Noted d (i * placeCount) h
+  pub graded : r ≡ pick (every i (λ e. entitySecure d (suc e))) refusal.accepted refusal.notSecure
+
+-- and of all
+abbrev pub JudgingAll : Tables → ℕ → List ℕ → Type 0
+JudgingAll d r h = Refusing d r ⊎ SoundTo d entityCount r h
