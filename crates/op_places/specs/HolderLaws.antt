@@ -10,16 +10,17 @@ use Rattle.model.specs.Basics.Choice.{Below, Same, below, it, other, over, pick
 use Rattle.model.specs.Basics.TestLaws.{pick-same}
 use Rattle.model.specs.Effect.Places.{leave}
 use Rattle.model.specs.State.AgreeLinks.{in-agrees, member-agrees}
-use Rattle.model.specs.State.ParentLaws.{parent-held, parent-none, parent-range, row-room}
+use Rattle.model.specs.State.ParentLaws.{parent-none, row-room}
 use Rattle.model.specs.State.WellFormed.{InTables, WellFormed}
 use Rattle.model.specs.Tables.Edits.{Edit, _and_, onEntity, row, word, written}
 use Rattle.model.specs.Tables.RowLaws.{without-none}
 use Rattle.model.specs.Tables.Rows.{close, left, seek}
 use Rattle.model.specs.Tables.StoreLaws.{twice}
-use Rattle.model.specs.Tables.Words.{EntityWord, Tables, containerKind, used, usedPlaces, entityCount, kind, kinds, level, mark}
+use Rattle.model.specs.Tables.Words.{EntityWord, Tables, containerKind, used, usedPlaces, kind, kinds, level, mark}
 use Rattle.model.specs.Tables.Words.{maximum, place, placeCount, places, releaser, shown, triple, type, value}
 use Rattle.model.specs.Theorem.FramedPlaces.{leave-left}
 use Rattle.model.specs.Theorem.MayChange.{contentWord, holder}
+use Rattle.standing.specs.LookLaws.{held-here}
 use Rattle.standing.specs.Standing.{parentIn}
 
 no-and : (a b : Bool) → (T a → ⊥) → T (not (a && b))
@@ -28,20 +29,14 @@ no-and false b n = tt
 
 module _ (d : Tables) (w : WellFormed d) where
   module _ (e h : ℕ) (p : h ≡ parentIn d e) where
-    held-here : h ≢ 0 → InTables d h e
-    held-here n = subst (λ (x : ℕ). InTables d x e) (sym p) (parent-held d w e (λ z. n (p ∙ z)))
-
     -- another container does not hold it
     not-there : (x : ℕ) → x ≢ h → InTables d x e → ⊥
-    not-there x n i = n (w .links .oneContainer e x h i (held-here (λ z. parent-none d w e (sym p ∙ z) x i)))
+    not-there x n i = n (w .links .oneContainer e x h i (held-here d w e h p (λ z. parent-none d w e (sym p ∙ z) x i)))
 
-    -- the container has a number, and e has a place in it
-    pub holder-in : h ≢ 0 → (1 ≤ h) × (h ≤ entityCount)
-    holder-in n = parent-range d w h e (held-here n)
-
+    -- e has a place in it
     pub place-in : h ≢ 0 → (n k : ℕ) → n ≡ usedPlaces d h → k ≡ seek e (places d h) n → k < n
     place-in z n k q r = rw (r, q) (ltb→lt (seek e (places d h) (usedPlaces d h)) (usedPlaces d h)
-        (member-agrees (places d h) (usedPlaces d h) e .from (held-here z .1)))
+        (member-agrees (places d h) (usedPlaces d h) e .from (held-here d w e h p z .1)))
 
     -- ---- to leave
 
@@ -78,8 +73,9 @@ module _ (d : Tables) (w : WellFormed d) where
       leave-here value = refl
       leave-here releaser = refl
       leave-here maximum = refl
-      leave-here used = rw (eq-eqb (kinds d h) containerKind (held-here z .0)) (ap (λ (m : ℕ). m - 1) q ∙ sym (left-one z))
-      leave-here (place i) = rw (eq-eqb (kinds d h) containerKind (held-here z .0)) (ap (λ (m : ℕ). close m (places d h) i) (r ∙ ap (seek e (places d h)) q))
+      leave-here used = rw (eq-eqb (kinds d h) containerKind (held-here d w e h p z .0)) (ap (λ (m : ℕ). m - 1) q ∙ sym (left-one z))
+      leave-here (place i) = rw (eq-eqb (kinds d h) containerKind (held-here d w e h p z .0))
+          (ap (λ (m : ℕ). close m (places d h) i) (r ∙ ap (seek e (places d h)) q))
       leave-here (shown i) = refl
       leave-here (triple i) = refl
 

@@ -1,7 +1,7 @@
 -- The searches: for an entity in the places of another, for the container that it is in, for a screen that shows it.
 use mathlib.Core.Bool.{Bool, _&&_, false, not, true}
 use mathlib.Core.Logic.{_≢_}
-use mathlib.Core.Path.{_∙_, _≡_, ap, refl, sym}
+use mathlib.Core.Path.{_∙_, _≡_, ap, refl, subst, sym}
 use Prim.Native.Nat.{_+_, _<_, _≤_, suc, ℕ}
 use native.Mathlib.Numerals.{add-one}
 use native.Mathlib.Omega.{arith}
@@ -12,7 +12,8 @@ use Rattle.model.specs.Basics.Choice.{Below, below, over, pick, under}
 use Rattle.model.specs.Basics.Tests.{every, imp}
 use Rattle.model.specs.Request.Conditions.{onScreen}
 use Rattle.model.specs.State.Check.{inTest, parent, spotOf}
-use Rattle.model.specs.State.WellFormed.{WellFormed}
+use Rattle.model.specs.State.ParentLaws.{parent-held, parent-range}
+use Rattle.model.specs.State.WellFormed.{InTables, WellFormed}
 use Rattle.model.specs.Tables.Rows.{seek}
 use Rattle.model.specs.Tables.Words.{Tables, containerKind, usedPlaces, deviceKind, entityCount, kinds, placeCount, places}
 use Rattle.standing.specs.Standing.{Unheld, hides, parentIn, standing}
@@ -87,6 +88,15 @@ module _ (d : Tables) (e : ℕ) where
       go : (b : Bool) → Below spot entityCount b → entityCount ≡ spot → 0 ≡ pick b (suc spot) 0
       go true (under l) s = absurd (omega arith)
       go false (over l) s = refl
+
+-- in well-formed tables, where it is in one
+module _ (d : Tables) (w : WellFormed d) (e h : ℕ) (p : h ≡ parentIn d e) (n : h ≢ 0) where
+  pub held-here : InTables d h e
+  held-here = subst (λ (x : ℕ). InTables d x e) (sym p) (parent-held d w e (λ z. n (p ∙ z)))
+
+  -- the container has a number
+  pub holder-in : (1 ≤ h) × (h ≤ entityCount)
+  holder-in = parent-range d w h e held-here
 
 -- ---- a screen that shows e
 
