@@ -1,8 +1,8 @@
--- In well-formed tables: the container that an entity is in, what it is to leave it, and what lies in what.
+-- In well-formed tables: the container that an entity is in, and what it is to leave it.
 use mathlib.Core.Bool.{Bool, _&&_, false, not, true}
-use mathlib.Core.Logic.{_≢_, inl, inr}
+use mathlib.Core.Logic.{_≢_}
 use mathlib.Core.Path.{_∙_, _≡_, ap, fun-ext, refl, subst, sym}
-use Prim.Native.Nat.{_-_, _<_, _≤_, pred, suc, ℕ}
+use Prim.Native.Nat.{_-_, _<_, _≤_, pred, ℕ}
 use native.Mathlib.Omega.{arith}
 use lib.Dec.{T, eqb, leb, ltb, ltb→lt}
 use borrow.Author.Tests.{eq-eqb, lt-leb}
@@ -10,21 +10,18 @@ use Rattle.model.specs.Basics.Choice.{Below, Same, below, it, other, over, pick
 use Rattle.model.specs.Basics.TestLaws.{pick-same}
 use Rattle.model.specs.Effect.Places.{leave}
 use Rattle.model.specs.State.AgreeLinks.{in-agrees, member-agrees}
-use Rattle.model.specs.State.Climb.{climb}
-use Rattle.model.specs.State.ClimbLaws.{climb-sound}
-use Rattle.model.specs.State.Depth.{Within}
-use Rattle.model.specs.State.DepthLaws.{holds-one}
-use Rattle.model.specs.State.ParentLaws.{parent-held, parent-none, parent-range, row-room}
+use Rattle.model.specs.State.ParentLaws.{parent-none, row-room}
 use Rattle.model.specs.State.WellFormed.{InTables, WellFormed}
 use Rattle.model.specs.Tables.Edits.{Edit, _and_, onEntity, row, word, written}
 use Rattle.model.specs.Tables.RowLaws.{without-none}
 use Rattle.model.specs.Tables.Rows.{close, left, seek}
 use Rattle.model.specs.Tables.StoreLaws.{twice}
-use Rattle.model.specs.Tables.Words.{EntityWord, Tables, containerKind, used, usedPlaces, entityCount, kind, kinds, level, mark}
+use Rattle.model.specs.Tables.Words.{EntityWord, Tables, containerKind, used, usedPlaces, kind, kinds, level, mark}
 use Rattle.model.specs.Tables.Words.{maximum, place, placeCount, places, releaser, shown, triple, type, value}
 use Rattle.model.specs.Theorem.FramedPlaces.{leave-left}
 use Rattle.model.specs.Theorem.MayChange.{contentWord, holder}
-use Rattle.op_places.specs.Standing.{parentIn}
+use Rattle.standing.specs.LookLaws.{held-here}
+use Rattle.standing.specs.Standing.{parentIn}
 
 no-and : (a b : Bool) → (T a → ⊥) → T (not (a && b))
 no-and true b n = absurd (n tt)
@@ -32,20 +29,14 @@ no-and false b n = tt
 
 module _ (d : Tables) (w : WellFormed d) where
   module _ (e h : ℕ) (p : h ≡ parentIn d e) where
-    held-here : h ≢ 0 → InTables d h e
-    held-here n = subst (λ (x : ℕ). InTables d x e) (sym p) (parent-held d w e (λ z. n (p ∙ z)))
-
     -- another container does not hold it
     not-there : (x : ℕ) → x ≢ h → InTables d x e → ⊥
-    not-there x n i = n (w .links .oneContainer e x h i (held-here (λ z. parent-none d w e (sym p ∙ z) x i)))
+    not-there x n i = n (w .links .oneContainer e x h i (held-here d w e h p (λ z. parent-none d w e (sym p ∙ z) x i)))
 
-    -- the container has a number, and e has a place in it
-    pub holder-in : h ≢ 0 → (1 ≤ h) × (h ≤ entityCount)
-    holder-in n = parent-range d w h e (held-here n)
-
+    -- e has a place in it
     pub place-in : h ≢ 0 → (n k : ℕ) → n ≡ usedPlaces d h → k ≡ seek e (places d h) n → k < n
     place-in z n k q r = rw (r, q) (ltb→lt (seek e (places d h) (usedPlaces d h)) (usedPlaces d h)
-        (member-agrees (places d h) (usedPlaces d h) e .from (held-here z .1)))
+        (member-agrees (places d h) (usedPlaces d h) e .from (held-here d w e h p z .1)))
 
     -- ---- to leave
 
@@ -82,8 +73,9 @@ module _ (d : Tables) (w : WellFormed d) where
       leave-here value = refl
       leave-here releaser = refl
       leave-here maximum = refl
-      leave-here used = rw (eq-eqb (kinds d h) containerKind (held-here z .0)) (ap (λ (m : ℕ). m - 1) q ∙ sym (left-one z))
-      leave-here (place i) = rw (eq-eqb (kinds d h) containerKind (held-here z .0)) (ap (λ (m : ℕ). close m (places d h) i) (r ∙ ap (seek e (places d h)) q))
+      leave-here used = rw (eq-eqb (kinds d h) containerKind (held-here d w e h p z .0)) (ap (λ (m : ℕ). m - 1) q ∙ sym (left-one z))
+      leave-here (place i) = rw (eq-eqb (kinds d h) containerKind (held-here d w e h p z .0))
+          (ap (λ (m : ℕ). close m (places d h) i) (r ∙ ap (seek e (places d h)) q))
       leave-here (shown i) = refl
       leave-here (triple i) = refl
 
@@ -117,25 +109,3 @@ module _ (d : Tables) (w : WellFormed d) where
             ))))
         go false (other s) = ap (leb placeCount) (q ∙ sym (without-none e (places d c) (usedPlaces d c) (w .entities c .filled .packed)
             (λ m. not-there c (λ z. s (sym z)) (box, m)) .0))
-
-  -- ---- what lies in what
-
-  -- an entity that holds nothing has itself only
-  pub inside-empty : (e c n : ℕ) → n ≡ usedPlaces d e → n ≡ 0 → eqb c e ≡ climb (parentIn d) (suc entityCount) c e
-  unfolding climb
-  inside-empty e c n q z = go (eqb c e) (same c e)
-      (climb-sound entityCount (InTables d) (parentIn d) (parent-none d w) (parent-held d w) (w .links .oneContainer) (parent-range d w) (suc entityCount) c e)
-    where
-      go : (b : Bool) → Same c e b
-          → (T (pick b true (pick (eqb (parentIn d c) 0) false (climb (parentIn d) entityCount (parentIn d c) e))) → Within (InTables d) c e)
-          → b ≡ pick b true (pick (eqb (parentIn d c) 0) false (climb (parentIn d) entityCount (parentIn d c) e))
-      go true s f = refl
-      go false (other s) f = out (pick (eqb (parentIn d c) 0) false (climb (parentIn d) entityCount (parentIn d c) e)) f
-        where
-          none : Within (InTables d) c e → ⊥
-          none (inl y) = s y
-          none (inr p) = let x = holds-one p in omega (arith, x .1 .1 .1)
-
-          out : (b : Bool) → (T b → Within (InTables d) c e) → false ≡ b
-          out true g = absurd (none (g tt))
-          out false g = refl

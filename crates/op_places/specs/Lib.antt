@@ -1,7 +1,6 @@
 -- What the searches and stores of create, delete and move answer for, and the laws by which these operations meet the model.
-pub mod Standing
 pub mod Stored
-pub mod LookLaws
+pub mod VacantLaws
 pub mod CopyLaws
 pub mod BlankLaws
 pub mod HolderLaws

@@ -21,7 +21,7 @@ use Rattle.model.specs.State.WellFormed.{WellFormed}
 use Rattle.model.specs.Tables.Layout.{tablesOf}
 use Rattle.model.specs.Tables.Words.{Tables, containerKind, usedPlaces, entityCount, kinds, level, placeCount, sums}
 use Rattle.op_places.specs.HolderLaws.{full-left}
-use Rattle.op_places.specs.Standing.{parentIn}
+use Rattle.standing.specs.Standing.{parentIn}
 use Rattle.model.specs.Request.Refusals as refusal
 
 module _ (t q : List ℕ) (u e c : ℕ) (k : Taking toMove t q u) (g : First t q e) (f : Second t q c)

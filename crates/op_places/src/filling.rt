@@ -1,4 +1,4 @@
-// What the three operations store: places that are left or filled, and records that appear or go.
+// What the three operations store: places that are left or filled, and records that appear, with the number that is free for one, or go.
 use levels::Level;
 use names::kind;
 use names::size;
@@ -8,12 +8,12 @@ use tables::Entity;
 ghost use mathlib.Core.Path.{_≡_};
 ghost use Prim.Native.Nat.{_<_, ℕ};
 ghost use lib.ListN.{length};
-ghost use Rattle.model.specs.Effect.Places.{erase, fresh, leave, put, sortKind, sortType};
+ghost use Rattle.model.specs.Effect.Places.{erase, fresh, leave, put, sortKind, sortType, vacant};
 ghost use Rattle.model.specs.State.WellFormed.{WellFormed};
 ghost use Rattle.model.specs.Tables.Edits.{onEntity, row};
 ghost use Rattle.model.specs.Tables.Layout.{tablesOf, wordCount};
 ghost use Rattle.model.specs.Tables.Words.{usedPlaces, placeCount, sums, triple, triples};
-ghost use Rattle.op_places.specs.Standing.{parentIn};
+ghost use Rattle.standing.specs.Standing.{parentIn};
 ghost use Rattle.tables.specs.Singles.{EntityIn};
 
 // Takes entity e out of h, the container that it is in. Where h is entity 0 it is in none.
@@ -37,6 +37,21 @@ pub fn put_last(t: &mut [u32], c: Entity, e: Entity)
     let n = tables::used(t, c);
     tables::set_place(t, c, n, e);
     tables::set_used(t, c, n + 1);
+}
+
+// The lowest absent entity, or the first number past all entities.
+pub fn vacant(t: &[u32]) -> Entity
+    requires { ⌜ length (now t) ≡ wordCount ⌝ }
+    ensures { λ r. ⌜ r .0 ≡ vacant (tablesOf (now (t .entry))) ⌝ }
+{
+    let mut i: u32 = 0;
+    while i < size::ENTITIES {
+        if tables::kind(t, Entity(i + 1)) == kind::ABSENT {
+            return Entity(i + 1);
+        }
+        i += 1;
+    }
+    Entity(size::PAST_ENTITIES)
 }
 
 // Gives entity e the triples of entity c.

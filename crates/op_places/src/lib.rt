@@ -7,7 +7,6 @@ use tables::Entity;
 use tables::User;
 
 mod filling;
-mod places;
 
 ghost use Rattle.ladder.specs.Contract.{First, Judged, Second, Taking};
 ghost use Rattle.model.specs.Request.Operations.{toCreate, toDelete, toMove};
@@ -24,7 +23,7 @@ pub fn create(t: &mut [u32], q: &[u32], u: User, c: Entity) -> u32
     if !levels::at_most(l, tables::level(t, c)) {
         return refusal::LEVEL_OR_ROLES;
     }
-    let n = places::vacant(t);
+    let n = filling::vacant(t);
     if (size::ENTITIES < n.0) | (size::PLACES <= tables::used(t, c)) {
         return refusal::NO_ROOM;
     }
@@ -42,11 +41,11 @@ pub fn delete(t: &mut [u32], q: &[u32], u: User, e: Entity) -> u32
         return refusal::WRONG_KIND;
     }
     if !(tables::used(t, e) == 0)
-        | (places::on_screen(t, e) | (tables::type_of(t, e) == types::RELEASED))
+        | (standing::on_screen(t, e) | (tables::type_of(t, e) == types::RELEASED))
     {
         return refusal::ARRANGEMENT;
     }
-    filling::leave(t, places::holder(t, e), e);
+    filling::leave(t, standing::holder(t, e), e);
     filling::erase(t, e);
     refusal::ACCEPTED
 }
@@ -62,11 +61,11 @@ pub fn relocate(t: &mut [u32], q: &[u32], u: User, e: Entity, c: Entity) -> u32
     if !levels::at_most(tables::level(t, e), tables::level(t, c)) {
         return refusal::LEVEL_OR_ROLES;
     }
-    let h = places::holder(t, e);
+    let h = standing::holder(t, e);
     if !(h.0 == c.0) & (size::PLACES <= tables::used(t, c)) {
         return refusal::NO_ROOM;
     }
-    if places::is_inside(t, c, e) {
+    if standing::is_inside(t, c, e) {
         return refusal::ARRANGEMENT;
     }
     filling::leave(t, h, e);

@@ -1,5 +1,7 @@
+use mathlib.Core.Path.{_∙_, sym}
+use Rattle.model.specs.Basics.TestLaws.{is-true}
+use Rattle.model.specs.Request.ConditionLaws.{thing-agrees}
 use borrow.Author.Tests.{not-false, not-true}
-use mathlib.Core.Path.{_∙_}
 use Rattle.op_entities.specs.EntityLaws.{level-10, level-12, level-13, level-done}
 use borrow.Author.Needs.{needs}
 use Rattle.op_entities.proofs.level.Statement.{statement}
@@ -54,7 +56,15 @@ returns-2 c =
 
 -- src/lib.rt:69:9
 try-level-requires : tie.Need-try-level-requires
-try-level-requires c κs = search needs
+try-level-requires c κs =
+    let s6 = c .before .before .before .before .before .before in
+    let s7 = s6 .before in
+    let s11 = s7 .before .before .before .before in (
+      (s11 .pre .0 .climbed .ready .whole, s11 .pre .1 .low, s11 .pre .1 .high),
+      s11 .pre .0 .climbed .ready .good,
+      thing-agrees _ _ .to
+          (is-true _ (sym (s7 .is-entity .ensures) ∙ not-false _ (s6 .if1 .left))),
+    )
 
 -- src/lib.rt:70:9
 same-length-3 : tie.Need-same-length-3

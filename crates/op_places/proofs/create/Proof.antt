@@ -9,7 +9,7 @@ use Rattle.ladder.proofs.kinds.is_container.Reads as is-container-reads
 use Rattle.levels.proofs.at_most.Reads as at-most-reads
 use Rattle.op_places.proofs.filling.bear.Reads as bear-reads
 use Rattle.op_places.proofs.filling.put_last.Reads as put-last-reads
-use Rattle.op_places.proofs.places.vacant.Reads as vacant-reads
+use Rattle.op_places.proofs.filling.vacant.Reads as vacant-reads
 use Rattle.request.proofs.a.Reads as a-reads
 use Rattle.request.proofs.b.Reads as b-reads
 use Rattle.tables.proofs.level.Reads as level-reads

@@ -10,8 +10,8 @@ use Rattle.ladder.proofs.kinds.is_entity.Reads as is-entity-reads
 use Rattle.levels.proofs.at_most.Reads as at-most-reads
 use Rattle.op_places.proofs.filling.leave.Reads as leave-reads
 use Rattle.op_places.proofs.filling.put_last.Reads as put-last-reads
-use Rattle.op_places.proofs.places.holder.Reads as holder-reads
-use Rattle.op_places.proofs.places.is_inside.Reads as is-inside-reads
+use Rattle.standing.proofs.holder.Reads as holder-reads
+use Rattle.standing.proofs.is_inside.Reads as is-inside-reads
 use Rattle.tables.proofs.level.Reads as level-reads
 use Rattle.tables.proofs.used.Reads as used-reads
 

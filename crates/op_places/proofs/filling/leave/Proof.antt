@@ -1,6 +1,7 @@
 use native.Mathlib.Omega.{arith}
 use Rattle.model.specs.Tables.Layout.{tablesOf}
-use Rattle.op_places.specs.HolderLaws.{holder-in, leave-none, leave-stores, place-in}
+use Rattle.op_places.specs.HolderLaws.{leave-none, leave-stores, place-in}
+use Rattle.standing.specs.LookLaws.{holder-in}
 use borrow.Author.Needs.{needs}
 use Rattle.op_places.proofs.filling.leave.Statement.{statement}
 use Rattle.op_places.proofs.filling.leave.Tie as tie

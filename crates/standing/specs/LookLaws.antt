@@ -1,24 +1,22 @@
--- The searches: for an entity in the places of another, for the container that it is in, for a screen that shows it, for an absent number;
--- and the way up.
+-- The searches: for an entity in the places of another, for the container that it is in, for a screen that shows it.
 use mathlib.Core.Bool.{Bool, _&&_, false, not, true}
 use mathlib.Core.Logic.{_≢_}
-use mathlib.Core.Path.{_∙_, _≡_, ap, refl, sym}
-use Prim.Native.Nat.{_+_, _<_, _≤_, suc, zero, ℕ}
+use mathlib.Core.Path.{_∙_, _≡_, ap, refl, subst, sym}
+use Prim.Native.Nat.{_+_, _<_, _≤_, suc, ℕ}
 use native.Mathlib.Numerals.{add-one}
 use native.Mathlib.Omega.{arith}
 use lib.Dec.{eqb, ltb}
 use Rattle.laws.specs.Bools.{clash, not-no, not-yes}
 use Rattle.laws.specs.Loops.{each-fails, each-more, every-done, none-more, seek-here, seek-none}
-use Rattle.model.specs.Basics.Choice.{Below, Same, below, it, other, over, pick, same, under}
+use Rattle.model.specs.Basics.Choice.{Below, below, over, pick, under}
 use Rattle.model.specs.Basics.Tests.{every, imp}
-use Rattle.model.specs.Effect.Places.{vacant}
 use Rattle.model.specs.Request.Conditions.{onScreen}
 use Rattle.model.specs.State.Check.{inTest, parent, spotOf}
-use Rattle.model.specs.State.Climb.{climb}
-use Rattle.model.specs.State.WellFormed.{WellFormed}
+use Rattle.model.specs.State.ParentLaws.{parent-held, parent-range}
+use Rattle.model.specs.State.WellFormed.{InTables, WellFormed}
 use Rattle.model.specs.Tables.Rows.{seek}
 use Rattle.model.specs.Tables.Words.{Tables, containerKind, usedPlaces, deviceKind, entityCount, kinds, placeCount, places}
-use Rattle.op_places.specs.Standing.{Unheld, hides, parentIn, standing}
+use Rattle.standing.specs.Standing.{Unheld, hides, parentIn, standing}
 use Rattle.rows.specs.SweepLaws.{sweep-used}
 
 -- ---- an entity that e stands in
@@ -91,6 +89,15 @@ module _ (d : Tables) (e : ℕ) where
       go true (under l) s = absurd (omega arith)
       go false (over l) s = refl
 
+-- in well-formed tables, where it is in one
+module _ (d : Tables) (w : WellFormed d) (e h : ℕ) (p : h ≡ parentIn d e) (n : h ≢ 0) where
+  pub held-here : InTables d h e
+  held-here = subst (λ (x : ℕ). InTables d x e) (sym p) (parent-held d w e (λ z. n (p ∙ z)))
+
+  -- the container has a number
+  pub holder-in : (1 ≤ h) × (h ≤ entityCount)
+  holder-in = parent-range d w h e held-here
+
 -- ---- a screen that shows e
 
 module _ (d : Tables) (e : ℕ) where
@@ -116,58 +123,3 @@ module _ (d : Tables) (e : ℕ) where
   pub shown-nowhere : (i : ℕ) → i ≤ entityCount → entityCount ≤ i → every i (λ v. hides d e (suc v)) ≡ true → false ≡ onScreen d e
   unfolding onScreen hides
   shown-nowhere i l m h = ap not (every-done i entityCount (λ v. hides d e (suc v)) h l m)
-
--- ---- an absent number
-
-module _ (d : Tables) where
-  -- the next number is not absent
-  pub present-more : (i : ℕ) → ((j : ℕ) → j < i → kinds d (suc j) ≢ 0) → kinds d (i + 1) ≢ 0 → (j : ℕ) → j < i + 1 → kinds d (suc j) ≢ 0
-  present-more i f n = none-more 0 (λ j. kinds d (suc j)) i f (rw (add-one i) at n)
-
-  -- the next number is absent
-  pub vacant-here : (i : ℕ) → i < entityCount → ((j : ℕ) → j < i → kinds d (suc j) ≢ 0) → kinds d (i + 1) ≡ 0 → i + 1 ≡ vacant d
-  vacant-here i h f e = add-one i ∙ ap suc (seek-here 0 (λ j. kinds d (suc j)) entityCount i h (rw (add-one i) at e) f)
-
-  -- no number is absent
-  pub vacant-none : (i : ℕ) → entityCount ≤ i → ((j : ℕ) → j < i → kinds d (suc j) ≢ 0) → suc entityCount ≡ vacant d
-  vacant-none i h f = ap suc (seek-none 0 (λ j. kinds d (suc j)) entityCount (λ j l. f j (omega arith)))
-
--- ---- the way up
-
-module _ (par : ℕ → ℕ) (e : ℕ) where
-  -- e is met
-  pub climb-met : (m y : ℕ) → 1 ≤ m → y ≡ e → true ≡ climb par m y e
-  unfolding climb
-  climb-met zero y h q = absurd (omega arith)
-  climb-met (suc m) y h q = go (eqb y e) (same y e)
-    where
-      go : (b : Bool) → Same y e b → true ≡ pick b true (pick (eqb (par y) 0) false (climb par m (par y) e))
-      go true s = refl
-      go false (other n) = absurd (n q)
-
-  -- y stands in nothing
-  pub climb-top : (m y : ℕ) → y ≢ e → par y ≡ 0 → false ≡ climb par m y e
-  unfolding climb
-  climb-top zero y n z = refl
-  climb-top (suc m) y n z = go (eqb y e) (eqb (par y) 0) (same y e) (same (par y) 0)
-    where
-      go : (a b : Bool) → Same y e a → Same (par y) 0 b → false ≡ pick a true (pick b false (climb par m (par y) e))
-      go true b (it q) s = absurd (n q)
-      go false true r s = refl
-      go false false r (other w) = absurd (w z)
-
-  -- y stands in z, from which the way goes on
-  pub climb-on : (m n y z : ℕ) → suc n ≡ m → z ≡ par y → y ≢ e → z ≢ 0 → climb par n z e ≡ climb par m y e
-  unfolding climb
-  climb-on m n y z p q w v = rw (← p, q) (go (eqb y e) (eqb (par y) 0) (same y e) (same (par y) 0))
-    where
-      go : (a b : Bool) → Same y e a → Same (par y) 0 b → climb par n (par y) e ≡ pick a true (pick b false (climb par n (par y) e))
-      go true b (it r) s = absurd (w r)
-      go false true r (it s) = absurd (v (q ∙ s))
-      go false false r s = refl
-
-  -- no steps are left
-  pub climb-end : (m y : ℕ) → m ≡ 0 → false ≡ climb par m y e
-  unfolding climb
-  climb-end zero y h = refl
-  climb-end (suc m) y h = absurd (omega arith)

@@ -1,11 +1,11 @@
 use Rattle.model.specs.Tables.Layout.{tablesOf}
-use Rattle.op_places.specs.HolderLaws.{inside-empty}
+use Rattle.standing.specs.InsideLaws.{inside-empty}
 use borrow.Author.Needs.{needs}
-use Rattle.op_places.proofs.places.is_inside.Statement.{statement}
-use Rattle.op_places.proofs.places.is_inside.Tie as tie
-use Rattle.op_places.proofs.places.is_inside.Reads as reads
-use Rattle.op_places.proofs.places.is_inside.Lts as lts
-use Rattle.op_places.proofs.places.inside.Reads as inside-reads
+use Rattle.standing.proofs.is_inside.Statement.{statement}
+use Rattle.standing.proofs.is_inside.Tie as tie
+use Rattle.standing.proofs.is_inside.Reads as reads
+use Rattle.standing.proofs.is_inside.Lts as lts
+use Rattle.standing.proofs.inside.Reads as inside-reads
 use Rattle.tables.proofs.used.Reads as used-reads
 
 used-requires : tie.Need-used-requires

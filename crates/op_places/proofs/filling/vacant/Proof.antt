@@ -5,11 +5,11 @@ use mathlib.Core.Path.{_∙_, sym}
 use Prim.Native.Nat.{ℕ, _≤_, _<_, _-_, suc}
 use Rattle.model.specs.Tables.Layout.{tablesOf}
 use Rattle.model.specs.Tables.Words.{kinds}
-use Rattle.op_places.specs.LookLaws.{present-more, vacant-here, vacant-none}
-use Rattle.op_places.proofs.places.vacant.Statement.{statement}
-use Rattle.op_places.proofs.places.vacant.Tie as tie
-use Rattle.op_places.proofs.places.vacant.Reads as reads
-use Rattle.op_places.proofs.places.vacant.Lts as lts
+use Rattle.op_places.specs.VacantLaws.{present-more, vacant-here, vacant-none}
+use Rattle.op_places.proofs.filling.vacant.Statement.{statement}
+use Rattle.op_places.proofs.filling.vacant.Tie as tie
+use Rattle.op_places.proofs.filling.vacant.Reads as reads
+use Rattle.op_places.proofs.filling.vacant.Lts as lts
 use Rattle.tables.proofs.kind.Reads as kind-reads
 
 abbrev Inv-loop : tie.InvT-loop

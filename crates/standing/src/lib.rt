@@ -1,17 +1,16 @@
-// What stands where: the container that it is in, the screens that show it, and what lies in what.
+// What stands where: the container that an entity is in, the screens that show it, and what lies in what.
 use names::kind;
 use names::size;
 use tables::Entity;
 ghost use mathlib.Core.Path.{_≡_};
 ghost use Prim.Native.Nat.{_≤_, suc};
 ghost use lib.ListN.{length};
-ghost use Rattle.model.specs.Effect.Places.{vacant};
 ghost use Rattle.model.specs.Request.Conditions.{onScreen};
 ghost use Rattle.model.specs.State.Climb.{climb};
 ghost use Rattle.model.specs.State.WellFormed.{WellFormed};
 ghost use Rattle.model.specs.Tables.Layout.{tablesOf, wordCount};
 ghost use Rattle.model.specs.Tables.Words.{containerKind, deviceKind, entityCount};
-ghost use Rattle.op_places.specs.Standing.{parentIn, standing};
+ghost use Rattle.standing.specs.Standing.{parentIn, standing};
 ghost use Rattle.tables.specs.Singles.{EntityIn};
 
 // Whether v is a container that e stands in. The kind is asked last, of the few that hold e: kinds come in no order, and a branch on each
@@ -65,21 +64,6 @@ pub fn on_screen(t: &[u32], e: Entity) -> bool
         i += 1;
     }
     false
-}
-
-// The lowest absent entity, or the first number past all entities.
-pub fn vacant(t: &[u32]) -> Entity
-    requires { ⌜ length (now t) ≡ wordCount ⌝ }
-    ensures { λ r. ⌜ r .0 ≡ vacant (tablesOf (now (t .entry))) ⌝ }
-{
-    let mut i: u32 = 0;
-    while i < size::ENTITIES {
-        if tables::kind(t, Entity(i + 1)) == kind::ABSENT {
-            return Entity(i + 1);
-        }
-        i += 1;
-    }
-    Entity(size::PAST_ENTITIES)
 }
 
 // Whether c is e or lies in it, by going up from c.

@@ -1,9 +1,9 @@
-use Rattle.op_places.specs.LookLaws.{stands-nowhere, stands-there}
+use Rattle.standing.specs.LookLaws.{stands-nowhere, stands-there}
 use borrow.Author.Needs.{needs}
-use Rattle.op_places.proofs.places.contains.Statement.{statement}
-use Rattle.op_places.proofs.places.contains.Tie as tie
-use Rattle.op_places.proofs.places.contains.Reads as reads
-use Rattle.op_places.proofs.places.contains.Lts as lts
+use Rattle.standing.proofs.contains.Statement.{statement}
+use Rattle.standing.proofs.contains.Tie as tie
+use Rattle.standing.proofs.contains.Reads as reads
+use Rattle.standing.proofs.contains.Lts as lts
 use Rattle.rows.proofs.holds.Reads as holds-reads
 use Rattle.tables.proofs.kind.Reads as kind-reads
 

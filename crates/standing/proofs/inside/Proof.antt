@@ -4,13 +4,13 @@ use native.Mathlib.Omega.{arith}
 use Prim.Native.Nat.{_≤_, _-_}
 use Rattle.model.specs.State.Climb.{climb}
 use Rattle.model.specs.Tables.Layout.{tablesOf}
-use Rattle.op_places.specs.Standing.{parentIn}
-use Rattle.op_places.specs.LookLaws.{climb-end, climb-met, climb-on, climb-top}
-use Rattle.op_places.proofs.places.inside.Statement.{statement}
-use Rattle.op_places.proofs.places.inside.Tie as tie
-use Rattle.op_places.proofs.places.inside.Reads as reads
-use Rattle.op_places.proofs.places.inside.Lts as lts
-use Rattle.op_places.proofs.places.holder.Reads as holder-reads
+use Rattle.standing.specs.Standing.{parentIn}
+use Rattle.standing.specs.InsideLaws.{climb-end, climb-met, climb-on, climb-top}
+use Rattle.standing.proofs.inside.Statement.{statement}
+use Rattle.standing.proofs.inside.Tie as tie
+use Rattle.standing.proofs.inside.Reads as reads
+use Rattle.standing.proofs.inside.Lts as lts
+use Rattle.standing.proofs.holder.Reads as holder-reads
 
 abbrev Inv-loop : tie.InvT-loop
 Inv-loop t e y₀ i₀ y i = (i ≤ 65) × (1 ≤ y .0) × (climb (parentIn (tablesOf t)) (65 - i) (y .0) (e .0) ≡ climb (parentIn (tablesOf t)) 65 (y₀ .0) (e .0))

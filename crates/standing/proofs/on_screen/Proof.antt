@@ -6,13 +6,13 @@ use Prim.Native.Nat.{_≤_, _-_, suc}
 use Rattle.laws.specs.Loops.{every-none}
 use Rattle.model.specs.Basics.Tests.{every}
 use Rattle.model.specs.Tables.Layout.{tablesOf}
-use Rattle.op_places.specs.LookLaws.{hidden-more, shown-here, shown-nowhere}
-use Rattle.op_places.specs.Standing.{hides}
-use Rattle.op_places.proofs.places.on_screen.Statement.{statement}
-use Rattle.op_places.proofs.places.on_screen.Tie as tie
-use Rattle.op_places.proofs.places.on_screen.Reads as reads
-use Rattle.op_places.proofs.places.on_screen.Lts as lts
-use Rattle.op_places.proofs.places.shows.Reads as shows-reads
+use Rattle.standing.specs.LookLaws.{hidden-more, shown-here, shown-nowhere}
+use Rattle.standing.specs.Standing.{hides}
+use Rattle.standing.proofs.on_screen.Statement.{statement}
+use Rattle.standing.proofs.on_screen.Tie as tie
+use Rattle.standing.proofs.on_screen.Reads as reads
+use Rattle.standing.proofs.on_screen.Lts as lts
+use Rattle.standing.proofs.shows.Reads as shows-reads
 
 abbrev Inv-loop : tie.InvT-loop
 Inv-loop t e i₀ i = (i ≤ 64) × (every i (λ v. hides (tablesOf t) (e .0) (suc v)) ≡ true)

@@ -3,13 +3,13 @@ use mathlib.Core.Path.{_∙_, sym}
 use native.Mathlib.Omega.{arith}
 use Prim.Native.Nat.{_≤_, _-_}
 use Rattle.model.specs.Tables.Layout.{tablesOf}
-use Rattle.op_places.specs.LookLaws.{parent-here, parent-none, unheld-more}
-use Rattle.op_places.specs.Standing.{Unheld}
-use Rattle.op_places.proofs.places.holder.Statement.{statement}
-use Rattle.op_places.proofs.places.holder.Tie as tie
-use Rattle.op_places.proofs.places.holder.Reads as reads
-use Rattle.op_places.proofs.places.holder.Lts as lts
-use Rattle.op_places.proofs.places.contains.Reads as contains-reads
+use Rattle.standing.specs.LookLaws.{parent-here, parent-none, unheld-more}
+use Rattle.standing.specs.Standing.{Unheld}
+use Rattle.standing.proofs.holder.Statement.{statement}
+use Rattle.standing.proofs.holder.Tie as tie
+use Rattle.standing.proofs.holder.Reads as reads
+use Rattle.standing.proofs.holder.Lts as lts
+use Rattle.standing.proofs.contains.Reads as contains-reads
 
 abbrev Inv-loop : tie.InvT-loop
 Inv-loop t e i₀ i = (i ≤ 64) × Unheld (tablesOf t) (e .0) i
