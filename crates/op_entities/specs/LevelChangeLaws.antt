@@ -254,7 +254,7 @@ module _ (d : Tables) (g : Good d) (e a : ℕ) where
       see u c n m false (other p) = g .1 .seen u c n m
 
   -- all that is asked is that the tables stay secure
-  level-is : Thing d e → (contentsStay d e a && holdersStay d e a) ≡ secureTest (setLevel e a d)
+  pub level-is : Thing d e → (contentsStay d e a && holdersStay d e a) ≡ secureTest (setLevel e a d)
   level-is thing = agreed (contentsStay d e a && holdersStay d e a) (secureTest (setLevel e a d)) (agrees-and contents-agrees holders-agrees)
       (agrees-as asked-of said-of (secure-now thing))
 

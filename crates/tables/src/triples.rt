@@ -2,27 +2,13 @@
 use names::weight;
 ghost use mathlib.Core.Path.{_≡_};
 ghost use Prim.Native.Nat.{_%_, _*_, _+_, _≤_};
-ghost use Rattle.model.specs.Tables.Words.{operationCount, operationIn, operationWeight, positionCount, positionOf, tripleOf, whoMost, whoOf, whoWeight};
+ghost use Rattle.model.specs.Tables.Words.{operationCount, operationWeight, positionCount, tripleOf, whoMost, whoOf, whoWeight};
 
 // Whom a triple names.
 pub fn who(x: u32) -> u32
     ensures { λ r. ⌜ r ≡ whoOf x ⌝ }
 {
     x / weight::WHO
-}
-
-// The operation that a triple is for.
-pub fn operation(x: u32) -> u32
-    ensures { λ r. ⌜ r ≡ operationIn x ⌝ }
-{
-    x / weight::OPERATION % weight::OPERATION
-}
-
-// The position that a triple is for.
-pub fn position(x: u32) -> u32
-    ensures { λ r. ⌜ r ≡ positionOf x ⌝ }
-{
-    x % weight::OPERATION
 }
 
 // The key of a triple.
