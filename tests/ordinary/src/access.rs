@@ -10,6 +10,12 @@ pub fn roles<R: Rules>(tables: &Tables, user: User) -> u32 {
     words[if R::ROLES { user::AUTHORISED } else { user::CURRENT }]
 }
 
+/// Whether one set of roles is within another, which then has all its bits [rule 1.3].
+#[inline]
+pub fn is_within(roles: u32, others: u32) -> bool {
+    roles & !others == 0
+}
+
 /// Everybody whom a user counts as: one bit for each number that a triple can name.
 #[derive(Clone, Copy)]
 pub struct Whos(u32);

@@ -23,6 +23,7 @@ pub use refusal::Reply;
 pub use rules::{Calls, Desk, Right, Rules, Wrong, WRONG};
 pub use words::{ENTRY_WORDS, REQUEST_WORDS, TABLE_WORDS};
 
+use level::Level;
 use refusal::Refusal;
 use tables::User;
 use words::{Request, Tables};
@@ -87,6 +88,16 @@ pub fn write<R: Rules>(request: &[u32], room: &mut [u8]) -> Reply {
 /// Gives what the program writes for the bytes of `state.words` (none if it is missing) and a script.
 pub fn script<R: Rules>(state: &[u8], script: &[u8]) -> Vec<u8> {
     script::whole::<R>(state, script)
+}
+
+/// Whether one level is at most another, as every call of the desk takes it.
+pub fn at_most<R: Rules>(a: u32, b: u32) -> bool {
+    Level(a).at_most::<R>(Level(b))
+}
+
+/// Whether one set of roles is within another, as every call of the desk takes it.
+pub fn roles_within(a: u32, b: u32) -> bool {
+    access::is_within(a, b)
 }
 
 /// Both slices as what they should be, or rung 1.

@@ -18,6 +18,8 @@ pub trait Desk {
     fn write(&self, request: &[u32], room: &mut [u8]) -> Reply;
     /// Gives what the program writes for a script.
     fn script(&self, state: &[u8], script: &[u8]) -> Vec<u8>;
+    /// Compares two levels.
+    fn at_most(&self, a: u32, b: u32) -> bool;
 }
 
 impl<R: Rules> Desk for R {
@@ -47,6 +49,10 @@ impl<R: Rules> Desk for R {
 
     fn script(&self, state: &[u8], script: &[u8]) -> Vec<u8> {
         crate::script::<R>(state, script)
+    }
+
+    fn at_most(&self, a: u32, b: u32) -> bool {
+        crate::at_most::<R>(a, b)
     }
 }
 

@@ -1,5 +1,6 @@
 //! Whether well-formed tables are secure [section 4 of the rules].
 
+use crate::access;
 use crate::level::Level;
 use crate::tables::*;
 use crate::words::*;
@@ -14,7 +15,7 @@ pub fn holds<R: Rules>(tables: &Tables) -> bool {
 /// Current roles are authorised, and the user is cleared for all that the own device shows [rules 4.2, 4.4].
 fn user_is_secure<R: Rules>(tables: &Tables, user: User) -> bool {
     let words = user_words(tables, user);
-    words[user::CURRENT] & !words[user::AUTHORISED] == 0
+    access::is_within(words[user::CURRENT], words[user::AUTHORISED])
         && screen_is_at_most::<R>(tables, user, Level(words[user::CLEARANCE]))
 }
 

@@ -1,6 +1,7 @@
 //! Current roles, clearance, authorised roles and acknowledge: words of a user.
 
 use super::Turn;
+use crate::access;
 use crate::check::secure;
 use crate::level::Level;
 use crate::refusal::Refusal;
@@ -15,7 +16,7 @@ pub fn current_roles<R: Rules>(turn: &mut Turn) -> Result<(), Refusal> {
     Refusal::NoSuchUser.unless(roles == 0 || device_of(turn.tables, user).is_some())?;
     Refusal::RoleMissing.unless(user == turn.requester || turn.has_role::<R>(role::OFFICER))?;
     let words = turn.user_mut(user);
-    Refusal::LevelOrRoles.unless(roles & !words[user::AUTHORISED] == 0)?;
+    Refusal::LevelOrRoles.unless(access::is_within(roles, words[user::AUTHORISED]))?;
     words[user::CURRENT] = roles;
     Ok(())
 }
@@ -38,7 +39,7 @@ pub fn authorised_roles<R: Rules>(turn: &mut Turn) -> Result<(), Refusal> {
     let roles = turn.b();
     Refusal::RoleMissing.unless(turn.has_role::<R>(role::OFFICER))?;
     let words = turn.user_mut(user);
-    Refusal::LevelOrRoles.unless(words[user::CURRENT] & !roles == 0)?;
+    Refusal::LevelOrRoles.unless(access::is_within(words[user::CURRENT], roles))?;
     words[user::AUTHORISED] = roles;
     Ok(())
 }
