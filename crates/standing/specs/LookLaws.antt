@@ -7,16 +7,14 @@ use native.Mathlib.Numerals.{add-one}
 use native.Mathlib.Omega.{arith}
 use lib.Dec.{eqb, ltb}
 use Rattle.laws.specs.Bools.{clash, not-no, not-yes}
-use Rattle.laws.specs.Loops.{each-fails, each-more, every-done, none-more, seek-here, seek-none}
+use Rattle.laws.specs.Loops.{none-more, seek-here, seek-none}
 use Rattle.model.specs.Basics.Choice.{Below, below, over, pick, under}
-use Rattle.model.specs.Basics.Tests.{every, imp}
-use Rattle.model.specs.Request.Conditions.{onScreen}
 use Rattle.model.specs.State.Check.{inTest, parent, spotOf}
 use Rattle.model.specs.State.ParentLaws.{parent-held, parent-range}
 use Rattle.model.specs.State.WellFormed.{InTables, WellFormed}
 use Rattle.model.specs.Tables.Rows.{seek}
-use Rattle.model.specs.Tables.Words.{Tables, containerKind, usedPlaces, deviceKind, entityCount, kinds, placeCount, places}
-use Rattle.standing.specs.Standing.{Unheld, hides, parentIn, standing}
+use Rattle.model.specs.Tables.Words.{Tables, containerKind, usedPlaces, entityCount, kinds, placeCount, places}
+use Rattle.standing.specs.Standing.{Unheld, parentIn, standing}
 use Rattle.rows.specs.SweepLaws.{sweep-used}
 
 -- ---- an entity that e stands in
@@ -97,29 +95,3 @@ module _ (d : Tables) (w : WellFormed d) (e h : ℕ) (p : h ≡ parentIn d e) (n
   -- the container has a number
   pub holder-in : (1 ≤ h) × (h ≤ entityCount)
   holder-in = parent-range d w h e held-here
-
--- ---- a screen that shows e
-
-module _ (d : Tables) (e : ℕ) where
-  hides-is : (v : ℕ) → hides d e v ≡ not (standing d deviceKind e v)
-  unfolding hides imp
-  hides-is v = go (eqb (kinds d v) deviceKind) (ltb (seek e (places d v) (usedPlaces d v)) (usedPlaces d v))
-    where
-      go : (a b : Bool) → pick a (not b) true ≡ not (a && b)
-      go true b = refl
-      go false b = refl
-
-  -- the next entity does not show it
-  pub hidden-more : (i : ℕ) → every i (λ v. hides d e (suc v)) ≡ true → standing d deviceKind e (i + 1) ≡ false
-      → every (i + 1) (λ v. hides d e (suc v)) ≡ true
-  hidden-more i h z = each-more i (hides d e) h (hides-is (i + 1) ∙ ap not z)
-
-  -- the next entity shows it
-  pub shown-here : (i : ℕ) → i < entityCount → standing d deviceKind e (i + 1) ≡ true → true ≡ onScreen d e
-  unfolding onScreen hides
-  shown-here i h z = ap not (each-fails entityCount (hides d e) i h (hides-is (i + 1) ∙ ap not z))
-
-  -- no entity shows it
-  pub shown-nowhere : (i : ℕ) → i ≤ entityCount → entityCount ≤ i → every i (λ v. hides d e (suc v)) ≡ true → false ≡ onScreen d e
-  unfolding onScreen hides
-  shown-nowhere i l m h = ap not (every-done i entityCount (λ v. hides d e (suc v)) h l m)

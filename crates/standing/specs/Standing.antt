@@ -4,10 +4,9 @@ use mathlib.Core.Logic.{_≢_}
 use Prim.Native.Nat.{_<_, suc, ℕ}
 use lib.Dec.{eqb, ltb}
 use Rattle.model.specs.Basics.Choice.{pick}
-use Rattle.model.specs.Basics.Tests.{imp}
 use Rattle.model.specs.State.Check.{inTest, parent}
 use Rattle.model.specs.Tables.Rows.{seek}
-use Rattle.model.specs.Tables.Words.{Tables, usedPlaces, deviceKind, kinds, places}
+use Rattle.model.specs.Tables.Words.{Tables, devices, kinds, places, usedPlaces}
 
 -- v is of kind k, and e stands in one of its places
 abbrev pub standing : Tables → ℕ → ℕ → ℕ → Bool
@@ -21,6 +20,6 @@ parentIn d = parent (kinds d) (usedPlaces d) (places d)
 abbrev pub Unheld : Tables → ℕ → ℕ → Type 0
 Unheld d e i = (j : ℕ) → j < i → _≢_ {A = ℕ} (pick (inTest (kinds d) (usedPlaces d) (places d) (suc j) e) 1 0) 1
 
--- v is no device that shows e
-unfoldable pub hides : Tables → ℕ → ℕ → Bool
-hides d e v = imp (eqb (kinds d v) deviceKind) (not (ltb (seek e (places d v) (usedPlaces d v)) (usedPlaces d v)))
+-- user u is on a device that shows e
+unfoldable pub seeing : Tables → ℕ → ℕ → Bool
+seeing d e u = not (eqb (devices d u) 0) && ltb (seek e (places d (devices d u)) (usedPlaces d (devices d u))) (usedPlaces d (devices d u))

@@ -2,6 +2,7 @@
 use names::kind;
 use names::size;
 use tables::Entity;
+use tables::User;
 ghost use mathlib.Core.Path.{_≡_};
 ghost use Prim.Native.Nat.{_≤_, suc};
 ghost use lib.ListN.{length};
@@ -9,9 +10,9 @@ ghost use Rattle.model.specs.Request.Conditions.{onScreen};
 ghost use Rattle.model.specs.State.Climb.{climb};
 ghost use Rattle.model.specs.State.WellFormed.{WellFormed};
 ghost use Rattle.model.specs.Tables.Layout.{tablesOf, wordCount};
-ghost use Rattle.model.specs.Tables.Words.{containerKind, deviceKind, entityCount};
-ghost use Rattle.standing.specs.Standing.{parentIn, standing};
-ghost use Rattle.tables.specs.Singles.{EntityIn};
+ghost use Rattle.model.specs.Tables.Words.{containerKind, entityCount};
+ghost use Rattle.standing.specs.Standing.{parentIn, seeing, standing};
+ghost use Rattle.tables.specs.Singles.{EntityIn, UserIn};
 
 // Whether v is a container that e stands in. The kind is asked last, of the few that hold e: kinds come in no order, and a branch on each
 // would be guessed wrong too often.
@@ -25,15 +26,16 @@ fn contains(t: &[u32], v: Entity, e: Entity) -> bool
     tables::kind(t, v) == kind::CONTAINER
 }
 
-// Whether v is a screen that shows e.
-fn shows(t: &[u32], v: Entity, e: Entity) -> bool
-    requires { ⌜ EntityIn (now t) (v .0) × WellFormed (tablesOf (now t)) × (1 ≤ e .0) ⌝ }
-    ensures { λ r. ⌜ r ≡ standing (tablesOf (now (t .entry))) deviceKind (e .0) (v .0) ⌝ }
+// Whether user u is on a screen that shows e.
+fn sees(t: &[u32], u: User, e: Entity) -> bool
+    requires { ⌜ UserIn (now t) (u .0) × WellFormed (tablesOf (now t)) × (1 ≤ e .0) ⌝ }
+    ensures { λ r. ⌜ r ≡ seeing (tablesOf (now (t .entry))) (e .0) (u .0) ⌝ }
 {
-    if !rows::holds(t, v, e) {
+    let v = tables::device(t, u);
+    if v.0 == 0 {
         return false;
     }
-    tables::is_screen(tables::kind(t, v))
+    rows::holds(t, v, e)
 }
 
 // The lowest container that entity e stands in, or entity 0.
@@ -51,14 +53,14 @@ pub fn holder(t: &[u32], e: Entity) -> Entity
     Entity(0)
 }
 
-// Whether some screen shows entity e.
+// Whether some screen shows entity e. What nobody is on shows nothing, so the users lead to all that show something.
 pub fn on_screen(t: &[u32], e: Entity) -> bool
     requires { ⌜ (length (now t) ≡ wordCount) × WellFormed (tablesOf (now t)) × (1 ≤ e .0) ⌝ }
     ensures { λ r. ⌜ r ≡ onScreen (tablesOf (now (t .entry))) (e .0) ⌝ }
 {
     let mut i: u32 = 0;
-    while i < size::ENTITIES {
-        if shows(t, Entity(i + 1), e) {
+    while i < size::USERS {
+        if sees(t, User(i + 1), e) {
             return true;
         }
         i += 1;
