@@ -4,7 +4,7 @@ use mathlib.Core.List.{List, [], _∷_}
 use mathlib.Core.Path.{_∙_, _≡_, ap, refl, sym}
 use Prim.Native.Nat.{_%_, _*_, _+_, _/_, _<_, _≤_, suc, zero, ℕ}
 use native.Mathlib.Omega.{arith}
-use lib.Dec.{eqb, leb}
+use lib.Dec.{eqb, leb, ltb}
 use lib.ListN.{List·getD-eq-default, getD, length, length-set, set}
 use lib.Seq.{getD-set-other, getD-set-same}
 use borrow.Author.Tests.{leb-false, leb-true}
@@ -12,7 +12,7 @@ use Rattle.model.specs.Basics.TestLaws.{only}
 use Rattle.model.specs.List.Admitted.{Admitted}
 use Rattle.disclosure.specs.Verdicts.{Guided, Judged, leads, listed, verdict, wayWeight}
 use Rattle.disclosure.specs.Visited.{followed, furtherMost}
-use Rattle.model.specs.Basics.Choice.{Same, it, other, pick, same}
+use Rattle.model.specs.Basics.Choice.{Below, Same, below, it, other, over, pick, same, under}
 use Rattle.model.specs.Level.{atMost}
 use Rattle.model.specs.List.ListingLaws.{ways-used}
 use Rattle.model.specs.List.Walk.{walk}
@@ -43,6 +43,15 @@ verdict-weighed d u e l shut n shown c s p w = rw (s, p, w, c, bars-one d (d .us
 
 -- ---- what a verdict tells
 
+-- where a place leads on, all that are used do
+ways-all : (d : Tables) (u e : ℕ) → 1 ≤ ways d u e → ways d u e ≡ usedPlaces d e
+unfolding ways
+ways-all d u e = go (bars d (d .user u clearance) (e ∷ []))
+  where
+    go : (b : Bool) → 1 ≤ pick b 0 (usedPlaces d e) → pick b 0 (usedPlaces d e) ≡ usedPlaces d e
+    go true h = absurd (omega arith)
+    go false h = refl
+
 module _ (d : Tables) (u e x : ℕ) (h : x ≡ verdict d u e) where
   told-ways : x / wayWeight ≡ ways d u e
   unfolding verdict
@@ -70,6 +79,19 @@ module _ (t v : List ℕ) (g : Guided t v) (e n p : ℕ) (q : n ≡ leads v e) (
 
   pub guided-next : (c : ℕ) → c ≡ places (tablesOf t) e p → (1 ≤ c) × (c ≤ entityCount)
   guided-next c h = (omega (arith, g .ranged .low e p guided-used), omega (arith, g .ranged .high e p guided-used))
+
+-- where a verdict weighs no less than a place, some lead on
+pub some-lead : (v : List ℕ) (e : ℕ) → wayWeight ≤ getD v e 0 → 1 ≤ leads v e
+unfolding leads
+some-lead v e h = omega arith
+
+-- and then any place of the entity holds an entity or nothing
+pub guided-held : (t v : List ℕ) → Guided t v → (e : ℕ) → 1 ≤ leads v e → (p c : ℕ) → c ≡ places (tablesOf t) e p → c ≤ entityCount
+guided-held t v g e w p c h = go (ltb p (leads v e)) (below p (leads v e))
+  where
+    go : (b : Bool) → Below p (leads v e) b → c ≤ entityCount
+    go true (under l) = guided-next t v g e (leads v e) p refl l c h .1
+    go false (over l) = omega (arith, g .rest e w p l)
 
 -- ---- the verdicts on all
 
@@ -123,6 +145,9 @@ module _ (t : List ℕ) (u : ℕ) (v : List ℕ) (a : Admitted t u) (j : Judged 
     ranged = wellFormed-ranged (tablesOf t) (a .good .0);
     size = j .size;
     used = λ e. omega (arith, told-ways (tablesOf t) u e (getD v e 0) (word-verdict e), ways-used (tablesOf t) u e);
+    rest = λ e w i l.
+        let q : getD v e 0 / wayWeight ≡ ways (tablesOf t) u e = told-ways (tablesOf t) u e (getD v e 0) (word-verdict e) in
+        a .good .0 .entities e .filled .packed .rest i (omega (arith, q, ways-all (tablesOf t) u e (omega (arith, q))));
   }
 
   -- the walk by the verdicts is the walk of the user

@@ -10,7 +10,7 @@ use Rattle.model.specs.List.Admitted.{Admitted}
 use Rattle.model.specs.List.Ways.{showable, ways}
 use Rattle.model.specs.Request.Conditions.{levelOf}
 use Rattle.model.specs.Tables.Layout.{tablesOf, wordCount}
-use Rattle.model.specs.Tables.Words.{Tables, clearance, usedPlaces, devices, entityCount}
+use Rattle.model.specs.Tables.Words.{Tables, clearance, usedPlaces, devices, entityCount, places}
 use Rattle.reference.specs.Ways.{Ranged}
 
 -- the user u is let in, c is the clearance and s the level of the screen
@@ -40,9 +40,10 @@ pub record Judged (d : Tables) (u n : ℕ) (v : List ℕ) : Type 0 where
   pub first : getD v 0 0 ≡ 0
   pub told : (e : ℕ) → 1 ≤ e → e ≤ n → getD v e 0 ≡ verdict d u e
 
--- whole tables with their places in range, and verdicts by which no more places lead on than are used
+-- whole tables with their places in range, and verdicts by which no more places lead on than are used; where some do, the others hold nothing
 pub record Guided (t v : List ℕ) : Type 0 where
   pub whole : length t ≡ wordCount
   pub ranged : Ranged (tablesOf t)
   pub size : length v ≡ suc entityCount
   pub used : (e : ℕ) → leads v e ≤ usedPlaces (tablesOf t) e
+  pub rest : (e : ℕ) → 1 ≤ leads v e → (i : ℕ) → leads v e ≤ i → places (tablesOf t) e i ≡ 0

@@ -6,10 +6,12 @@ pub const NAMES: usize = size::NAMES as usize;
 
 pub const FURTHER: usize = NAMES - 1;
 
-// The tallies: a word for no entity, then a row for each number of further names, with a word for each entity.
-pub const ROW: usize = size::ENTITIES as usize;
+pub const ENTITIES: usize = size::ENTITIES as usize;
 
-pub const TALLIES: usize = NAMES * ROW + 1;
+// The tallies: a row for each number of further names, with a word for each number of an entity and one for 0, which is no entity.
+pub const ROW: usize = size::ENTITY_NUMBERS;
+
+pub const TALLIES: usize = NAMES * ROW;
 
 // Where the word of the first entity stands in the last row.
 pub const LAST_ROW: usize = FURTHER * ROW + 1;

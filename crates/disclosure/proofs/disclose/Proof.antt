@@ -1,6 +1,7 @@
 use native.Mathlib.Omega.{arith}
 use mathlib.Core.Path.{refl}
 use Rattle.disclosure.specs.EndLaws.{end-fits, end-none, end-short, end-written}
+use Rattle.disclosure.specs.TallyLaws.{tallied-none}
 use Rattle.disclosure.specs.VerdictLaws.{judged-guided, judged-none}
 use Rattle.model.specs.List.AdmittedLaws.{barred-admitted}
 use borrow.Author.Needs.{needs}
@@ -13,7 +14,7 @@ judge-all-requires c κs = (barred-admitted _ _ (c .before .before .before .pre)
 tally-all-requires : tie.Need-tally-all-requires
 tally-all-requires c κs =
     let s6 = c .before .before .before .before .before .before in
-    (judged-guided _ _ _ (barred-admitted _ _ (s6 .pre)) (c .before .before .judge-all .ensures), refl)
+    (judged-guided _ _ _ (barred-admitted _ _ (s6 .pre)) (c .before .before .judge-all .ensures), tallied-none _ _)
 
 returns : tie.Need-returns
 returns c =

@@ -1,8 +1,8 @@
 use native.Mathlib.Omega.{arith}
 use Prim.Native.Nat.{_*_, _+_, _-_}
+use Rattle.disclosure.specs.Tallied.{rowWords}
 use Rattle.disclosure.specs.TallyLaws.{tallied-less, tally-last, tally-more, under-few}
 use borrow.Author.Needs.{needs}
-use Rattle.model.specs.Tables.Words.{entityCount}
 use Rattle.disclosure.proofs.tally.tally.Statement.{statement}
 use Rattle.disclosure.proofs.tally.tally.Tie as tie
 
@@ -25,7 +25,7 @@ tally-places-requires : tie.Need-tally-places-requires
 tally-places-requires c κs =
     let s4 : _ → _ = λ _. c .before .before .before .before in (
       s4 c .pre .0,
-      tallied-less (s4 c .args .t .now) (s4 c .args .v .now) (s4 c .args .b .now) ((s4 c .args .k - 1 + 1) * entityCount) _
+      tallied-less (s4 c .args .t .now) (s4 c .args .v .now) (s4 c .args .b .now) ((s4 c .args .k - 1 + 1) * rowWords) _
           (omega (arith, c .if1 .left)) (s4 c .pre .1),
       omega (arith, s4 c .pre .2),
       s4 c .pre .3,

@@ -1,131 +1,124 @@
 use borrow.Author.Needs.{needs}
 use native.Mathlib.Omega.{arith}
-use mathlib.Core.Path.{_∙_, _≡_, ap, refl}
-use Prim.Native.Nat.{_+_, _-_, _≤_, ℕ}
+use mathlib.Core.Path.{_∙_, _≡_}
+use Prim.Native.Nat.{_+_, _-_, _≤_, min}
 use lib.ListN.{length}
-use Rattle.disclosure.specs.TallyLaws.{inside-few, tally-place}
-use Rattle.disclosure.specs.VerdictLaws.{guided-next, guided-place}
+use Rattle.disclosure.specs.TallyLaws.{inside-few, inside-first, inside-none, places-all, tally-place}
+use Rattle.disclosure.specs.VerdictLaws.{guided-held, some-lead}
 use Rattle.disclosure.specs.Verdicts.{leads}
 use Rattle.disclosure.specs.Visited.{inside}
-use Rattle.model.specs.List.Walk.{through}
+use Rattle.model.specs.Tables.Words.{placeCount}
 use Rattle.disclosure.proofs.tally.tally_places.Statement.{statement}
 use Rattle.disclosure.proofs.tally.tally_places.Tie as tie
 
 abbrev Inv-loop : tie.InvT-loop
-Inv-loop t v b k e n s₀ p₀ s p = (p ≤ n) × (s ≡ length (inside t v k (e .0) p))
+Inv-loop t v b k e s₀ p₀ s p = (p ≤ placeCount) × (s ≡ length (inside t v k (e .0) (min p (leads v (e .0)))))
 
 abbrev μ-loop : tie.MeasureT-loop
-μ-loop t v b k e n s₀ p₀ s p = n - p
+μ-loop t v b k e s₀ p₀ s p = placeCount - p
 
-cast-n : tie.Need-cast-n Inv-loop μ-loop
-cast-n c = search needs
+cast-if1 : tie.Need-cast-if1 Inv-loop μ-loop
+cast-if1 c = search needs
 
-mul-n : tie.Need-mul-n Inv-loop μ-loop
-mul-n c = search needs
+mul-if1 : tie.Need-mul-if1 Inv-loop μ-loop
+mul-if1 c = search needs
 
-element-copy-out-n : tie.Need-element-copy-out-n Inv-loop μ-loop
-element-copy-out-n c = omega (arith, c .before .before .pre .4)
+element-copy-out-if1 : tie.Need-element-copy-out-if1 Inv-loop μ-loop
+element-copy-out-if1 c = omega (arith, c .before .before .pre .4)
+
+returns : tie.Need-returns Inv-loop μ-loop
+returns c =
+    let s4 = c .before .before .before .before in
+    inside-none (s4 .args .t .now) (s4 .args .v .now) (s4 .args .k) (s4 .args .e .0) (c .if1 .taken)
 
 loop-holds : tie.Need-loop-holds Inv-loop μ-loop
-unfolding through
-loop-holds c = (omega arith, refl)
+loop-holds c =
+    let s4 : _ → _ = λ _. c .before .before .before .before in
+    (omega arith, inside-first (s4 c .args .t .now) (s4 c .args .v .now) (s4 c .args .k) (s4 c .args .e .0))
 
 place-requires : tie.Need-place-requires Inv-loop μ-loop
-unfolding leads
 place-requires c κs =
-    let s5 = c .before .before .before .before .before in (
-      (s5 .pre .0 .whole, s5 .pre .3, s5 .pre .4),
-      guided-place (s5 .args .t .now) (s5 .args .v .now) (s5 .pre .0) (s5 .args .e .0) _ _ refl
-          (c .loop-test .taken),
-    )
+    let s6 = c .before .before .before .before .before .before in
+    ((s6 .pre .0 .whole, s6 .pre .3, s6 .pre .4), c .loop-test .taken)
 
 mul-s : tie.Need-mul-s Inv-loop μ-loop
-mul-s c = omega (arith, c .before .before .before .before .before .before .pre .2)
+mul-s c =
+    let s7 : _ → _ = λ _. c .before .before .before .before .before .before .before in
+    omega (arith, s7 c .pre .2)
 
 cast-s : tie.Need-cast-s Inv-loop μ-loop
 cast-s c = search needs
 
 add-s : tie.Need-add-s Inv-loop μ-loop
-unfolding leads
 add-s c =
-    let s7 : _ → _ = λ _. c .before .before .before .before .before .before .before in
+    let s4 : _ → _ = λ _. c .before .before .before .before in
+    let s8 : _ → _ = λ _. s4 c .before .before .before .before in
     omega (
       arith,
-      s7 c .pre .2,
-      guided-next (s7 c .args .t .now) (s7 c .args .v .now) (s7 c .pre .0) (s7 c .args .e .0) _ _ refl
-          (c .before .before .loop-test .taken) _ (c .before .place .ensures),
+      s8 c .pre .2,
+      guided-held (s8 c .args .t .now) (s8 c .args .v .now) (s8 c .pre .0) (s8 c .args .e .0)
+          (some-lead (s8 c .args .v .now) (s8 c .args .e .0) (omega (arith, s4 c .if1 .left))) _ _ (c .before .place .ensures),
     )
 
 mul-s-2 : tie.Need-mul-s-2 Inv-loop μ-loop
-unfolding leads
 mul-s-2 c =
-    let s7 : _ → _ = λ _. c .before .before .before .before .before .before .before in
+    let s4 : _ → _ = λ _. c .before .before .before .before in
+    let s8 : _ → _ = λ _. s4 c .before .before .before .before in
     omega (
       arith,
-      s7 c .pre .2,
-      guided-next (s7 c .args .t .now) (s7 c .args .v .now) (s7 c .pre .0) (s7 c .args .e .0) _ _ refl
-          (c .before .before .loop-test .taken) _ (c .before .place .ensures),
+      s8 c .pre .2,
+      guided-held (s8 c .args .t .now) (s8 c .args .v .now) (s8 c .pre .0) (s8 c .args .e .0)
+          (some-lead (s8 c .args .v .now) (s8 c .args .e .0) (omega (arith, s4 c .if1 .left))) _ _ (c .before .place .ensures),
     )
 
 element-copy-out-s : tie.Need-element-copy-out-s Inv-loop μ-loop
-unfolding leads
 element-copy-out-s c =
-    let s7 : _ → _ = λ _. c .before .before .before .before .before .before .before in
+    let s4 : _ → _ = λ _. c .before .before .before .before in
+    let s8 : _ → _ = λ _. s4 c .before .before .before .before in
     omega (
       arith,
-      s7 c .pre .2,
-      guided-next (s7 c .args .t .now) (s7 c .args .v .now) (s7 c .pre .0) (s7 c .args .e .0) _ _ refl
-          (c .before .before .loop-test .taken) _ (c .before .place .ensures),
+      s8 c .pre .2,
+      guided-held (s8 c .args .t .now) (s8 c .args .v .now) (s8 c .pre .0) (s8 c .args .e .0)
+          (some-lead (s8 c .args .v .now) (s8 c .args .e .0) (omega (arith, s4 c .if1 .left))) _ _ (c .before .place .ensures),
     )
 
 add-s-2 : tie.Need-add-s-2 Inv-loop μ-loop
-unfolding leads
 add-s-2 c =
     let s4 : _ → _ = λ _. c .before .before .before .before in
-    let s8 : _ → _ = λ _. s4 c .before .before .before .before in
-    let g = guided-next (s8 c .args .t .now) (s8 c .args .v .now) (s8 c .pre .0) (s8 c .args .e .0) _ _ refl
-    (c .before .before .before .loop-test .taken) _ (c .before .before .place .ensures) in
+    let s5 : _ → _ = λ _. s4 c .before in
+    let s9 : _ → _ = λ _. s5 c .before .before .before .before in
     omega (
       arith,
-      tally-place (s8 c .args .t .now) (s8 c .args .v .now) (s8 c .args .b .now) _ (s8 c .pre .1) (s8 c .args .k) (s8 c .args .e .0)
-          (s4 c .loop .p) _ _ (g .0) (g .1) (omega arith) (c .before .before .place .ensures) (s4 c .loop .inv .1),
-      inside-few (s8 c .args .t .now)
-          (s8 c .args .v .now) (s8 c .pre .0) (s8 c .args .k) (s8 c .args .e .0) (s4 c .loop .p + 1) (s8 c .pre .2)
-          (omega (arith, c .before .before .before .loop-test .taken)),
+      tally-place (s9 c .args .t .now) (s9 c .args .v .now) (s9 c .args .b .now) _ (s9 c .pre .1) (s9 c .pre .0) (s9 c .args .k)
+          (s9 c .args .e .0) (s4 c .loop .p) _ _ (some-lead (s9 c .args .v .now) (s9 c .args .e .0) (omega (arith, s5 c .if1 .left)))
+          (omega arith) (c .before .before .place .ensures) (s4 c .loop .inv .1),
+      inside-few (s9 c .args .t .now) (s9 c .args .v .now) (s9 c .pre .0)
+          (s9 c .args .k) (s9 c .args .e .0) (min (s4 c .loop .p + 1) (leads (s9 c .args .v .now) (s9 c .args .e .0))) (s9 c .pre .2) (omega arith),
     )
 
 add-p : tie.Need-add-p Inv-loop μ-loop
-unfolding leads
-add-p c =
-    let s8 : _ → _ = λ _. c .before .before .before .before .before .before .before .before in
-    omega (
-      arith,
-      guided-place (s8 c .args .t .now) (s8 c .args .v .now) (s8 c .pre .0) (s8 c .args .e .0) _ _ refl
-          (c .before .before .before .loop-test .taken),
-    )
+add-p c = omega (arith, c .before .before .before .loop-test .taken)
 
 loop-less : tie.Need-loop-less Inv-loop μ-loop
 loop-less c = omega (arith, c .before .before .before .loop-test .taken)
 
 loop-again : tie.Need-loop-again Inv-loop μ-loop
-unfolding leads
 loop-again c =
     let s4 : _ → _ = λ _. c .before .before .before .before in
-    let s8 : _ → _ = λ _. s4 c .before .before .before .before in
-    let g = guided-next (s8 c .args .t .now) (s8 c .args .v .now) (s8 c .pre .0) (s8 c .args .e .0) _ _ refl
-    (c .before .before .before .loop-test .taken) _ (c .before .before .place .ensures) in (
+    let s5 : _ → _ = λ _. s4 c .before in
+    let s9 : _ → _ = λ _. s5 c .before .before .before .before in (
       omega (arith, c .before .before .before .loop-test .taken),
-      tally-place (s8 c .args .t .now) (s8 c .args .v .now) (s8 c .args .b .now) _
-          (s8 c .pre .1) (s8 c .args .k) (s8 c .args .e .0) (s4 c .loop .p) _ _ (g .0) (g .1) (omega arith) (c .before .before .place .ensures)
-          (s4 c .loop .inv .1),
+      tally-place (s9 c .args .t .now) (s9 c .args .v .now) (s9 c .args .b .now) _
+          (s9 c .pre .1) (s9 c .pre .0) (s9 c .args .k) (s9 c .args .e .0) (s4 c .loop .p) _ _
+          (some-lead (s9 c .args .v .now) (s9 c .args .e .0) (omega (arith, s5 c .if1 .left))) (omega arith)
+          (c .before .before .place .ensures) (s4 c .loop .inv .1),
     )
 
-returns : tie.Need-returns Inv-loop μ-loop
-unfolding leads
-returns c =
-    let s5 : _ → _ = λ _. c .before .before .before .before .before in
-    let q : c .before .loop .p ≡ leads (s5 c .args .v .now) (s5 c .args .e .0) = omega (arith, c .before .loop .inv .0, c .loop-test .left) in
-    c .before .loop .inv .1 ∙ ap (λ (n : ℕ). length (inside (s5 c .args .t .now) (s5 c .args .v .now) (s5 c .args .k) (s5 c .args .e .0) n)) q
+returns-2 : tie.Need-returns-2 Inv-loop μ-loop
+returns-2 c =
+    let s6 : _ → _ = λ _. c .before .before .before .before .before .before in
+    c .before .loop .inv .1 ∙ places-all (s6 c .args .t .now) (s6 c .args .v .now) (s6 c .pre .0) (s6 c .args .k) (s6 c .args .e .0) _
+    (omega (arith, c .loop-test .left))
 
 pub tally-places-spec : {M : Type 1} → statement M
 tally-places-spec =
@@ -133,9 +126,10 @@ tally-places-spec =
     (tie.spec
     Inv-loop
     μ-loop
-    cast-n
-    mul-n
-    element-copy-out-n
+    cast-if1
+    mul-if1
+    element-copy-out-if1
+    returns
     loop-holds
     place-requires
     mul-s
@@ -147,4 +141,4 @@ tally-places-spec =
     add-p
     loop-less
     loop-again
-    returns)
+    returns-2)

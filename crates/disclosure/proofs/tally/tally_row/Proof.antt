@@ -1,20 +1,23 @@
 use native.Mathlib.Omega.{arith}
 use Prim.Native.Nat.{_*_, _+_, _-_, _≤_}
-use Rattle.disclosure.specs.TallyLaws.{tallied-less, tallied-more}
-use Rattle.disclosure.specs.Tallied.{Tallied}
+use Rattle.disclosure.specs.TallyLaws.{tallied-first, tallied-less, tallied-more}
+use Rattle.disclosure.specs.Tallied.{Tallied, rowWords}
 use borrow.Author.Needs.{needs}
 use Rattle.model.specs.Tables.Words.{entityCount}
 use Rattle.disclosure.proofs.tally.tally_row.Statement.{statement}
 use Rattle.disclosure.proofs.tally.tally_row.Tie as tie
 
 abbrev Inv-loop : tie.InvT-loop
-Inv-loop t v b₀ k i₀ b i = (i ≤ entityCount) × Tallied t v (k * entityCount + i) b
+Inv-loop t v b₀ k i₀ b i = (i ≤ entityCount) × Tallied t v (k * rowWords + (i + 1)) b
 
 abbrev μ-loop : tie.MeasureT-loop
 μ-loop t v b₀ k i₀ b i = entityCount - i
 
 loop-holds : tie.Need-loop-holds Inv-loop μ-loop
-loop-holds c = (omega arith, tallied-less (c .before .args .t .now) (c .before .args .v .now) (c .before .args .b .now) _ _ (omega arith) (c .before .pre .1))
+loop-holds c = (
+  omega arith,
+  tallied-first (c .before .args .t .now) (c .before .args .v .now) (c .before .args .b .now) (c .before .args .k) (c .before .pre .1),
+)
 
 add-t9 : tie.Need-add-t9 Inv-loop μ-loop
 add-t9 c = omega (arith, c .before .loop-test .taken)
