@@ -2,13 +2,13 @@
 use mathlib.Core.Bool.{Bool, _&&_, false, true}
 use mathlib.Core.List.{List}
 use mathlib.Core.Logic.{_≢_, _⊎_, inl, inr}
-use mathlib.Core.Path.{_∙_, _≡_, ap, fun-ext, refl, sym}
+use mathlib.Core.Path.{_∙_, _≡_, ap, fun-ext, sym}
 use Prim.Native.Nat.{_*_, _+_, _-_, _<_, _≤_, suc, zero, ℕ}
 use native.Mathlib.Omega.{arith}
 use lib.Dec.{T, eqb, ltb}
-use lib.ListN.{getD, length, length-set, replicate, set}
+use lib.ListN.{getD, length-set, set}
 use lib.Seq.{getD-set-other, getD-set-same}
-use Rattle.laws.specs.Bools.{clash, fails}
+use Rattle.laws.specs.Bools.{fails}
 use Rattle.model.specs.Basics.Agree.{Agrees, every-at}
 use Rattle.model.specs.Basics.Choice.{Below, Same, below, it, other, over, same, under}
 use Rattle.model.specs.Basics.TestLaws.{T-l, T-r, holds-true, is-true}
@@ -24,7 +24,7 @@ use Rattle.model.specs.Tables.Layout.{Bounded}
 use Rattle.model.specs.Tables.Rows.{Packed}
 use Rattle.model.specs.Tables.Words.{Tables, containerKind, used, usedPlaces, device, devices, entityCount, kind, kinds, place, placeCount, places}
 use Rattle.state.specs.EntityLaws.{contents-agrees}
-use Rattle.state.specs.Holders.{Amiss, Filled, Low, Noted, Noting, Slot, entityNumbers, slotCount}
+use Rattle.state.specs.Holders.{Filled, Low, Slot, slotCount}
 use Rattle.state.specs.Jumps.{allEnd}
 use Rattle.state.specs.Passes.{allOwn, contentsAt, idleAt, ownTest, treeTest}
 

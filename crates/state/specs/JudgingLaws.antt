@@ -3,7 +3,7 @@ use mathlib.Core.Bool.{Bool, _&&_, false, true}
 use mathlib.Core.List.{List}
 use mathlib.Core.Logic.{_≢_, inl, inr}
 use mathlib.Core.Path.{_∙_, _≡_, ap, refl, sym}
-use Prim.Native.Nat.{_*_, _+_, _<_, _≤_, suc, ℕ}
+use Prim.Native.Nat.{_*_, _+_, _≤_, suc, ℕ}
 use native.Mathlib.Numerals.{add-one}
 use native.Mathlib.Omega.{arith}
 use lib.Dec.{T, eqb, ltb}
@@ -23,7 +23,7 @@ use Rattle.model.specs.State.Tests.{entityTest}
 use Rattle.model.specs.Tables.Layout.{Bounded}
 use Rattle.model.specs.Tables.Words.{Tables, deviceKind, entityCount, kinds, level, maximum, placeCount, sums, used, usedPlaces}
 use Rattle.state.specs.Holders.{Amiss, Filled, Noted, slotCount}
-use Rattle.state.specs.Judging.{Judging, JudgingAll, Sound, SoundTo}
+use Rattle.state.specs.Judging.{Judging, JudgingAll, SoundTo}
 use Rattle.state.specs.Passes.{allSecure, contentsAt, entitySecure, idleAt, ownTest}
 use Rattle.state.specs.SecureLaws.{secure-fails}
 
@@ -54,8 +54,9 @@ module _ (d : Tables) (e : ℕ) where
       (no-device (atMost (d .entity e level) (d .entity e maximum))))))
     where
       empty : usedPlaces d e ≡ 0
-      empty = entity-agrees (d .entity e) (eights d o e) .to (T-l (entityTest (d .entity e)) (contentsAt d e && idleAt d e) (is-true (ownTest d e) (sym be ∙ t)))
-          .absent k used
+      empty =
+          let own = is-true (ownTest d e) (sym be ∙ t) in
+          entity-agrees (d .entity e) (eights d o e) .to (T-l (entityTest (d .entity e)) (contentsAt d e && idleAt d e) own) .absent k used
 
       none : T (containedTest d e)
       none = every-of placeCount _ (λ i h. agrees-imp (agrees-le (suc i) (usedPlaces d e)) (agrees-T _) .from (λ l. absurd (omega (arith, empty))))

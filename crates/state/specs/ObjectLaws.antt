@@ -75,7 +75,8 @@ module _ (d : Tables) (o : Bounded d) (e : ℕ) where
   unfolding bare
   bare-from b = every-of bareWidth (λ i. eqb (d .entity e (entityWordAt (offset releaser + i))) 0)
       (λ i h. let q = offset-at (offset releaser + i) (omega arith) in
-      agrees-eq (d .entity e (entityWordAt (offset releaser + i))) 0 .from (bare-word b (entityWordAt (offset releaser + i)) (omega (arith, q)) (omega (arith, q))))
+      agrees-eq (d .entity e (entityWordAt (offset releaser + i))) 0 .from
+      (bare-word b (entityWordAt (offset releaser + i)) (omega (arith, q)) (omega (arith, q))))
 
   -- ---- what is asked of an object
 

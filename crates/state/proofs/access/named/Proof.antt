@@ -39,7 +39,8 @@ has-bit-requires-4 c κs = search needs
 returns-2 : tie.Need-returns-2
 returns-2 c =
     let s3 = c .before .before .before in
-    named-bits _ (s3 .before .if1 .left) _ _ _ _ (s3 .has-bit .ensures) (c .before .before .has-bit2 .ensures) (c .before .has-bit3 .ensures) (c .has-bit4 .ensures)
+    named-bits _ (s3 .before .if1 .left) _ _ _ _ (s3 .has-bit .ensures) (c .before .before .has-bit2 .ensures) (c .before .has-bit3 .ensures)
+    (c .has-bit4 .ensures)
 
 pub named-spec : {M : Type 1} → statement M
 named-spec =
