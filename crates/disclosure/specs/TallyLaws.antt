@@ -13,6 +13,7 @@ use Rattle.disclosure.specs.VerdictLaws.{guided-next}
 use Rattle.disclosure.specs.Verdicts.{Guided, leads, listed, wayWeight}
 use Rattle.disclosure.specs.VisitLaws.{followed-more, inside-more, visit-last, visit-more}
 use Rattle.disclosure.specs.Visited.{followed, furtherMost, inside, under}
+use Rattle.laws.specs.Lists.{getD-zeros}
 use Rattle.model.specs.Basics.Choice.{Below, Same, below, it, other, over, same, under as led}
 use Rattle.model.specs.List.BoundLaws.{through-grows, visit-bound, walk-bound}
 use Rattle.model.specs.List.Reach.{reach}
@@ -20,11 +21,6 @@ use Rattle.model.specs.List.Walk.{here, through, visit}
 use Rattle.model.specs.Request.Reference.{standing}
 use Rattle.model.specs.Tables.Layout.{tablesOf}
 use Rattle.model.specs.Tables.Words.{entityCount, placeCount, places}
-
-zeros : (n i : ℕ) → getD {A = ℕ} (replicate n 0) i 0 ≡ 0
-zeros zero i = refl
-zeros (suc n) zero = refl
-zeros (suc n) (suc i) = zeros n i
 
 -- ---- no tally wraps
 
@@ -120,7 +116,7 @@ module _ (t v : List ℕ) where
   pub tallied-none : Tallied t v 0 (replicate tallyWords 0)
   tallied-none = record {
     size = length-replicate {A = ℕ} tallyWords 0;
-    none = λ k. zeros tallyWords (k * rowWords);
+    none = λ k. getD-zeros tallyWords (k * rowWords);
     told = λ k e low high l. absurd (omega arith);
   }
 

@@ -3,22 +3,17 @@ use mathlib.Core.Bool.{Bool, _&&_, false, true}
 use mathlib.Core.List.{List}
 use mathlib.Core.Logic.{_≢_}
 use mathlib.Core.Path.{_∙_, _≡_, ap, refl, sym}
-use Prim.Native.Nat.{_*_, _+_, _-_, _≤_, suc, zero, ℕ}
+use Prim.Native.Nat.{_*_, _+_, _-_, _≤_, ℕ}
 use native.Mathlib.Omega.{arith}
 use lib.ListN.{getD, length, length-set, replicate, set}
 use Rattle.laws.specs.Bools.{clash}
+use Rattle.laws.specs.Lists.{getD-zeros}
 use Rattle.model.specs.Basics.TestLaws.{holds-true}
 use Rattle.model.specs.Tables.Layout.{Bounded}
 use Rattle.model.specs.Tables.Words.{Tables, containerKind, entityCount, kinds, placeCount, usedPlaces}
 use Rattle.state.specs.HolderLaws.{filled-put, filled-rest, filled-skip, held-twice, own-at}
 use Rattle.state.specs.Holders.{Amiss, Noted, Noting, Slot, entityNumbers}
 use Rattle.state.specs.Passes.{allOwn, ownTest, treeTest}
-
--- a list of zeros
-getD-zeros : (n x : ℕ) → _≡_ {A = ℕ} (getD (replicate n 0) x 0) 0
-getD-zeros zero x = refl
-getD-zeros (suc n) zero = refl
-getD-zeros (suc n) (suc x) = getD-zeros n x
 
 -- nothing is noted at the start
 pub noted-none : (d : Tables) (h : List ℕ) → h ≡ replicate entityNumbers 0 → Noted d 0 h
