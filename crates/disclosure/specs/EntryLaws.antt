@@ -10,7 +10,7 @@ use lib.Dec.{ltb}
 use lib.ListN.{List·getD-eq-default, getD, length, length-map, length-set, set, take}
 use lib.Seq.{append-snoc, ext-getD, getD-set-other, getD-take, length-take-le, set-comm, set-set, sets, take-suc-set}
 use borrow.Author.Tests.{ltb-false, ltb-true}
-use Rattle.disclosure.specs.Visited.{Padded, entriesOf, stores}
+use Rattle.disclosure.specs.Visited.{Padded, entriesOf}
 use Rattle.model.specs.List.Listing.{entries, entry, entryWords}
 use Rattle.model.specs.List.ListingLaws.{entries-length}
 use Rattle.model.specs.Request.Words.{nameCount}
@@ -82,20 +82,24 @@ sets-within (v ∷ vs) l i zero x h =
     rw add-zero (sets-before vs (set l i v) (suc i) i x (omega arith)) ∙ ap (λ (m : List ℕ). sets m (suc i) vs) (set-set l i v x)
 sets-within (v ∷ vs) l i (suc k) x h = rw (add-suc, ← suc-add) (sets-within vs (set l i v) (suc i) k x (omega arith))
 
--- a word and all names, stored one by one, are a run
-stores-run : (l : List ℕ) (at n : ℕ) (ns : List ℕ) → length ns ≡ nameCount → stores l at n ns ≡ sets l at (n ∷ ns)
-stores-run l at n ns f = (simp towards-suc) ∙ ap (λ (w : List ℕ). sets l at (n ∷ w)) (sym (all-names ns f))
+-- the room in which n is stored at word i, and the words of all names one by one after it
+abbrev stores : List ℕ → ℕ → ℕ → List ℕ → List ℕ
+stores room i n ns = set (set (set (set (set room i n) (i + 1) (getD ns 0 0)) (i + 2) (getD ns 1 0)) (i + 3) (getD ns 2 0)) (i + 4) (getD ns 3 0)
 
--- so an entry is stored
-pub entry-stored : (l : List ℕ) (at n : ℕ) (ns : List ℕ) → n ≤ nameCount → Padded ns n → stores l at n ns ≡ sets l at (entry (take n ns))
-entry-stored l at n ns h p = stores-run l at n ns (p .size) ∙ ap (sets l at) (sym (entry-padded ns n h p))
+-- a word and all names, stored one by one, are a run
+pub names-stored : (l : List ℕ) (at n : ℕ) (ns : List ℕ) → length ns ≡ nameCount → stores l at n ns ≡ sets l at (n ∷ ns)
+names-stored l at n ns f = (simp towards-suc) ∙ ap (λ (w : List ℕ). sets l at (n ∷ w)) (sym (all-names ns f))
+
+-- so an entry is stored; r is the room then
+pub entry-stored : (l r : List ℕ) (at n : ℕ) (ns : List ℕ) → n ≤ nameCount → Padded ns n → r ≡ sets l at (n ∷ ns) → r ≡ sets l at (entry (take n ns))
+entry-stored l r at n ns h p re = re ∙ ap (sets l at) (sym (entry-padded ns n h p))
 
 -- and one with a name more, which goes over the zero after the others
-pub last-stored : (l : List ℕ) (at n m j x : ℕ) (ns : List ℕ) → n < nameCount → m ≡ n + 1 → j ≡ at + suc n → Padded ns n
-    → set (stores l at m ns) j x ≡ sets l at (entry (take n ns ++ (x ∷ [])))
-last-stored l at n m j x ns h e f p =
+pub last-stored : (l r : List ℕ) (at n m j x : ℕ) (ns : List ℕ) → n < nameCount → m ≡ n + 1 → j ≡ at + suc n → Padded ns n → r ≡ sets l at (m ∷ ns)
+    → set r j x ≡ sets l at (entry (take n ns ++ (x ∷ [])))
+last-stored l r at n m j x ns h e f p re =
     let g : length ns ≡ nameCount = p .size in
-    ap₂ (λ (r : List ℕ) (k : ℕ). set r k x) (stores-run l at m ns g) f ∙ sets-within (m ∷ ns) l at (suc n) x (omega arith)
+    ap₂ (λ (q : List ℕ) (k : ℕ). set q k x) re f ∙ sets-within (m ∷ ns) l at (suc n) x (omega arith)
     ∙ ap (sets l at) (sym (entry-padded (set ns n x) m (omega arith) (padded-more ns n m x e p)) ∙ ap entry (take-more ns n m x e h p))
 
 sets-append : (a b l : List ℕ) (i : ℕ) → sets (sets l i a) (i + length a) b ≡ sets l i (a ++ b)

@@ -1,4 +1,5 @@
--- How many references go on from each entity by at most so many names, in rows: a row for each number of names, with a word for each entity.
+-- How many references go on from each entity by at most so many names, in rows: a row for each number of names, with a word for
+-- each entity, after one for none.
 use mathlib.Core.List.{List}
 use mathlib.Core.Path.{_≡_}
 use Prim.Native.Nat.{_*_, _+_, _-_, _<_, _≤_, suc, ℕ}

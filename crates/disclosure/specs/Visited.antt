@@ -2,7 +2,7 @@
 use mathlib.Core.List.{List, _++_, map}
 use mathlib.Core.Path.{_≡_}
 use Prim.Native.Nat.{_*_, _+_, _≤_, pred, ℕ}
-use lib.ListN.{getD, length, set}
+use lib.ListN.{getD, length}
 use lib.Seq.{sets}
 use Rattle.disclosure.specs.Verdicts.{leads, listed}
 use Rattle.model.specs.List.Listing.{entries, entryWords}
@@ -35,10 +35,6 @@ entriesOf pre l = entries (map (λ r. pre ++ r) l)
 pub record Padded (ns : List ℕ) (n : ℕ) : Type 0 where
   pub size : length ns ≡ nameCount
   pub zeros : (k : ℕ) → n ≤ k → getD ns k 0 ≡ 0
-
--- the room in which n is stored at word i, and the words of all names one by one after it
-abbrev pub stores : List ℕ → ℕ → ℕ → List ℕ → List ℕ
-stores room i n ns = set (set (set (set (set room i n) (i + 1) (getD ns 0 0)) (i + 2) (getD ns 1 0)) (i + 3) (getD ns 2 0)) (i + 4) (getD ns 3 0)
 
 -- the room has space for the entries of l from word i on
 abbrev pub Fits : List ℕ → ℕ → List (List ℕ) → Type 0

@@ -18,16 +18,24 @@ ghost use Rattle.model.specs.List.Walk.{here};
 ghost use Rattle.model.specs.Request.Words.{nameCount};
 ghost use Rattle.model.specs.Tables.Words.{entityCount};
 
+// Stores the number n, and all four names after it.
+fn put_names(n: usize, names: [u32; sizes::NAMES], room: &mut [u32], at: usize)
+    requires { ⌜ (n ≤ nameCount) × (length names ≡ nameCount) × (at + entryWords ≤ length (now room)) ⌝ }
+    ensures { λ _. ⌜ now (room .exit) ≡ sets (now (room .entry)) at (n ∷ names) ⌝ }
+{
+    room[at] = n as u32;
+    room[at + 1] = names[0];
+    room[at + 2] = names[1];
+    room[at + 3] = names[2];
+    room[at + 4] = names[3];
+}
+
 // Stores the entry of all names but the last `left`: how many they are, then each name, and 0 for those that are left.
 fn put_entry(left: usize, names: [u32; sizes::NAMES], room: &mut [u32], at: usize)
     requires { ⌜ (left ≤ furtherMost) × Padded names (nameCount - left) × (at + entryWords ≤ length (now room)) ⌝ }
     ensures { λ _. ⌜ now (room .exit) ≡ sets (now (room .entry)) at (entry (take (nameCount - left) names)) ⌝ }
 {
-    room[at] = (sizes::NAMES - left) as u32;
-    room[at + 1] = names[0];
-    room[at + 2] = names[1];
-    room[at + 3] = names[2];
-    room[at + 4] = names[3];
+    put_names(sizes::NAMES - left, names, room, at);
 }
 
 // Stores the entry if it is to be listed. Returns where the next one goes.
@@ -54,11 +62,7 @@ fn put_last(left: usize, names: [u32; sizes::NAMES], last: u32, room: &mut [u32]
     requires { ⌜ (0 < left) × (left ≤ furtherMost) × Padded names (nameCount - left) × (at + entryWords ≤ length (now room)) ⌝ }
     ensures { λ _. ⌜ now (room .exit) ≡ sets (now (room .entry)) at (entry (take (nameCount - left) names ++ (last ∷ []))) ⌝ }
 {
-    room[at] = (sizes::NAMES + 1 - left) as u32;
-    room[at + 1] = names[0];
-    room[at + 2] = names[1];
-    room[at + 3] = names[2];
-    room[at + 4] = names[3];
+    put_names(sizes::NAMES + 1 - left, names, room, at);
     room[at + 1 + sizes::NAMES - left] = last;
 }
 

@@ -11,4 +11,4 @@ use Rattle.model.specs.Tables.Words.{Tables}
 pub record Tried (new : Tables) (t : List ℕ) (r : Bool) (n : List ℕ) : Type 0 where
   pub secure : r ≡ secureTest new
   pub kept : r ≡ true → tablesOf n ≡ new
-  pub back : r ≡ false → n ≡ t
+  pub unchanged : r ≡ false → n ≡ t

@@ -9,7 +9,7 @@ use Rattle.model.specs.Tables.Words.{Tables}
 use Rattle.ladder.specs.Trial.{Tried}
 
 pub tried-set : (new : Tables) (t s : List ℕ) → true ≡ secureTest new → tablesOf s ≡ new → Tried new t true s
-tried-set new t s h e = record { secure = h; kept = λ z. e; back = λ z. absurd (true≢false z) }
+tried-set new t s h e = record { secure = h; kept = λ z. e; unchanged = λ z. absurd (true≢false z) }
 
 pub tried-left : (new : Tables) (t n : List ℕ) → false ≡ secureTest new → n ≡ t → Tried new t false n
-tried-left new t n h b = record { secure = h; kept = λ z. absurd (true≢false (sym z)); back = λ z. b }
+tried-left new t n h b = record { secure = h; kept = λ z. absurd (true≢false (sym z)); unchanged = λ z. b }

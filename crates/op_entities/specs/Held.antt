@@ -2,26 +2,20 @@
 -- there, at least a.
 use mathlib.Core.Bool.{Bool, _&&_, not}
 use Prim.Native.Nat.{suc, ℕ}
-use lib.Dec.{eqb, ltb}
+use lib.Dec.{eqb}
 use Rattle.model.specs.Basics.Tests.{every, imp}
 use Rattle.model.specs.Level.{atMost}
-use Rattle.model.specs.Tables.Rows.{seek}
-use Rattle.model.specs.Tables.Words.{Tables, clearance, devices, level, places, usedPlaces, userCount}
+use Rattle.model.specs.Tables.Words.{Tables, clearance, devices, level, usedPlaces, userCount}
 use Rattle.rows.specs.Rows.{placeAtMost}
-use Rattle.standing.specs.Standing.{parentIn}
+use Rattle.standing.specs.Standing.{parentIn, seeing}
 
 -- all that stands in e is at most a
 unfoldable pub contentsStay : Tables → (e a : ℕ) → Bool
 contentsStay d e a = every (usedPlaces d e) (placeAtMost d e a)
 
--- the device v shows e
-abbrev pub showsOn : Tables → (e v : ℕ) → Bool
-showsOn d e v = ltb (seek e (places d v) (usedPlaces d v)) (usedPlaces d v)
-
 -- where user u is on a device that shows e, both the device and the clearance of u are at least a
 unfoldable pub screenAdmits : Tables → (e a u : ℕ) → Bool
-screenAdmits d e a u = imp (not (eqb (devices d u) 0)) (imp (showsOn d e (devices d u))
-    (atMost a (d .entity (devices d u) level) && atMost a (d .user u clearance)))
+screenAdmits d e a u = imp (seeing d e u) (atMost a (d .entity (devices d u) level) && atMost a (d .user u clearance))
 
 -- so of every user
 unfoldable pub screensAdmit : Tables → (e a : ℕ) → Bool

@@ -10,9 +10,9 @@ use Rattle.model.specs.Level.{atMost}
 use Rattle.model.specs.State.WellFormed.{WellFormed}
 use Rattle.model.specs.Tables.Rows.{seek}
 use Rattle.model.specs.Tables.Words.{Tables, clearance, devices, level, placeCount, places, usedPlaces}
-use Rattle.op_entities.specs.Held.{containerAdmits, contentsStay, holdersStay, screenAdmits, screensAdmit, showsOn}
+use Rattle.op_entities.specs.Held.{containerAdmits, contentsStay, holdersStay, screenAdmits, screensAdmit}
 use Rattle.rows.specs.Rows.{placeAtMost}
-use Rattle.rows.specs.SweepLaws.{sweep-used}
+use Rattle.standing.specs.SeenLaws.{sees-nothing, sees-shown}
 use Rattle.standing.specs.Standing.{parentIn}
 
 -- e holds n entities
@@ -26,17 +26,13 @@ module _ (d : Tables) (w : WellFormed d) (e a u : ℕ) (low : 1 ≤ e) (v : ℕ)
   -- which is nothing
   pub screen-off : v ≡ 0 → true ≡ screenAdmits d e a u
   unfolding screenAdmits imp
-  screen-off z = rw (eq-eqb (devices d u) 0 (sym ve ∙ z))
+  screen-off z = rw (← sees-nothing d w u v ve e z)
 
   -- or a device, all of whose places were looked through
   module _ (n : v ≢ 0) (b : Bool) (be : b ≡ ltb (seek e (places d v) placeCount) placeCount) where
-    shows-is : showsOn d e (devices d u) ≡ b
-    shows-is = let f = w .entities v .filled .packed in
-        rw (← ve) (sym (be ∙ sweep-used e (places d v) (usedPlaces d v) placeCount low (f .room) (f .rest)))
-
     admits-is : screenAdmits d e a u ≡ imp b (atMost a (d .entity v level) && atMost a (d .user u clearance))
     unfolding screenAdmits imp
-    admits-is = rw (shows-is, ne-eqb (devices d u) 0 (λ z. n (ve ∙ z)), ve)
+    admits-is = rw (← sees-shown d w u v ve e n low b be, ve)
 
     -- which does not show e
     pub screen-other : b ≡ false → true ≡ screenAdmits d e a u

@@ -8,14 +8,13 @@ use native.Mathlib.Omega.{arith}
 use lib.Dec.{T, eqb}
 use borrow.Author.Tests.{ne-eqb}
 use Rattle.laws.specs.Bools.{agreed, agreed-true}
-use Rattle.model.specs.Basics.Agree.{Agrees, agreement, agrees-T, agrees-and, agrees-as, agrees-range}
+use Rattle.model.specs.Basics.Agree.{Agrees, agreement, agrees-T, agrees-and, agrees-as, agrees-imp, agrees-range}
 use Rattle.model.specs.Basics.Choice.{Same, it, other, pick, same}
 use Rattle.model.specs.Basics.TestLaws.{T-r, every-same, is-true}
 use Rattle.model.specs.Basics.Tests.{every, imp}
 use Rattle.model.specs.Effect.Words.{setLevel}
 use Rattle.model.specs.Level.{AtMost, atMost}
 use Rattle.model.specs.LevelLaws.{atMost-ordered}
-use Rattle.model.specs.State.AgreeLinks.{member-agrees}
 use Rattle.model.specs.State.AgreeSecure.{secure-agrees}
 use Rattle.model.specs.State.Check.{ceilingTest, containedTest, labelledTest, rolesTest, secureTest, seenTest}
 use Rattle.model.specs.State.Depth.{direct}
@@ -28,6 +27,7 @@ use Rattle.model.specs.Tables.Words.{Tables, absentKind, clearance, containerKi
 use Rattle.model.specs.Tables.Words.{objectKind, placeCount, places, usedPlaces, userCount}
 use Rattle.op_entities.specs.Held.{containerAdmits, contentsStay, holdersStay, screenAdmits, screensAdmit}
 use Rattle.rows.specs.Rows.{placeAtMost}
+use Rattle.standing.specs.SeenLaws.{seeing-agrees}
 use Rattle.standing.specs.Standing.{parentIn}
 use Rattle.state.specs.ReachLaws.{here}
 
@@ -86,7 +86,8 @@ module _ (d : Tables) (g : Good d) (e a : ℕ) where
   screen-agrees : (u : ℕ) → Agrees (screenAdmits d e a u)
       (devices d u ≢ 0 → Holds d (devices d u) e → AtMost a (d .entity (devices d u) level) × AtMost a (d .user u clearance))
   unfolding screenAdmits
-  screen-agrees u = search (agreement, agrees-T, member-agrees)
+  screen-agrees u = agrees-as (λ f n m. f (n, m)) (λ f z. f (z .0) (z .1)) (agrees-imp (seeing-agrees d e u)
+      (agrees-and (agrees-T (atMost a (d .entity (devices d u) level))) (agrees-T (atMost a (d .user u clearance)))))
 
   screens-agrees : Agrees (screensAdmit d e a) Screens
   unfolding screensAdmit Screens
@@ -132,28 +133,28 @@ module _ (d : Tables) (g : Good d) (e a : ℕ) where
   -- ---- the new one
 
   -- the level of x once that of e is a
-  now : ℕ → ℕ
-  now x = pick (eqb x e) a (d .entity x level)
+  renewed : ℕ → ℕ
+  renewed x = pick (eqb x e) a (d .entity x level)
 
   Contained : Type 0
-  Contained = (x c : ℕ) → Holds d x c → AtMost (now c) (now x)
+  Contained = (x c : ℕ) → Holds d x c → AtMost (renewed c) (renewed x)
 
   Seen : Type 0
-  Seen = (u c : ℕ) → devices d u ≢ 0 → Holds d (devices d u) c → AtMost (now c) (d .user u clearance)
+  Seen = (u c : ℕ) → devices d u ≢ 0 → Holds d (devices d u) c → AtMost (renewed c) (d .user u clearance)
 
-  contained-agrees : (x : ℕ) → Agrees (containedTest (setLevel e a d) x) ((c : ℕ) → Holds d x c → AtMost (now c) (now x))
-  unfolding containedTest now
-  contained-agrees x = agrees-as {P = (i : ℕ) → i < placeCount → i < usedPlaces d x → AtMost (now (places d x i)) (now x)}
-      (λ f c m. subst (λ (y : ℕ). AtMost (now y) (now x)) (m .2) (f (m .0) (omega (arith, m .1, row-room d (g .0) x)) (m .1)))
+  contained-agrees : (x : ℕ) → Agrees (containedTest (setLevel e a d) x) ((c : ℕ) → Holds d x c → AtMost (renewed c) (renewed x))
+  unfolding containedTest renewed
+  contained-agrees x = agrees-as {P = (i : ℕ) → i < placeCount → i < usedPlaces d x → AtMost (renewed (places d x i)) (renewed x)}
+      (λ f c m. subst (λ (y : ℕ). AtMost (renewed y) (renewed x)) (m .2) (f (m .0) (omega (arith, m .1, row-room d (g .0) x)) (m .1)))
       (λ s i h l. s (places d x i) (i, l, refl))
       (search (agreement, agrees-T))
 
   seen-agrees : (u : ℕ)
-      → Agrees (seenTest (setLevel e a d) u) ((c : ℕ) → devices d u ≢ 0 → Holds d (devices d u) c → AtMost (now c) (d .user u clearance))
-  unfolding seenTest now
+      → Agrees (seenTest (setLevel e a d) u) ((c : ℕ) → devices d u ≢ 0 → Holds d (devices d u) c → AtMost (renewed c) (d .user u clearance))
+  unfolding seenTest renewed
   seen-agrees u = agrees-as {P = devices d u ≢ 0 → (i : ℕ) → i < placeCount → i < usedPlaces d (devices d u) → AtMost
-      (now (places d (devices d u) i)) (d .user u clearance)}
-      (λ f c n m. subst (λ (y : ℕ). AtMost (now y) (d .user u clearance)) (m .2)
+      (renewed (places d (devices d u) i)) (d .user u clearance)}
+      (λ f c n m. subst (λ (y : ℕ). AtMost (renewed y) (d .user u clearance)) (m .2)
       (f n (m .0) (omega (arith, m .1, row-room d (g .0) (devices d u))) (m .1)))
       (λ s n i h l. s (places d (devices d u) i) n (i, l, refl))
       (search (agreement, agrees-T))
@@ -185,39 +186,40 @@ module _ (d : Tables) (g : Good d) (e a : ℕ) where
         (secure-agrees d (g .0) .from (g .1))))
 
     -- so the test says rules 4.1 and 4.2
-    secure-now : Agrees (secureTest (setLevel e a d)) (Contained × Seen)
+    secure-renewed : Agrees (secureTest (setLevel e a d)) (Contained × Seen)
     unfolding secureTest others Contained Seen
-    secure-now = agrees-and
-        (agrees-range entityCount (containedTest (setLevel e a d)) (λ x. (c : ℕ) → Holds d x c → AtMost (now c) (now x)) contained-agrees
+    secure-renewed = agrees-and
+        (agrees-range entityCount (containedTest (setLevel e a d)) (λ x. (c : ℕ) → Holds d x c → AtMost (renewed c) (renewed x)) contained-agrees
         (λ c m. absurd (omega (arith, m .1, entity-out d (g .0) 0 (inl refl)))) (λ x q c m. absurd (omega (arith, m .1, entity-out d (g .0) x (inr q)))))
-        (agrees-as {P = ((u c : ℕ) → devices d u ≢ 0 → Holds d (devices d u) c → AtMost (now c) (d .user u clearance)) × T (others (setLevel e a d))}
+        (agrees-as {P = ((u c : ℕ) → devices d u ≢ 0 → Holds d (devices d u) c → AtMost (renewed c) (d .user u clearance)) × T (others (setLevel e a d))}
         (λ z. z .0) (λ s. (s, others-kept)) (agrees-and
-        (agrees-range userCount (seenTest (setLevel e a d)) (λ u. (c : ℕ) → devices d u ≢ 0 → Holds d (devices d u) c → AtMost (now c) (d .user u clearance))
-        seen-agrees (λ c n m. absurd (n (user-out d (g .0) 0 (inl refl)))) (λ u q c n m. absurd (n (user-out d (g .0) u (inr q)))))
+        (agrees-range userCount (seenTest (setLevel e a d))
+        (λ u. (c : ℕ) → devices d u ≢ 0 → Holds d (devices d u) c → AtMost (renewed c) (d .user u clearance)) seen-agrees
+        (λ c n m. absurd (n (user-out d (g .0) 0 (inl refl)))) (λ u q c n m. absurd (n (user-out d (g .0) u (inr q)))))
         (agrees-T (others (setLevel e a d)))))
 
   -- ---- the two are one
 
   -- nothing stands in itself, so the new level is on one side only
-  now-here : now e ≡ a
-  unfolding now
-  now-here = here e a (d .entity e level)
+  renewed-here : renewed e ≡ a
+  unfolding renewed
+  renewed-here = here e a (d .entity e level)
 
-  now-there : (x : ℕ) → x ≢ e → now x ≡ d .entity x level
-  unfolding now
+  now-there : (x : ℕ) → x ≢ e → renewed x ≡ d .entity x level
+  unfolding renewed
   now-there x n = elsewhere x e a (d .entity x level) n
 
   from-holder : Contained → (x : ℕ) → Holds d x e → AtMost a (d .entity x level)
   unfolding Contained
-  from-holder s x m = subst (λ (y : ℕ). AtMost y (d .entity x level)) now-here
-      (subst (AtMost (now e)) (now-there x (not-itself d (g .0) x e m)) (s x e m))
+  from-holder s x m = subst (λ (y : ℕ). AtMost y (d .entity x level)) renewed-here
+      (subst (AtMost (renewed e)) (now-there x (not-itself d (g .0) x e m)) (s x e m))
 
   asked-of : Contained × Seen → Contents × (Screens × Containers)
   unfolding Contained Seen Contents Screens Containers
   asked-of z = (
-    λ c m. subst (λ (y : ℕ). AtMost y a) (now-there c (λ q. not-itself d (g .0) e c m (sym q))) (subst (AtMost (now c)) now-here (z .0 e c m)),
+    λ c m. subst (λ (y : ℕ). AtMost y a) (now-there c (λ q. not-itself d (g .0) e c m (sym q))) (subst (AtMost (renewed c)) renewed-here (z .0 e c m)),
     (
-      λ u n m. (from-holder (z .0) (devices d u) m, subst (λ (y : ℕ). AtMost y (d .user u clearance)) now-here (z .1 u e n m)),
+      λ u n m. (from-holder (z .0) (devices d u) m, subst (λ (y : ℕ). AtMost y (d .user u clearance)) renewed-here (z .1 u e n m)),
       λ x i. from-holder (z .0) x (i .1),
     ),
   )
@@ -239,7 +241,7 @@ module _ (d : Tables) (g : Good d) (e a : ℕ) where
       go (inr k) = stable (atMost a (d .entity x level)) (λ n. omega (arith, m .1, g .0 .links .idle x k (user-of k n)))
 
   said-of : Contents × (Screens × Containers) → Contained × Seen
-  unfolding Contained Seen Contents Screens Containers now
+  unfolding Contained Seen Contents Screens Containers renewed
   said-of z = (λ x c m. go x c m (eqb c e) (same c e) (eqb x e) (same x e), λ u c n m. see u c n m (eqb c e) (same c e))
     where
       go : (x c : ℕ) → Holds d x c → (p : Bool) → Same c e p → (q : Bool) → Same x e q
@@ -256,7 +258,7 @@ module _ (d : Tables) (g : Good d) (e a : ℕ) where
   -- all that is asked is that the tables stay secure
   pub level-is : Thing d e → (contentsStay d e a && holdersStay d e a) ≡ secureTest (setLevel e a d)
   level-is thing = agreed (contentsStay d e a && holdersStay d e a) (secureTest (setLevel e a d)) (agrees-and contents-agrees holders-agrees)
-      (agrees-as asked-of said-of (secure-now thing))
+      (agrees-as asked-of said-of (secure-renewed thing))
 
   -- ---- as the functions meet it: o is the old level, and b what it was compared to
 

@@ -1,4 +1,4 @@
--- What the searches and stores of create, delete and move answer for, and the laws by which these operations meet the model.
+-- What the stores of create, delete and move, and the search for a free number, answer for, and the laws by which these operations meet the model.
 pub mod Stored
 pub mod VacantLaws
 pub mod CopyLaws

@@ -1,4 +1,4 @@
-// What the three operations store: places that are left or filled, and records that appear, with the number that is free for one, or go.
+// What the three operations store: places that are left or filled, and records that appear or go; and the number that is free for a new one.
 use levels::Level;
 use names::kind;
 use names::size;

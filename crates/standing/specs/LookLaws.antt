@@ -1,4 +1,4 @@
--- The searches: for an entity in the places of another, for the container that it is in, for a screen that shows it.
+-- The searches: for an entity in the places of another, and for the container that it is in.
 use mathlib.Core.Bool.{Bool, _&&_, false, not, true}
 use mathlib.Core.Logic.{_≢_}
 use mathlib.Core.Path.{_∙_, _≡_, ap, refl, subst, sym}

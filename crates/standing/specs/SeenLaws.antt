@@ -13,11 +13,16 @@ use Rattle.model.specs.Basics.Tests.{every, imp}
 use Rattle.model.specs.Request.Conditions.{onScreen}
 use Rattle.model.specs.State.AgreeLinks.{member-agrees}
 use Rattle.model.specs.State.ParentLaws.{entity-out, user-out}
-use Rattle.model.specs.State.WellFormed.{WellFormed}
-use Rattle.model.specs.Tables.Rows.{Member, seek}
+use Rattle.model.specs.State.WellFormed.{Holds, WellFormed}
+use Rattle.model.specs.Tables.Rows.{seek}
 use Rattle.model.specs.Tables.Words.{Tables, deviceKind, devices, entityCount, kinds, placeCount, places, userCount, usedPlaces}
 use Rattle.rows.specs.SweepLaws.{sweep-used}
 use Rattle.standing.specs.Standing.{seeing}
+
+-- what it is to see e
+pub seeing-agrees : (d : Tables) (e u : ℕ) → Agrees (seeing d e u) ((devices d u ≢ 0) × Holds d (devices d u) e)
+unfolding seeing
+seeing-agrees d e u = agrees-and (agrees-not (agrees-eq (devices d u) 0)) (member-agrees (places d (devices d u)) (usedPlaces d (devices d u)) e)
 
 module _ (d : Tables) (w : WellFormed d) where
   -- ---- one user, who is on v
@@ -43,26 +48,17 @@ module _ (d : Tables) (w : WellFormed d) where
   -- ---- all users
 
   module _ (e : ℕ) where
-    -- e stands in a place of v
-    abbrev In : ℕ → Type 0
-    In v = Member (places d v) (usedPlaces d v) e
-
-    in-agrees : (v : ℕ) → Agrees (ltb (seek e (places d v) (usedPlaces d v)) (usedPlaces d v)) (In v)
-    in-agrees v = member-agrees (places d v) (usedPlaces d v) e
-
     -- no device shows it
     hidden : Agrees (every entityCount (λ v. imp (eqb (kinds d (suc v)) deviceKind)
-        (not (ltb (seek e (places d (suc v)) (usedPlaces d (suc v))) (usedPlaces d (suc v)))))) ((v : ℕ) → kinds d v ≡ deviceKind → In v → ⊥)
-    hidden = agrees-range entityCount _ (λ v. kinds d v ≡ deviceKind → In v → ⊥)
-        (λ v. agrees-imp (agrees-eq (kinds d v) deviceKind) (agrees-not (in-agrees v)))
+        (not (ltb (seek e (places d (suc v)) (usedPlaces d (suc v))) (usedPlaces d (suc v)))))) ((v : ℕ) → kinds d v ≡ deviceKind → Holds d v e → ⊥)
+    hidden = agrees-range entityCount _ (λ v. kinds d v ≡ deviceKind → Holds d v e → ⊥)
+        (λ v. agrees-imp (agrees-eq (kinds d v) deviceKind) (agrees-not (member-agrees (places d v) (usedPlaces d v) e)))
         (λ k m. omega (arith, k, entity-out d w 0 (inl refl) .0)) (λ v h k m. omega (arith, k, entity-out d w v (inr h) .0))
 
     -- nobody sees it
-    unseen : Agrees (every userCount (λ u. not (seeing d e (suc u)))) ((u : ℕ) → devices d u ≢ 0 → In (devices d u) → ⊥)
-    unfolding seeing
-    unseen = agrees-range userCount (λ u. not (seeing d e u)) (λ u. devices d u ≢ 0 → In (devices d u) → ⊥)
-        (λ u. agrees-as (λ f n m. f (n, m)) (λ f z. f (z .0) (z .1))
-        (agrees-not (agrees-and (agrees-not (agrees-eq (devices d u) 0)) (in-agrees (devices d u)))))
+    unseen : Agrees (every userCount (λ u. not (seeing d e (suc u)))) ((u : ℕ) → devices d u ≢ 0 → Holds d (devices d u) e → ⊥)
+    unseen = agrees-range userCount (λ u. not (seeing d e u)) (λ u. devices d u ≢ 0 → Holds d (devices d u) e → ⊥)
+        (λ u. agrees-as (λ f n m. f (n, m)) (λ f z. f (z .0) (z .1)) (agrees-not (seeing-agrees d e u)))
         (λ n m. n (user-out d w 0 (inl refl))) (λ u h n m. n (user-out d w u (inr h)))
 
     -- the two say the same
@@ -70,15 +66,15 @@ module _ (d : Tables) (w : WellFormed d) where
     unfolding onScreen
     screens-seen = ap not (agreed _ _ hidden (agrees-as shown-of seen-of unseen))
       where
-        seen-of : ((v : ℕ) → kinds d v ≡ deviceKind → In v → ⊥) → (u : ℕ) → devices d u ≢ 0 → In (devices d u) → ⊥
+        seen-of : ((v : ℕ) → kinds d v ≡ deviceKind → Holds d v e → ⊥) → (u : ℕ) → devices d u ≢ 0 → Holds d (devices d u) e → ⊥
         seen-of f u n = f (devices d u) (w .links .deviceIs u n)
 
-        shown-of : ((u : ℕ) → devices d u ≢ 0 → In (devices d u) → ⊥) → (v : ℕ) → kinds d v ≡ deviceKind → In v → ⊥
+        shown-of : ((u : ℕ) → devices d u ≢ 0 → Holds d (devices d u) e → ⊥) → (v : ℕ) → kinds d v ≡ deviceKind → Holds d v e → ⊥
         shown-of f v k m = omega (
           arith,
           m .1,
           w .links .idle v k (λ u q. f u (λ z. omega (arith, k, entity-out d w v (inl (sym q ∙ z)) .0))
-              (subst In (sym q) m)),
+              (subst (λ (x : ℕ). Holds d x e) (sym q) m)),
         )
 
     -- the loop: the next user does not see it, or does, or none was left

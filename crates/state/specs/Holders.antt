@@ -38,7 +38,7 @@ Noted d n h = (length h ≡ entityNumbers) × (allOwn d ≡ true → Filled d n 
 abbrev pub Amiss : Tables → Type 0
 Amiss d = (allOwn d && treeTest d) ≡ false
 
--- the pass has gone on to n, or it has met something that stands in two containers
+-- the pass has gone on to n, or the tables are amiss
 pub record Noting (d : Tables) (n : ℕ) (r : Bool) (h : List ℕ) : Type 0 where
   pub noted : r ≡ true → Noted d n h
   pub refused : r ≡ false → Amiss d

@@ -1,5 +1,5 @@
--- What the one pass over the entities answers and leaves: every record is read in it once, and what is not well-formed ends it.
-use mathlib.Core.Bool.{true}
+-- What the one pass over the entities answers and leaves: what is not well-formed ends it.
+use mathlib.Core.Bool.{Bool, true}
 use mathlib.Core.List.{List}
 use mathlib.Core.Logic.{_⊎_}
 use mathlib.Core.Path.{_≡_}
@@ -11,11 +11,15 @@ use Rattle.model.specs.Tables.Words.{Tables, entityCount, placeCount}
 use Rattle.state.specs.Holders.{Amiss, Noted}
 use Rattle.state.specs.Passes.{entitySecure, ownTest}
 
+-- what is secure is accepted, and what is not is refused
+abbrev pub grade : Bool → ℕ
+grade b = pick b refusal.accepted refusal.notSecure
+
 -- entity e is in order, what stands in it is noted, and r says whether it is secure
 pub record Sound (d : Tables) (e r : ℕ) (h : List ℕ) : Type 0 where
   pub own : ownTest d e ≡ true
   pub noted : Noted d (e * placeCount) h
-  pub graded : r ≡ pick (entitySecure d e) refusal.accepted refusal.notSecure
+  pub graded : r ≡ grade (entitySecure d e)
 
 -- r refuses tables that are not well-formed
 abbrev pub Refusing : Tables → ℕ → Type 0
@@ -29,7 +33,7 @@ Judging d e r h = Refusing d r ⊎ Sound d e r h
 pub record SoundTo (d : Tables) (i r : ℕ) (h : List ℕ) : Type 0 where
   pub own : every i (λ e. ownTest d (suc e)) ≡ true
   pub noted : Noted d (i * placeCount) h
-  pub graded : r ≡ pick (every i (λ e. entitySecure d (suc e))) refusal.accepted refusal.notSecure
+  pub graded : r ≡ grade (every i (λ e. entitySecure d (suc e)))
 
 -- and of all
 abbrev pub JudgingAll : Tables → ℕ → List ℕ → Type 0

@@ -23,19 +23,16 @@ use Rattle.model.specs.State.Tests.{entityTest}
 use Rattle.model.specs.Tables.Layout.{Bounded}
 use Rattle.model.specs.Tables.Words.{Tables, deviceKind, entityCount, kinds, level, maximum, placeCount, sums, used, usedPlaces}
 use Rattle.state.specs.Holders.{Amiss, Filled, Noted, slotCount}
-use Rattle.state.specs.Judging.{Judging, JudgingAll, SoundTo}
+use Rattle.state.specs.Judging.{Judging, JudgingAll, SoundTo, grade}
 use Rattle.state.specs.Passes.{allSecure, contentsAt, entitySecure, idleAt, ownTest}
 use Rattle.state.specs.SecureLaws.{secure-fails}
 
 -- ---- one entity
 
--- what is secure is accepted, and what is not is refused
-abbrev grade : Bool → ℕ
-grade b = pick b refusal.accepted refusal.notSecure
-
+-- no grade refuses what is not well-formed
 grade-other : (b : Bool) → grade b ≢ refusal.notWellFormed
-grade-other true q = let z : _≡_ {A = ℕ} 0 2 = q in omega arith
-grade-other false q = let z : _≡_ {A = ℕ} 3 2 = q in omega arith
+grade-other true q = let z : _≡_ {A = ℕ} refusal.accepted refusal.notWellFormed = q in omega arith
+grade-other false q = let z : _≡_ {A = ℕ} refusal.notSecure refusal.notWellFormed = q in omega arith
 
 module _ (d : Tables) (e : ℕ) where
   -- an entity that is not in order, or with something in it that stands elsewhere too
@@ -119,7 +116,7 @@ module _ (d : Tables) (r : ℕ) (h : List ℕ) (a : JudgingAll d r h) where
 -- what is graded so is secure, or not
 graded-secure : (r : ℕ) (b : Bool) → r ≡ grade b → r ≡ refusal.accepted → b ≡ true
 graded-secure r true e q = refl
-graded-secure r false e q = let z : _≡_ {A = ℕ} 3 0 = sym e ∙ q in absurd (omega arith)
+graded-secure r false e q = let z : _≡_ {A = ℕ} refusal.notSecure refusal.accepted = sym e ∙ q in absurd (omega arith)
 
 graded-open : (r : ℕ) (b : Bool) → r ≡ grade b → r ≢ refusal.accepted → (b ≡ false) × (r ≡ refusal.notSecure)
 graded-open r true e q = absurd (q e)

@@ -85,10 +85,6 @@ regroup u dv al e c i o l = equal-bools (u && ((dv && al) && ((e && (c && i)) &&
         (agrees-and (agrees-T dv) (agrees-and (agrees-T al) (agrees-T i)))))))
 
 module _ (d : Tables) (o : Bounded d) where
-  -- rules 3.13 and 3.14
-  abbrev Tree : Bool
-  Tree = oneTest (kinds d) (usedPlaces d) (places d) (devices d) && loopTest (kinds d) (usedPlaces d) (places d) (devices d)
-
   -- each entity by itself, what stands in its places and its screen
   entities-pass : every entityCount (λ e. ownTest d (suc e)) ≡ (every entityCount (λ e. entityTest (d .entity (suc e)))
       && (contentsTest (kinds d) (usedPlaces d) (places d) (devices d) && idleTest (kinds d) (usedPlaces d) (places d) (devices d)))
@@ -99,7 +95,7 @@ module _ (d : Tables) (o : Bounded d) where
 
   -- users, devices, entities one by one, and what stands in what
   pub passes-all : (every userCount (λ u. userTest (d .user (suc u))) && (every userCount (λ u. onDevice d (suc u))
-      && (every entityCount (λ e. ownTest d (suc e)) && Tree))) ≡ wellFormedTest d
+      && (every entityCount (λ e. ownTest d (suc e)) && treeTest d))) ≡ wellFormedTest d
   unfolding wellFormedTest linksTest
   passes-all = rw (devices-pass d o, entities-pass) (regroup (every userCount (λ u. userTest (d .user (suc u))))
       (deviceTest (kinds d) (usedPlaces d) (places d) (devices d)) (aloneTest (kinds d) (usedPlaces d) (places d) (devices d))
@@ -110,7 +106,7 @@ module _ (d : Tables) (o : Bounded d) where
   -- what each pass has found, in turn
   module _ (u : Bool) (ue : u ≡ every userCount (λ u. userTest (d .user (suc u)))) where
     -- all is asked from the users on
-    from-users : (u && (every userCount (λ u. onDevice d (suc u)) && (every entityCount (λ e. ownTest d (suc e)) && Tree))) ≡ wellFormedTest d
+    from-users : (u && (every userCount (λ u. onDevice d (suc u)) && (every entityCount (λ e. ownTest d (suc e)) && treeTest d))) ≡ wellFormedTest d
     from-users = rw ue passes-all
 
     -- some user is not in order
@@ -119,7 +115,7 @@ module _ (d : Tables) (o : Bounded d) where
 
     module _ (ut : u ≡ true) (v : Bool) (ve : v ≡ every userCount (λ u. onDevice d (suc u))) where
       -- what is left from the devices on
-      from-devices : (v && (every entityCount (λ e. ownTest d (suc e)) && Tree)) ≡ wellFormedTest d
+      from-devices : (v && (every entityCount (λ e. ownTest d (suc e)) && treeTest d)) ≡ wellFormedTest d
       from-devices = rw ve (rw ut at from-users)
 
       -- somebody is on no device, or two are on one
@@ -128,7 +124,7 @@ module _ (d : Tables) (o : Bounded d) where
 
       module _ (vt : v ≡ true) where
         -- what is left from the entities on
-        from-entities : (every entityCount (λ e. ownTest d (suc e)) && Tree) ≡ wellFormedTest d
+        from-entities : (every entityCount (λ e. ownTest d (suc e)) && treeTest d) ≡ wellFormedTest d
         from-entities = rw vt at from-devices
 
         -- some entity is not in order by itself, or the containers are not

@@ -1,15 +1,13 @@
 -- What a triple names, asked of the whole word: who by two comparisons, and the two bytes below by one bit each of two sums.
-use mathlib.Core.Bool.{Bool, _&&_, _||_, false, not, true}
+use mathlib.Core.Bool.{_&&_, _||_, false, true}
 use mathlib.Core.Logic.{_⊎_, inl, inr}
 use mathlib.Core.Path.{_≡_}
-use Prim.Native.Nat.{_%_, _*_, _+_, _-_, _/_, _<_, _^_, _≤_, ℕ}
+use Prim.Native.Nat.{_%_, _*_, _+_, _-_, _/_, _<_, _≤_, ℕ}
 use native.Mathlib.Omega.{arith}
-use lib.Dec.{leb, ltb}
+use lib.Dec.{eqb, leb, ltb}
 use borrow.Author.Tests.{leb-false, leb-true, ltb-false, ltb-true}
 use Rattle.laws.specs.Bools.{agreed, agreed-false, neither-l, neither-r, or-cases}
-use Rattle.model.specs.Basics.Agree.{Agrees, agrees-and, agrees-as, agrees-not}
-use Rattle.model.specs.BitLaws.{bit-agrees}
-use Rattle.model.specs.Level.{bit}
+use Rattle.model.specs.Basics.Agree.{agreement, agrees-as}
 use Rattle.model.specs.State.AgreeRecords.{good-agrees}
 use Rattle.model.specs.State.Tests.{tripleTest}
 use Rattle.model.specs.State.WellFormed.{GoodTriple}
@@ -19,18 +17,16 @@ use Rattle.model.specs.Tables.Words.{operationCount, operationIn, operationWeig
 abbrev pub pastWho : ℕ
 pastWho = (whoMost + 1) * whoWeight
 
--- the top bits of the two bytes below, what the top bit of a byte weighs, and what each lacks at its greatest number until that bit is all but set
+-- what the top bit weighs in the byte of the position, and in that of the operation
 abbrev pub positionTop : ℕ
-positionTop = 7
+positionTop = operationWeight / 2
 
 abbrev pub operationTop : ℕ
-operationTop = 15
+operationTop = whoWeight / 2
 
-abbrev topWeight : ℕ
-topWeight = operationWeight / 2
-
+-- what each byte, at its greatest number, lacks to the last number without its top bit
 abbrev pub lacking : ℕ
-lacking = (topWeight - 1 - operationCount) * operationWeight + (topWeight - 1 - positionCount)
+lacking = (positionTop - 1 - operationCount) * operationWeight + (positionTop - 1 - positionCount)
 
 -- one in each byte
 abbrev pub ones : ℕ
@@ -39,13 +35,13 @@ ones = operationWeight + 1
 -- ---- the two bytes
 
 module _ (x : ℕ) (low : whoWeight ≤ x) where
-  -- neither has the top bit of its last byte
+  -- neither sum has the top bit of its last byte
   abbrev PositionBits : Type 0
-  PositionBits = ((x + lacking) / 2 ^ positionTop % 2 ≡ 1 → ⊥) × ((x - ones) / 2 ^ positionTop % 2 ≡ 1 → ⊥)
+  PositionBits = ((x + lacking) / positionTop % 2 ≡ 0) × ((x - ones) / positionTop % 2 ≡ 0)
 
   -- nor of the byte before it
   abbrev OperationBits : Type 0
-  OperationBits = ((x + lacking) / 2 ^ operationTop % 2 ≡ 1 → ⊥) × ((x - ones) / 2 ^ operationTop % 2 ≡ 1 → ⊥)
+  OperationBits = ((x + lacking) / operationTop % 2 ≡ 0) × ((x - ones) / operationTop % 2 ≡ 0)
 
   -- so the last byte is a position,
   position-of : PositionBits → (1 ≤ positionOf x) × (positionOf x ≤ positionCount)
@@ -57,12 +53,14 @@ module _ (x : ℕ) (low : whoWeight ≤ x) where
 
   -- the other way round
   bits-of : GoodTriple x → PositionBits × OperationBits
-  bits-of g = let p = g .position in let o = g .operation in (
-    (λ e. omega (arith, p .0, p .1, o .0, o .1, e), λ e. omega (arith, p .0, p .1, o .0, o .1, e)),
-    (λ e. omega (arith, p .0, p .1, o .0, o .1, e), λ e. omega (arith, p .0, p .1, o .0, o .1, e)),
-  )
+  bits-of g =
+      let p = g .position in
+      let o = g .operation in (
+        (omega (arith, p .0, p .1, o .0, o .1), omega (arith, p .0, p .1, o .0, o .1)),
+        (omega (arith, p .0, p .1, o .0, o .1), omega (arith, p .0, p .1, o .0, o .1)),
+      )
 
-  -- who is in range by the whole word
+  -- all of a triple, where who is no more than the greatest
   good-of : x < pastWho → PositionBits × OperationBits → GoodTriple x
   good-of h b = let p = position-of (b .0) in record {
     who = (omega arith, omega arith);
@@ -72,28 +70,23 @@ module _ (x : ℕ) (low : whoWeight ≤ x) where
 
 -- ---- the whole word
 
--- who is in range by the whole word
+-- who is in range
 pub who-low : (x : ℕ) → (ltb x whoWeight || leb pastWho x) ≡ false → whoWeight ≤ x
 who-low x e = ltb-false x whoWeight (neither-l (ltb x whoWeight) (leb pastWho x) e)
 
 pub who-high : (x : ℕ) → (ltb x whoWeight || leb pastWho x) ≡ false → x < pastWho
 who-high x e = leb-false pastWho x (neither-r (ltb x whoWeight) (leb pastWho x) e)
 
--- the four bits of the two sums m and n say then what the model's test says
-pub named-bits : (x : ℕ) → (ltb x whoWeight || leb pastWho x) ≡ false → (a b c d : Bool) → a ≡ bit positionTop (x + lacking) → b ≡ bit positionTop (x - ones)
-    → c ≡ bit operationTop (x + lacking) → d ≡ bit operationTop (x - ones) → ((not a && not b) && (not c && not d)) ≡ tripleTest x
-named-bits x e a b c d ae be ce de = rw (ae, be, ce, de) (agreed _ (tripleTest x) bits
-    (agrees-as (bits-of x low) (good-of x low (who-high x e)) (good-agrees x)))
+-- the four bits of the two sums say then what the model's test says
+pub named-bits : (x : ℕ) → (ltb x whoWeight || leb pastWho x) ≡ false
+    → ((eqb ((x + lacking) / positionTop % 2) 0 && eqb ((x - ones) / positionTop % 2) 0)
+    && (eqb ((x + lacking) / operationTop % 2) 0 && eqb ((x - ones) / operationTop % 2) 0)) ≡ tripleTest x
+named-bits x e = agreed _ (tripleTest x) (search agreement) (agrees-as (bits-of x low) (good-of x low (who-high x e)) (good-agrees x))
   where
     low : whoWeight ≤ x
     low = who-low x e
 
-    bits : Agrees ((not (bit positionTop (x + lacking)) && not (bit positionTop (x - ones)))
-        && (not (bit operationTop (x + lacking)) && not (bit operationTop (x - ones)))) (PositionBits x low × OperationBits x low)
-    bits = agrees-and (agrees-and (agrees-not (bit-agrees positionTop (x + lacking))) (agrees-not (bit-agrees positionTop (x - ones))))
-        (agrees-and (agrees-not (bit-agrees operationTop (x + lacking))) (agrees-not (bit-agrees operationTop (x - ones))))
-
--- who is out of range by the whole word
+-- who is out of range
 pub unnamed : (x : ℕ) → (ltb x whoWeight || leb pastWho x) ≡ true → false ≡ tripleTest x
 unnamed x e = agreed-false (tripleTest x) (good-agrees x) (λ g. out (or-cases (ltb x whoWeight) (leb pastWho x) e) g)
   where

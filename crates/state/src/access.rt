@@ -20,22 +20,21 @@ const LAST_TRIPLE: u32 = size::TRIPLES - 1;
 // The first word that names nobody any more.
 const PAST_WHO: u32 = (range::WHO_MOST + 1) * weight::WHO;
 
-// The top bits of the two bytes that name the position and the operation, and what the top bit of a byte weighs.
-const POSITION_TOP: u32 = 7;
+// What the top bit weighs in the byte that names the position, and in the one that names the operation.
+const POSITION_TOP: u32 = weight::OPERATION / 2;
 
-const OPERATION_TOP: u32 = 15;
+const OPERATION_TOP: u32 = weight::WHO / 2;
 
-const TOP: u32 = weight::OPERATION / 2;
-
-// What each byte lacks at its greatest number until its top bit is all but set.
-const LACKING: u32 = (TOP - 1 - range::OPERATION_MOST) * weight::OPERATION
-    + (TOP - 1 - range::POSITION_MOST);
+// What each byte, at its greatest number, lacks to the last number without its top bit.
+const LACKING: u32 = (POSITION_TOP - 1 - range::OPERATION_MOST) * weight::OPERATION
+    + (POSITION_TOP - 1 - range::POSITION_MOST);
 
 // One in each byte.
 const ONES: u32 = weight::OPERATION + 1;
 
-// Whether a word names somebody, an operation and a position. Who is compared with the whole word. Both bytes below are asked at once: the top bit of a
-// byte is set where the byte is more than its greatest number and what that lacks is added, or where it is none and one is taken away.
+// Whether a word names somebody, an operation and a position. Who is compared as part of the whole word. Both bytes below are asked at once, by their top
+// bits: a byte that is too great has its own set in one of two sums, where what its greatest number lacks is added and where one is taken away; a byte that
+// is 0 has it set in the second. Each of the others has it in neither.
 fn named(x: u32) -> bool
     ensures { λ r. ⌜ r ≡ tripleTest x ⌝ }
 {
@@ -44,8 +43,8 @@ fn named(x: u32) -> bool
     }
     let more = x + LACKING;
     let less = x - ONES;
-    (!levels::has_bit(POSITION_TOP, more) & !levels::has_bit(POSITION_TOP, less))
-        & (!levels::has_bit(OPERATION_TOP, more) & !levels::has_bit(OPERATION_TOP, less))
+    ((more / POSITION_TOP % 2 == 0) & (less / POSITION_TOP % 2 == 0))
+        & ((more / OPERATION_TOP % 2 == 0) & (less / OPERATION_TOP % 2 == 0))
 }
 
 // Whether triple j of entity e is another than x.

@@ -197,7 +197,7 @@ fn object_fine(t: &[u32], e: Entity) -> bool
         & ((tables::type_of(t, e) == types::PLAIN) & ((tables::mark(t, e) == 0) & is_bare(t, e)))
 }
 
-// Whether entity e, which is there, is in order but for its triples. Of an object, less is asked than of what can hold something.
+// Whether entity e, which is there, is in order but for its triples. Of an object less need be asked than of what can hold something.
 fn holding_fine(t: &[u32], e: Entity, k: u32) -> bool
     requires { ⌜ EntityIn (now t) (e .0) × (k ≡ kinds (tablesOf (now t)) (e .0)) ⌝ }
     ensures { λ r. ⌜ r ≡ holdingTest (tablesOf (now (t .entry))) (e .0) ⌝ }

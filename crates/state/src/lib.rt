@@ -12,8 +12,8 @@ mod secure;
 mod tree;
 mod users;
 
-// The refusal of tables that are not well-formed, else of tables that are not secure, else none. Each record is read once; what joins the entities is asked
-// of the list of holders, and what a user is shown comes last.
+// The refusal of tables that are not well-formed, else of tables that are not secure, else none. The entities are gone over once; what joins them is asked of
+// the list of holders, and what a user is shown comes last.
 pub fn judged(t: &[u32]) -> u32
     requires { ⌜ length (now t) ≡ wordCount ⌝ }
     ensures { λ r. ⌜ r ≡ judge (tablesOf (now (t .entry))) ⌝ }

@@ -14,7 +14,8 @@ ghost use Rattle.state.specs.Jumps.{Jumped, allEnd};
 ghost use Rattle.state.specs.Passes.{ownTest};
 ghost use Rattle.tables.specs.Singles.{EntityIn};
 
-// Notes in h what stands in the places of entity c, which is in order by itself, if it is a container. Returns false where some of it is noted already.
+// Notes in h what stands in the places of entity c, which is in order by itself, if it is a container. Returns false where some of it is noted already:
+// the tables are amiss then.
 pub fn note_row(t: &[u32], h: &mut [u32; size::ENTITY_NUMBERS], c: Entity) -> bool
     requires { ⌜ EntityIn (now t) (c .0) × (ownTest (tablesOf (now t)) (c .0) ≡ true) × Noted (tablesOf (now t)) ((c .0 - 1) * placeCount) (now h) ⌝ }
     ensures { λ r. ⌜ Noting (tablesOf (now (t .entry))) (c .0 * placeCount) r (now (h .exit)) ⌝ }

@@ -82,7 +82,7 @@ returns-3 c =
     let s10 = s9 .before in
     let s12 = s10 .before .before in
     let s15 = s12 .before .before .before in
-    rw (c .before .before .before .try-clearance .ensures .back (not-true _ (c .if3 .taken)))
+    rw (c .before .before .before .try-clearance .ensures .unchanged (not-true _ (c .if3 .taken)))
     (clearance-13 _ _ _ (s15 .pre) _ _ (s12 .a .ensures) (s10 .present .ensures) (ne-eqb _ _ (s9 .if1 .left)) _ (s7 .has-role .ensures)
     (not-false _ (s6 .if2 .left)) _ (s4 .b .ensures) _ (c .before .before .before .try-clearance .ensures .secure) (not-true _ (c .if3 .taken)))
 

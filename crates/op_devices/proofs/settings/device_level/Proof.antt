@@ -80,7 +80,7 @@ returns-3 c =
     let s10 = s9 .before in
     let s11 = s10 .before in
     let s15 = s11 .before .before .before .before in
-    rw (c .before .before .before .try-device-level .ensures .back (not-true _ (c .if3 .taken)))
+    rw (c .before .before .before .try-device-level .ensures .unchanged (not-true _ (c .if3 .taken)))
     (device-level-13 _ _ _ _ (s15 .pre .0) (s15 .pre .1) _ (s11 .is-device .ensures) (not-false _ (s10 .if1 .left)) _ (s9 .a .ensures) _
     (s6 .device-dropped .ensures ∙ rw (s7 .level .ensures)) (s5 .if2 .left) _ (c .before .before .before .try-device-level .ensures .secure)
     (not-true _ (c .if3 .taken)))
