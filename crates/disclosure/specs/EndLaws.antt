@@ -7,8 +7,8 @@ use native.Mathlib.Nat.{zero-add}
 use native.Mathlib.Omega.{arith}
 use lib.ListN.{drop, length}
 use lib.Seq.{sets, sets-eq}
-use Rattle.disclosure.specs.VerdictLaws.{judged-found}
-use Rattle.disclosure.specs.Verdicts.{Judged}
+use Rattle.verdicts.specs.VerdictLaws.{judged-found}
+use Rattle.verdicts.specs.Verdicts.{Judged}
 use Rattle.disclosure.specs.Visited.{Fits, followed}
 use Rattle.model.specs.List.AdmittedLaws.{barred-admitted}
 use Rattle.model.specs.List.Listing.{Lists, barred, entries, entryWords}

@@ -4,7 +4,7 @@ use mathlib.Core.List.{List}
 use mathlib.Core.Path.{_≡_}
 use Prim.Native.Nat.{_*_, _+_, _-_, _<_, _≤_, suc, ℕ}
 use lib.ListN.{getD, length}
-use Rattle.disclosure.specs.Verdicts.{Guided}
+use Rattle.verdicts.specs.Verdicts.{Guided}
 use Rattle.disclosure.specs.Visited.{Padded, furtherMost, under}
 use Rattle.model.specs.Request.Words.{nameCount}
 use Rattle.model.specs.Tables.Words.{entityCount}

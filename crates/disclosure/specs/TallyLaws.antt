@@ -9,8 +9,8 @@ use lib.Dec.{eqb, ltb}
 use lib.ListN.{getD, length, length-append, length-map, length-replicate, length-set, replicate, set}
 use lib.Seq.{getD-set-other, getD-set-same}
 use Rattle.disclosure.specs.Tallied.{Tallied, lastRow, rowWords, tallyWords}
-use Rattle.disclosure.specs.VerdictLaws.{guided-next}
-use Rattle.disclosure.specs.Verdicts.{Guided, leads, listed, wayWeight}
+use Rattle.verdicts.specs.VerdictLaws.{guided-next}
+use Rattle.verdicts.specs.Verdicts.{Guided, leads, listed, wayWeight}
 use Rattle.disclosure.specs.VisitLaws.{followed-more, inside-more, visit-last, visit-more}
 use Rattle.disclosure.specs.Visited.{followed, furtherMost, inside, under}
 use Rattle.laws.specs.Lists.{getD-zeros}

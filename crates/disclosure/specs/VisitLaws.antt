@@ -12,7 +12,7 @@ use lib.ListN.{getD, length, length-append, length-map}
 use lib.Seq.{length-sets, sets}
 use borrow.Author.Tests.{eqb-true, ltb-true}
 use Rattle.disclosure.specs.EntryLaws.{entriesOf-under, entriesOf-whole, stored-both}
-use Rattle.disclosure.specs.Verdicts.{leads, listed, wayWeight}
+use Rattle.verdicts.specs.Verdicts.{leads, listed, wayWeight}
 use Rattle.disclosure.specs.Visited.{Fits, Visited, entriesOf, followed, furtherMost, inside, under}
 use Rattle.laws.specs.Bools.{or-cases}
 use Rattle.model.specs.Basics.Cases.{cases}

@@ -4,7 +4,7 @@ use mathlib.Core.Path.{_≡_}
 use Prim.Native.Nat.{_*_, _+_, _≤_, pred, ℕ}
 use lib.ListN.{getD, length}
 use lib.Seq.{sets}
-use Rattle.disclosure.specs.Verdicts.{leads, listed}
+use Rattle.verdicts.specs.Verdicts.{leads, listed}
 use Rattle.model.specs.List.Listing.{entries, entryWords}
 use Rattle.model.specs.List.Walk.{through, visit, walk}
 use Rattle.model.specs.Request.Reference.{standing}

@@ -9,7 +9,6 @@ ghost use Rattle.model.specs.List.Listing.{barred};
 
 mod sizes;
 mod tally;
-mod verdicts;
 mod walk;
 
 // The answer, and how many entries there are: none with a refusal, but for that for want of room.

@@ -1,13 +1,12 @@
 // How many references go on from each entity, found without a walk: first by no name, then by one more each time.
 use crate::sizes;
-use crate::verdicts;
 use names::size;
 use tables::Entity;
 ghost use mathlib.Core.Path.{_≡_};
 ghost use Prim.Native.Nat.{_*_, _+_, _<_, _≤_};
 ghost use lib.ListN.{length};
 ghost use Rattle.disclosure.specs.Tallied.{Tallied, rowWords, tallyWords};
-ghost use Rattle.disclosure.specs.Verdicts.{Guided, leads};
+ghost use Rattle.verdicts.specs.Verdicts.{Guided, leads};
 ghost use Rattle.disclosure.specs.Visited.{followed, furtherMost, inside, under};
 ghost use Rattle.model.specs.Tables.Words.{entityCount};
 

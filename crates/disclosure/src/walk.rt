@@ -2,7 +2,6 @@
 // The verdicts v say what is listed and how many places lead on, the tallies b from where nothing can be listed. The entries are stored one
 // after the other, in a room that has space for them all.
 use crate::sizes;
-use crate::verdicts;
 use names::size;
 use tables::Entity;
 ghost use mathlib.Core.List.{[], _++_, _∷_};
@@ -12,7 +11,7 @@ ghost use lib.ListN.{length, take};
 ghost use lib.Seq.{sets};
 ghost use Rattle.disclosure.specs.Tallied.{Arrived, Tallied, tallyWords};
 ghost use Rattle.disclosure.specs.Visited.{Fits, Padded, Visited, followed, furtherMost, inside, under};
-ghost use Rattle.disclosure.specs.Verdicts.{Guided, leads};
+ghost use Rattle.verdicts.specs.Verdicts.{Guided, leads};
 ghost use Rattle.model.specs.List.Listing.{entries, entry, entryWords};
 ghost use Rattle.model.specs.List.Walk.{here};
 ghost use Rattle.model.specs.Request.Words.{nameCount};

@@ -2,7 +2,7 @@ use native.Mathlib.Omega.{arith}
 use mathlib.Core.Path.{refl}
 use Rattle.disclosure.specs.EndLaws.{end-fits, end-none, end-short, end-written}
 use Rattle.disclosure.specs.TallyLaws.{tallied-none}
-use Rattle.disclosure.specs.VerdictLaws.{judged-guided, judged-none}
+use Rattle.verdicts.specs.VerdictLaws.{judged-guided, judged-none}
 use Rattle.model.specs.List.AdmittedLaws.{barred-admitted}
 use borrow.Author.Needs.{needs}
 use Rattle.disclosure.proofs.disclose.Statement.{statement}

@@ -4,8 +4,8 @@ use mathlib.Core.Path.{_∙_, _≡_}
 use Prim.Native.Nat.{_+_, _-_, _≤_, min}
 use lib.ListN.{length}
 use Rattle.disclosure.specs.TallyLaws.{inside-few, inside-first, inside-none, places-all, tally-place}
-use Rattle.disclosure.specs.VerdictLaws.{guided-held, some-lead}
-use Rattle.disclosure.specs.Verdicts.{leads}
+use Rattle.verdicts.specs.VerdictLaws.{guided-held, some-lead}
+use Rattle.verdicts.specs.Verdicts.{leads}
 use Rattle.disclosure.specs.Visited.{inside}
 use Rattle.model.specs.Tables.Words.{placeCount}
 use Rattle.disclosure.proofs.tally.tally_places.Statement.{statement}

@@ -6,8 +6,8 @@ use lib.ListN.{take}
 use borrow.Author.Needs.{needs}
 use Rattle.disclosure.specs.EntryLaws.{padded-more, take-more}
 use Rattle.disclosure.specs.TallyLaws.{tally-nothing}
-use Rattle.disclosure.specs.VerdictLaws.{guided-next, guided-place}
-use Rattle.disclosure.specs.Verdicts.{leads, listed}
+use Rattle.verdicts.specs.VerdictLaws.{guided-next, guided-place}
+use Rattle.verdicts.specs.Verdicts.{leads, listed}
 use Rattle.disclosure.specs.VisitLaws.{
   entity-ends,
   entity-last,

@@ -2,7 +2,7 @@
 use mathlib.Core.Bool.{Bool, _&&_, false, not, true}
 use mathlib.Core.List.{List, [], _∷_}
 use mathlib.Core.Path.{_∙_, _≡_, ap, refl, sym}
-use Prim.Native.Nat.{_%_, _*_, _+_, _/_, _<_, _≤_, suc, zero, ℕ}
+use Prim.Native.Nat.{_%_, _*_, _+_, _/_, _<_, _≤_, pred, suc, zero, ℕ}
 use native.Mathlib.Omega.{arith}
 use lib.Dec.{eqb, leb, ltb}
 use lib.ListN.{List·getD-eq-default, getD, length, length-set, set}
@@ -10,8 +10,7 @@ use lib.Seq.{getD-set-other, getD-set-same}
 use borrow.Author.Tests.{leb-false, leb-true}
 use Rattle.model.specs.Basics.TestLaws.{only}
 use Rattle.model.specs.List.Admitted.{Admitted}
-use Rattle.disclosure.specs.Verdicts.{Guided, Judged, leads, listed, verdict, wayWeight}
-use Rattle.disclosure.specs.Visited.{followed, furtherMost}
+use Rattle.verdicts.specs.Verdicts.{Guided, Judged, leads, listed, verdict, wayWeight}
 use Rattle.model.specs.Basics.Choice.{Below, Same, below, it, other, over, pick, same, under}
 use Rattle.model.specs.Level.{atMost}
 use Rattle.model.specs.List.ListingLaws.{ways-used}
@@ -20,6 +19,7 @@ use Rattle.model.specs.List.Ways.{found, showable, ways}
 use Rattle.model.specs.Request.Conditions.{isEntity}
 use Rattle.model.specs.Request.Ladder.{bars}
 use Rattle.model.specs.Request.Reference.{standing}
+use Rattle.model.specs.Request.Words.{nameCount}
 use Rattle.model.specs.Tables.Layout.{tablesOf}
 use Rattle.model.specs.Tables.Words.{Tables, absentKind, clearance, used, usedPlaces, entityCount, kinds, level, mark, placeCount, places}
 use Rattle.reference.specs.WayLaws.{wellFormed-ranged}
@@ -151,7 +151,7 @@ module _ (t : List ℕ) (u : ℕ) (v : List ℕ) (a : Admitted t u) (j : Judged 
   }
 
   -- the walk by the verdicts is the walk of the user
-  pub judged-found : followed t v entityCount ≡ found (tablesOf t) u
+  pub judged-found : walk (leads v) (standing (tablesOf t)) (listed v) (pred nameCount) entityCount ≡ found (tablesOf t) u
   unfolding d leads listed found
   judged-found i = walk (λ e. told-ways (tablesOf t) u e (getD v e 0) (word-verdict e) i) (standing (tablesOf t))
-      (λ e. told-showable (tablesOf t) u e (getD v e 0) (word-verdict e) i) furtherMost entityCount
+      (λ e. told-showable (tablesOf t) u e (getD v e 0) (word-verdict e) i) (pred nameCount) entityCount

@@ -1,8 +1,8 @@
 use native.Mathlib.Omega.{arith}
-use Rattle.disclosure.specs.VerdictLaws.{bit-small}
+use Rattle.verdicts.specs.VerdictLaws.{bit-small}
 use borrow.Author.Needs.{needs}
-use Rattle.disclosure.proofs.verdicts.weigh.Statement.{statement}
-use Rattle.disclosure.proofs.verdicts.weigh.Tie as tie
+use Rattle.verdicts.proofs.weigh.Statement.{statement}
+use Rattle.verdicts.proofs.weigh.Tie as tie
 
 bit-requires : tie.Need-bit-requires
 bit-requires c κs = search needs

@@ -1,9 +1,9 @@
 use native.Mathlib.Omega.{arith}
 use mathlib.Core.Path.{_∙_}
-use Rattle.disclosure.specs.VerdictLaws.{verdict-weighed}
+use Rattle.verdicts.specs.VerdictLaws.{verdict-weighed}
 use borrow.Author.Needs.{needs}
-use Rattle.disclosure.proofs.verdicts.judge.Statement.{statement}
-use Rattle.disclosure.proofs.verdicts.judge.Tie as tie
+use Rattle.verdicts.proofs.judge.Statement.{statement}
+use Rattle.verdicts.proofs.judge.Tie as tie
 
 is-bar-requires : tie.Need-is-bar-requires
 is-bar-requires c κs = search needs

@@ -1,14 +1,14 @@
 use native.Mathlib.Omega.{arith}
 use mathlib.Core.Path.{_∙_, _≡_, ap, subst}
 use Prim.Native.Nat.{_-_, _≤_, ℕ}
-use Rattle.disclosure.specs.Verdicts.{Judged}
-use Rattle.disclosure.specs.VerdictLaws.{judged-more}
+use Rattle.verdicts.specs.Verdicts.{Judged}
+use Rattle.verdicts.specs.VerdictLaws.{judged-more}
 use Rattle.model.specs.State.Agree.{device-range}
 use Rattle.model.specs.Tables.Layout.{tablesOf}
 use Rattle.model.specs.Request.Conditions.{levelOf}
 use Rattle.model.specs.Tables.Words.{entityCount}
-use Rattle.disclosure.proofs.verdicts.judge_all.Statement.{statement}
-use Rattle.disclosure.proofs.verdicts.judge_all.Tie as tie
+use Rattle.verdicts.proofs.judge_all.Statement.{statement}
+use Rattle.verdicts.proofs.judge_all.Tie as tie
 
 abbrev Inv-loop : tie.InvT-loop
 Inv-loop t u v₀ clearance screen i₀ v i = (i ≤ entityCount) × Judged (tablesOf t) (u .0) i v

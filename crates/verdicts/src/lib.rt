@@ -6,7 +6,7 @@ use tables::Entity;
 use tables::User;
 ghost use mathlib.Core.Path.{_≡_};
 ghost use Prim.Native.Nat.{_*_, _+_, _≤_};
-ghost use Rattle.disclosure.specs.Verdicts.{Asker, Judged, verdict, wayWeight};
+ghost use Rattle.verdicts.specs.Verdicts.{Asker, Judged, verdict, wayWeight};
 ghost use Rattle.model.specs.Basics.Choice.{pick};
 ghost use Rattle.model.specs.List.Admitted.{Admitted};
 ghost use Rattle.model.specs.List.Ways.{showable};

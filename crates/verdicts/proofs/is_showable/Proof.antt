@@ -1,8 +1,8 @@
 use borrow.Author.Tests.{not-false, not-true}
 use Rattle.model.specs.List.Ways.{showable}
 use borrow.Author.Needs.{needs}
-use Rattle.disclosure.proofs.verdicts.is_showable.Statement.{statement}
-use Rattle.disclosure.proofs.verdicts.is_showable.Tie as tie
+use Rattle.verdicts.proofs.is_showable.Statement.{statement}
+use Rattle.verdicts.proofs.is_showable.Tie as tie
 
 is-entity-requires : tie.Need-is-entity-requires
 is-entity-requires c κs = search needs
