@@ -22,9 +22,9 @@ use Rattle.model.specs.Tables.EditLaws.{elsewhere}
 use Rattle.model.specs.Tables.Words.{Tables, authorised, clearance, usedPlaces, current, deviceKind, devices, entityCount, kinds, level, maximum}
 use Rattle.model.specs.Tables.Words.{placeCount, places, sums, userCount}
 use Rattle.rows.specs.Rows.{placeAtMost}
-use Rattle.state.specs.Passes.{placeSecure}
-use Rattle.state.specs.ReachLaws.{held-level, here, level-own, used}
-use Rattle.state.specs.SecureLaws.{entity-secure}
+use Rattle.secure.specs.Secured.{placeSecure}
+use Rattle.secure.specs.ReachLaws.{held-level, here, level-own, used}
+use Rattle.secure.specs.SecureLaws.{entity-secure}
 
 module _ (d : Tables) (g : Good d) where
   module _ (e a : ℕ) (k : kinds d e ≡ deviceKind) where

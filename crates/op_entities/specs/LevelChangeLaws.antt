@@ -29,7 +29,7 @@ use Rattle.op_entities.specs.Held.{containerAdmits, contentsStay, holder
 use Rattle.rows.specs.Rows.{placeAtMost}
 use Rattle.standing.specs.SeenLaws.{seeing-agrees}
 use Rattle.standing.specs.Standing.{parentIn}
-use Rattle.state.specs.ReachLaws.{here}
+use Rattle.secure.specs.ReachLaws.{here}
 
 -- ---- what holds c
 

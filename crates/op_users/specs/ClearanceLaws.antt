@@ -22,8 +22,8 @@ use Rattle.model.specs.Tables.EditLaws.{elsewhere}
 use Rattle.model.specs.Tables.Words.{Tables, authorised, clearance, usedPlaces, current, deviceKind, devices, entityCount, kinds, level, maximum}
 use Rattle.model.specs.Tables.Words.{placeCount, places, sums, userCount}
 use Rattle.rows.specs.Rows.{placeAtMost}
-use Rattle.state.specs.ReachLaws.{clearance-own, here, used}
-use Rattle.state.specs.SecureLaws.{user-off, user-on}
+use Rattle.secure.specs.ReachLaws.{clearance-own, here, used}
+use Rattle.secure.specs.SecureLaws.{user-off, user-on}
 
 module _ (d : Tables) (g : Good d) where
   module _ (u a : ℕ) (low : 1 ≤ u) (high : u ≤ userCount) where

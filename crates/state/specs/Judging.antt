@@ -9,7 +9,8 @@ use Rattle.model.specs.Basics.Tests.{every}
 use Rattle.model.specs.Request.Refusals as refusal
 use Rattle.model.specs.Tables.Words.{Tables, entityCount, placeCount}
 use Rattle.state.specs.Holders.{Amiss, Noted}
-use Rattle.state.specs.Passes.{entitySecure, ownTest}
+use Rattle.secure.specs.Secured.{entitySecure}
+use Rattle.state.specs.Passes.{ownTest}
 
 -- what is secure is accepted, and what is not is refused
 abbrev pub grade : Bool → ℕ

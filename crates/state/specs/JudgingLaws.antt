@@ -24,8 +24,9 @@ use Rattle.model.specs.Tables.Layout.{Bounded}
 use Rattle.model.specs.Tables.Words.{Tables, deviceKind, entityCount, kinds, level, maximum, placeCount, sums, used, usedPlaces}
 use Rattle.state.specs.Holders.{Amiss, Filled, Noted, slotCount}
 use Rattle.state.specs.Judging.{Judging, JudgingAll, SoundTo, grade}
-use Rattle.state.specs.Passes.{allSecure, contentsAt, entitySecure, idleAt, ownTest}
-use Rattle.state.specs.SecureLaws.{secure-fails}
+use Rattle.secure.specs.Secured.{allSecure, entitySecure}
+use Rattle.state.specs.Passes.{contentsAt, idleAt, ownTest}
+use Rattle.secure.specs.SecureLaws.{secure-fails}
 
 -- ---- one entity
 

@@ -15,5 +15,3 @@ pub mod NotedLaws
 pub mod Judging
 pub mod JudgingLaws
 pub mod JumpLaws
-pub mod SecureLaws
-pub mod ReachLaws

@@ -6,9 +6,8 @@ use Prim.Native.Nat.{_+_, _-_, pred, suc, ℕ}
 use lib.Dec.{eqb, leb, ltb}
 use Rattle.model.specs.Basics.Choice.{pick}
 use Rattle.model.specs.Basics.Tests.{every, imp}
-use Rattle.model.specs.Level.{atMost, levelCount, roleSets}
-use Rattle.model.specs.State.Check.{ceilingTest, containedTest, labelledTest, loopTest, oneTest, rolesTest, seenTest}
-use Rattle.model.specs.State.Secure.{labelled}
+use Rattle.model.specs.Level.{levelCount, roleSets}
+use Rattle.model.specs.State.Check.{loopTest, oneTest}
 use Rattle.model.specs.State.Tests.{entityTest, shapeTest, tripleTest}
 use Rattle.model.specs.Tables.Layout.{entityWidth, offset, userWidth}
 use Rattle.model.specs.Tables.WordAt.{entityWordAt, userWordAt}
@@ -105,29 +104,3 @@ treeTest d = oneTest (kinds d) (usedPlaces d) (places d) (devices d) && loopTest
 -- every entity is in order but for what it stands in
 abbrev pub allOwn : Tables → Bool
 allOwn d = every entityCount (λ e. ownTest d (suc e))
-
--- ---- security
-
--- a number, or that of the places of a row where it is more
-unfoldable pub capped : ℕ → ℕ
-capped n = pick (ltb placeCount n) placeCount n
-
--- what is known of entity e before its places are looked at: l is its level, and s whether it shows what stands in them
-abbrev pub Graded : Tables → ℕ → ℕ → Bool → Type 0
-Graded d e l s = (l ≡ d .entity e level) × (s ≡ eqb (kinds d e) deviceKind)
-
--- place i of entity e keeps rules 4.1 and 4.3
-unfoldable pub placeSecure : Tables → ℕ → ℕ → Bool
-placeSecure d e i = atMost (d .entity (places d e i) level) (d .entity e level) && imp (eqb (kinds d e) deviceKind) (labelled (sums d e i))
-
--- entity e keeps rules 4.1, 4.3 and 4.5
-unfoldable pub entitySecure : Tables → ℕ → Bool
-entitySecure d e = containedTest d e && (labelledTest d e && ceilingTest d e)
-
--- every entity does
-abbrev pub allSecure : Tables → Bool
-allSecure d = every entityCount (λ e. entitySecure d (suc e))
-
--- user u keeps rules 4.2 and 4.4
-unfoldable pub userSecure : Tables → ℕ → Bool
-userSecure d u = seenTest d u && rolesTest d u

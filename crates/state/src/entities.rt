@@ -1,7 +1,6 @@
 // The records of the entities, each by itself, what stands in their places, and screens that nobody is on; and the one pass over all of them, which notes
 // what stands in what and asks what is secure on the way.
 use crate::access;
-use crate::secure;
 use crate::tree;
 use names::kind;
 use names::range;

@@ -8,7 +8,6 @@ ghost use Rattle.model.specs.Tables.Layout.{tablesOf, wordCount};
 
 mod access;
 mod entities;
-mod secure;
 mod tree;
 mod users;
 

@@ -7,14 +7,14 @@ use Rattle.state.specs.HolderLaws.{filled-low, filled-top, tree-ends}
 use Rattle.state.specs.JudgingLaws.{all-amiss, all-filled, all-secure, all-sound, judge-graded, judge-unformed, not-secure}
 use Rattle.state.specs.NotedLaws.{noted-none}
 use Rattle.state.specs.PassLaws.{amiss-fails, devices-fail, tree-left, users-fail}
-use Rattle.state.specs.SecureLaws.{secure-rest}
+use Rattle.secure.specs.SecureLaws.{secure-rest}
 use borrow.Author.Needs.{needs}
 use Rattle.state.proofs.judged.Statement.{statement}
 use Rattle.state.proofs.judged.Tie as tie
 use Rattle.state.proofs.judged.Reads as reads
 use Rattle.state.proofs.judged.Lts as lts
 use Rattle.state.proofs.entities.entities_judged.Reads as entities-judged-reads
-use Rattle.state.proofs.secure.users_secure.Reads as users-secure-reads
+use Rattle.secure.proofs.users_secure.Reads as users-secure-reads
 use Rattle.state.proofs.tree.all_end.Reads as all-end-reads
 use Rattle.state.proofs.users.devices_fine.Reads as devices-fine-reads
 use Rattle.state.proofs.users.users_fine.Reads as users-fine-reads

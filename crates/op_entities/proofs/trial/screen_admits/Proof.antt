@@ -2,7 +2,7 @@ use mathlib.Core.Path.{_∙_}
 use native.Mathlib.Omega.{arith}
 use borrow.Author.Tests.{not-false, not-true}
 use Rattle.op_entities.specs.HeldLaws.{screen-off, screen-other, screen-shows}
-use Rattle.state.specs.ReachLaws.{device-there}
+use Rattle.secure.specs.ReachLaws.{device-there}
 use borrow.Author.Needs.{needs}
 use Rattle.op_entities.proofs.trial.screen_admits.Statement.{statement}
 use Rattle.op_entities.proofs.trial.screen_admits.Tie as tie

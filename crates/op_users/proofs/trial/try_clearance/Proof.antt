@@ -2,7 +2,7 @@ use mathlib.Core.Path.{_∙_, refl, sym}
 use native.Mathlib.Omega.{arith}
 use borrow.Author.Tests.{not-false, not-true}
 use Rattle.op_users.specs.ClearanceLaws.{clearance-off, clearance-on}
-use Rattle.state.specs.ReachLaws.{device-there}
+use Rattle.secure.specs.ReachLaws.{device-there}
 use Rattle.ladder.specs.TrialLaws.{tried-left, tried-set}
 use borrow.Author.Needs.{needs}
 use Rattle.op_users.proofs.trial.try_clearance.Statement.{statement}

@@ -12,7 +12,7 @@ use Rattle.state.proofs.entities.entity_judged.Tie as tie
 use Rattle.state.proofs.entities.entity_judged.Reads as reads
 use Rattle.state.proofs.entities.entity_judged.Lts as lts
 use Rattle.state.proofs.entities.entity_fine.Reads as entity-fine-reads
-use Rattle.state.proofs.secure.entity_secure.Reads as entity-secure-reads
+use Rattle.secure.proofs.entity_secure.Reads as entity-secure-reads
 use Rattle.state.proofs.tree.note_row.Reads as note-row-reads
 use Rattle.tables.proofs.kind.Reads as kind-reads
 

@@ -21,8 +21,8 @@ use Rattle.model.specs.State.WellFormed.{WellFormed}
 use Rattle.model.specs.Tables.EditLaws.{elsewhere}
 use Rattle.model.specs.Tables.Words.{Tables, authorised, clearance, usedPlaces, current, deviceKind, devices, entityCount, kinds, level, maximum}
 use Rattle.model.specs.Tables.Words.{placeCount, places, sums, userCount}
-use Rattle.state.specs.Passes.{capped, entitySecure, placeSecure, userSecure}
-use Rattle.state.specs.SecureLaws.{capped-within, secure-passes}
+use Rattle.secure.specs.Secured.{capped, entitySecure, placeSecure, userSecure}
+use Rattle.secure.specs.SecureLaws.{capped-within, secure-passes}
 
 -- ---- one record among many
 

@@ -8,9 +8,9 @@ use Prim.Native.Nat.{_-_, _≤_, suc}
 use Rattle.laws.specs.Loops.{each-fails, each-more, every-done, every-none}
 use Rattle.model.specs.Tables.Layout.{tablesOf}
 use Rattle.model.specs.Tables.Words.{userCount}
-use Rattle.state.specs.Passes.{userSecure}
-use Rattle.state.proofs.secure.users_secure.Statement.{statement}
-use Rattle.state.proofs.secure.users_secure.Tie as tie
+use Rattle.secure.specs.Secured.{userSecure}
+use Rattle.secure.proofs.users_secure.Statement.{statement}
+use Rattle.secure.proofs.users_secure.Tie as tie
 
 abbrev Inv-loop : tie.InvT-loop
 Inv-loop t i₀ i = (i ≤ userCount) × (every i (λ k. (userSecure (tablesOf t)) (suc k)) ≡ true)

@@ -7,9 +7,9 @@ use borrow.Author.Tests.{not-false, not-true}
 use Rattle.model.specs.Basics.Tests.{every}
 use Rattle.laws.specs.Loops.{every-done, every-fails, every-more, every-none}
 use Rattle.model.specs.Tables.Layout.{tablesOf}
-use Rattle.state.specs.Passes.{placeSecure}
-use Rattle.state.proofs.secure.places_secure.Statement.{statement}
-use Rattle.state.proofs.secure.places_secure.Tie as tie
+use Rattle.secure.specs.Secured.{placeSecure}
+use Rattle.secure.proofs.places_secure.Statement.{statement}
+use Rattle.secure.proofs.places_secure.Tie as tie
 
 abbrev Inv-loop : tie.InvT-loop
 Inv-loop t e l shows n i₀ i = (i ≤ n) × (every i (placeSecure (tablesOf t) (e .0)) ≡ true)

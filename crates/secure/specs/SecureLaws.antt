@@ -19,7 +19,7 @@ use Rattle.model.specs.State.Secure.{labelled}
 use Rattle.model.specs.Tables.Layout.{Bounded}
 use Rattle.model.specs.Tables.Words.{Tables, authorised, clearance, used, usedPlaces, current, deviceKind, devices, entityCount, kinds, level}
 use Rattle.model.specs.Tables.Words.{maximum, placeCount, places, sums, userCount}
-use Rattle.state.specs.Passes.{allSecure, capped, entitySecure, placeSecure, userSecure}
+use Rattle.secure.specs.Secured.{allSecure, capped, entitySecure, placeSecure, userSecure}
 
 -- ---- a number that is capped
 

@@ -3,11 +3,11 @@ use Prim.Native.Nat.{ℕ}
 use lib.Dec.{eqb}
 use native.Mathlib.Omega.{arith}
 use borrow.Author.Tests.{not-false, not-true}
-use Rattle.state.specs.SecureLaws.{capped-low, entity-device, entity-fails, entity-plain}
+use Rattle.secure.specs.SecureLaws.{capped-low, entity-device, entity-fails, entity-plain}
 use borrow.Author.Needs.{needs}
 use Rattle.model.specs.Tables.Words.{deviceKind}
-use Rattle.state.proofs.secure.entity_secure.Statement.{statement}
-use Rattle.state.proofs.secure.entity_secure.Tie as tie
+use Rattle.secure.proofs.entity_secure.Statement.{statement}
+use Rattle.secure.proofs.entity_secure.Tie as tie
 
 used-requires : tie.Need-used-requires
 used-requires c κs = search needs

@@ -9,8 +9,8 @@ use Rattle.laws.specs.Loops.{every-done, every-fails, every-more, every-none}
 use Rattle.model.specs.Tables.Layout.{tablesOf}
 use Rattle.model.specs.Level.{atMost}
 use Rattle.model.specs.Tables.Words.{level, places}
-use Rattle.state.proofs.secure.places_below.Statement.{statement}
-use Rattle.state.proofs.secure.places_below.Tie as tie
+use Rattle.secure.proofs.places_below.Statement.{statement}
+use Rattle.secure.proofs.places_below.Tie as tie
 
 abbrev Inv-loop : tie.InvT-loop
 Inv-loop t v c n i₀ i = (i ≤ n) × (every i (λ j. atMost (tablesOf t .entity (places (tablesOf t) (v .0) j) level) (c .0)) ≡ true)

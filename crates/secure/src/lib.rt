@@ -11,7 +11,7 @@ ghost use Rattle.model.specs.Basics.Tests.{every};
 ghost use Rattle.model.specs.Level.{atMost};
 ghost use Rattle.model.specs.Tables.Layout.{tablesOf, wordCount};
 ghost use Rattle.model.specs.Tables.Words.{level, placeCount, places, userCount};
-ghost use Rattle.state.specs.Passes.{Graded, allSecure, capped, entitySecure, placeSecure, userSecure};
+ghost use Rattle.secure.specs.Secured.{Graded, allSecure, capped, entitySecure, placeSecure, userSecure};
 ghost use Rattle.tables.specs.Singles.{EntityIn, UserIn};
 
 // Whether place i of entity e, which is of level l and shows its places or not, keeps rules 4.1 and 4.3.

@@ -1,6 +1,6 @@
 use borrow.Author.Needs.{needs}
-use Rattle.state.proofs.secure.place_below.Statement.{statement}
-use Rattle.state.proofs.secure.place_below.Tie as tie
+use Rattle.secure.proofs.place_below.Statement.{statement}
+use Rattle.secure.proofs.place_below.Tie as tie
 
 place-requires : tie.Need-place-requires
 place-requires c κs = search needs

@@ -1,7 +1,7 @@
 use native.Mathlib.Omega.{arith}
-use Rattle.state.specs.SecureLaws.{capped-over, capped-within}
-use Rattle.state.proofs.secure.capped.Statement.{statement}
-use Rattle.state.proofs.secure.capped.Tie as tie
+use Rattle.secure.specs.SecureLaws.{capped-over, capped-within}
+use Rattle.secure.proofs.capped.Statement.{statement}
+use Rattle.secure.proofs.capped.Tie as tie
 
 returns : tie.Need-returns
 returns c = capped-over _ (c .if1 .taken)

@@ -1,10 +1,10 @@
 use native.Mathlib.Omega.{arith}
 use borrow.Author.Tests.{not-false, not-true}
 use Rattle.model.specs.Tables.LayoutLaws.{bounded}
-use Rattle.state.specs.SecureLaws.{capped-low, user-below, user-beyond, user-fails, user-off, user-on}
+use Rattle.secure.specs.SecureLaws.{capped-low, user-below, user-beyond, user-fails, user-off, user-on}
 use borrow.Author.Needs.{needs}
-use Rattle.state.proofs.secure.user_secure.Statement.{statement}
-use Rattle.state.proofs.secure.user_secure.Tie as tie
+use Rattle.secure.proofs.user_secure.Statement.{statement}
+use Rattle.secure.proofs.user_secure.Tie as tie
 
 current-requires : tie.Need-current-requires
 current-requires c κs = search needs

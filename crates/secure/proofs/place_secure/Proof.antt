@@ -1,7 +1,7 @@
-use Rattle.state.specs.SecureLaws.{place-secure}
+use Rattle.secure.specs.SecureLaws.{place-secure}
 use borrow.Author.Needs.{needs}
-use Rattle.state.proofs.secure.place_secure.Statement.{statement}
-use Rattle.state.proofs.secure.place_secure.Tie as tie
+use Rattle.secure.proofs.place_secure.Statement.{statement}
+use Rattle.secure.proofs.place_secure.Tie as tie
 
 place-requires : tie.Need-place-requires
 place-requires c κs = search needs
