@@ -89,7 +89,14 @@ module _ (t : List ℕ) where
       ap (λ (n : ℕ). tablesOf (set t (entitiesFrom + (e - 1) * entityWidth + n) v)) (sym (entity-single-at f h))
       ∙ entity-set t (i .0) e (entitySingle f) v (i .1) (i .2) (omega (arith, entity-single-index f h))
 
-  -- a store of any word of an entity is an edit of that word
+  -- a store of any word of a user is an edit of that word
+  pub user-store-at : (u f v : ℕ) → UserIn t u → f < userWidth
+      → tablesOf (set t ((u - 1) * userWidth + f) v) ≡ onUser u (userWord (userWordAt f) v) (tablesOf t)
+  user-store-at u f v i h =
+      ap (λ (n : ℕ). tablesOf (set t ((u - 1) * userWidth + n) v)) (sym (user-offset-at f h))
+      ∙ user-set t (i .0) u (userWordAt f) v (i .1) (i .2) (omega (arith, user-offset-at f h))
+
+  -- and so of an entity
   pub entity-store-at : (e f v : ℕ) → EntityIn t e → f < entityWidth
       → tablesOf (set t (entitiesFrom + (e - 1) * entityWidth + f) v) ≡ onEntity e (word (entityWordAt f) v) (tablesOf t)
   entity-store-at e f v i h =

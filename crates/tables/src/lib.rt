@@ -59,4 +59,5 @@ pub use users::set_device;
 pub use users::set_held;
 pub use users::set_held_op;
 pub use users::set_missed;
+pub use users::set_user_at;
 pub use users::user_at;

@@ -100,6 +100,15 @@ pub fn missed(t: &[u32], u: User) -> u32
     user_word(t, u, word::MISSED)
 }
 
+// Sets word f of user u, counted from 0, to v, and no other word.
+pub fn set_user_at(t: &mut [u32], u: User, f: usize, v: u32)
+    requires { ⌜ UserIn (now t) (u .0) × (f < userWidth) ⌝ }
+    ensures { λ _. ⌜ tablesOf (now (t .exit)) ≡ onUser (u .0) (userWord (userWordAt f) v) (tablesOf (now (t .entry))) ⌝ }
+{
+    let n = u.0 as usize;
+    t[(n - 1) * size::USER_WORDS + f] = v;
+}
+
 // Sets single word f of user u to v, and no other word.
 fn set_user_word(t: &mut [u32], u: User, f: usize, v: u32)
     requires { ⌜ UserIn (now t) (u .0) × (f < singleCount) ⌝ }
