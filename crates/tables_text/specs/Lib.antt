@@ -1,6 +1,7 @@
 -- The tables as readable lines (rule 16): what their text is, how a text is read, and what the two calls answer and leave.
 pub mod Keys
 pub mod Values
+pub mod ValueLaws
 pub mod TextOf
 pub mod Stages
 pub mod Calls
