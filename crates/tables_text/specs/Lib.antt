@@ -6,3 +6,9 @@ pub mod TextOf
 pub mod Stages
 pub mod Calls
 pub mod Due
+pub mod EndsLaws
+pub mod PassedLaws
+pub mod RuledLaws
+pub mod DueLaws
+pub mod LineMost
+pub mod LineMostLaws
