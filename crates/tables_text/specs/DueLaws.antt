@@ -89,7 +89,8 @@ tells-either {σ} {τ} {T} l s f t h one rest none = go (behind l s) refl
     go (got _ x) e = tells-behind (line-passed h one (head-back l s x e)) (rest x)
     go bad e = none e
 
-head-not : {C : Type 0} (l s x : List ℕ) → behind l s ≡ bad → s ≡ l ++ x → C
+-- a line that is not found does not stand there
+pub head-not : {C : Type 0} (l s x : List ℕ) → behind l s ≡ bad → s ≡ l ++ x → C
 head-not l s x e q =
     let z : bad ≡ got tt x = sym e ∙ ap (behind l) q ∙ head-there l x in let y : _≡_ {A = ℕ} 0 1 = cc in absurd (omega arith)
 
@@ -153,7 +154,8 @@ users-over s = weaker-passed (record {
 
 users-tell : (k u : ℕ) (d : Tables) (s : List ℕ) → u + k ≡ userCount → Tells (users u) (λ _. users userCount) s (usersStage k (suc u) d s)
 unfolding usersStage
-users-tell zero u d s h = let i : u ≡ userCount = omega arith in subst (λ (n : ℕ). Tells (users n) (λ _. users userCount) s (past d s)) (sym i) (passes passed-none)
+users-tell zero u d s h =
+    let i : u ≡ userCount = omega arith in subst (λ (n : ℕ). Tells (users n) (λ _. users userCount) s (past d s)) (sym i) (passes passed-none)
 users-tell (suc k) u d s h =
     tells-either (numberLine userKey (suc u)) s _ _ (user {u = u} {v = suc u} (omega arith) (omega arith)) (number-ends userKey (suc u) refl)
     (λ x. tells-onward _ (user-tells (suc u) d x) λ d₁ y. users-tell k (suc u) d₁ y (omega arith))

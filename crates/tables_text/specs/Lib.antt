@@ -10,5 +10,7 @@ pub mod EndsLaws
 pub mod PassedLaws
 pub mod RuledLaws
 pub mod DueLaws
+pub mod DueOnceLaws
+pub mod DueCallLaws
 pub mod LineMost
 pub mod LineMostLaws

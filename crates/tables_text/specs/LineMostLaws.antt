@@ -6,7 +6,7 @@ use native.Mathlib.Omega.{arith}
 use lib.ListN.{length}
 use Rattle.model.specs.Tables.Words.{entityCount, placeCount, userCount}
 use Rattle.tables_text.specs.Calls.{lineOf}
-use Rattle.tables_text.specs.Due.{Due, FirstBad, Follows, access, content, entities, field, fieldsDue, first, further, here, later, parts, place}
+use Rattle.tables_text.specs.Due.{Due, FirstBad, Follows, access, atFirst, content, entities, field, fieldsDue, first, further, here, later, parts, place}
 use Rattle.tables_text.specs.Due.{placed, places, placesDue, triple, triples, triplesDue, user, users, value}
 use Rattle.tables_text.specs.DueLaws.{stuck-first}
 use Rattle.tables_text.specs.Keys.{Field}
@@ -54,6 +54,10 @@ first-left : {σ : Due} {s : List ℕ} {n : ℕ} → FirstBad σ s n → n ≤ s
 first-left (here a b) = omega arith
 first-left (further h f) = omega (arith, follows-left h, first-left f)
 
--- Rule 16.5: the line of a text where its reading stops.
+-- Rule 16.3: no text has its first bad line further on.
+pub first-most : {s : List ℕ} {n : ℕ} → FirstBad atFirst s n → n ≤ lineMost
+first-most f = omega (arith, first-left f)
+
+-- Rule 16.5: nor does its reading stop there.
 pub line-most : (s x : List ℕ) → reading s ≡ stuck x → lineOf s x ≤ lineMost
-line-most s x e = omega (arith, first-left (stuck-first s x e))
+line-most s x e = first-most (stuck-first s x e)
