@@ -5,3 +5,4 @@ pub mod TextOf
 pub mod Stages
 pub mod Calls
 pub mod Due
+pub mod Longest
