@@ -6,3 +6,7 @@ pub mod Stages
 pub mod Calls
 pub mod Due
 pub mod Longest
+pub mod Total
+pub mod TotalLaws
+pub mod LongestShares
+pub mod LongestLineLaws
