@@ -10,3 +10,5 @@ pub mod Total
 pub mod TotalLaws
 pub mod LongestShares
 pub mod LongestLineLaws
+pub mod LongestShareLaws
+pub mod LongestChargeLaws

@@ -3,9 +3,10 @@ use mathlib.Core.Path.{_∙_, _≡_, ap, ap₂, refl, subst, sym}
 use Prim.Native.Nat.{_*_, _+_, _<_, _≤_, suc, zero, ℕ}
 use native.Mathlib.Nat.{add-mul, eq-or-lt-of-le, one-mul, suc-mul, zero-mul}
 use native.Mathlib.Omega.{arith}
-use Rattle.model.specs.Basics.Cases.{cases, lt-or-le}
+use lib.Dec.{eqb}
+use Rattle.model.specs.Basics.Cases.{cases, lt-or-le, true-or-false}
 use Rattle.tables_text.specs.Total.{one, total}
-use borrow.Author.Tests.{eq-eqb, ne-eqb}
+use borrow.Author.Tests.{eq-eqb, eqb-true, ne-eqb}
 
 -- what is said of each of the k numbers from i on
 abbrev pub Each : ℕ → ℕ → (ℕ → Type 0) → Type 0
@@ -127,3 +128,18 @@ total-gap zero i f h = absurd (omega arith)
 total-gap (suc k) i f h = cases (lt-or-le 0 (f i))
     (λ p. let r = total-gap k (suc i) f (omega arith) in (r .0, omega (arith, r .1), omega (arith, r .2), r .3))
     (λ p. (i, omega arith, omega arith, omega arith))
+
+-- no number gives more than the sum
+pub total-each : (k i : ℕ) (f : ℕ → ℕ) → Each k i (λ j. f j ≤ total k i f)
+unfolding total
+total-each zero i f j a b = absurd (omega arith)
+total-each (suc k) i f j a b = cases (eq-or-lt-of-le a)
+    (λ e. omega (arith, ap f e))
+    (λ l. omega (arith, total-each k (suc i) f j l (omega arith)))
+
+-- the one number that counts is the one
+pub one-is : (x c : ℕ) → 0 < one x c → x ≡ c
+one-is x c h = cases (true-or-false (eqb x c)) (λ e. eqb-true x c e) (λ e. absurd (omega (arith, rw e at h)))
+
+pub one-most : (x c : ℕ) → one x c ≤ 1
+one-most x c = cases (true-or-false (eqb x c)) (λ e. rw e (omega arith)) (λ e. rw e (omega arith))
