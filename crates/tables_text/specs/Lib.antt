@@ -12,3 +12,5 @@ pub mod LongestShares
 pub mod LongestLineLaws
 pub mod LongestShareLaws
 pub mod LongestChargeLaws
+pub mod LongestRootLaws
+pub mod LongestLaws
