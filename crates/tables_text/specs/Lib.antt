@@ -1,4 +1,4 @@
--- The tables as readable lines (rule 16): what their text is, how a text is read, and what the two calls answer and leave.
+-- The tables as readable lines (rule 16): what their text is, how a text is read, what the two calls answer and leave, and how long a text can be.
 pub mod Keys
 pub mod Values
 pub mod TextOf
@@ -14,3 +14,6 @@ pub mod LongestShareLaws
 pub mod LongestChargeLaws
 pub mod LongestRootLaws
 pub mod LongestLaws
+pub mod LongestTables
+pub mod LongestMetLaws
+pub mod LongestCallLaws

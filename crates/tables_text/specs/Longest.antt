@@ -5,7 +5,7 @@ use lib.Dec.{ltb}
 use lib.ListN.{length}
 use Rattle.model.specs.Basics.Choice.{pick}
 use Rattle.model.specs.Tables.Words.{placeCount}
-use Rattle.model.specs.Text.Numbers.{base, digitCount}
+use Rattle.model.specs.Text.Numbers.{base, digitCount, digits}
 use Rattle.model.specs.Text.Wording.{userKey}
 use Rattle.tables_text.specs.Keys.{authorisedKey, clearanceKey, contentKey, currentKey, deviceKey, entityKey, heldKey, kindKey, levelKey}
 use Rattle.tables_text.specs.Keys.{markKey, maximumKey, missedKey, operationKey, placesKey, releaserKey, tripleKey, triplesKey, typeKey, valueKey}
@@ -44,6 +44,10 @@ releaserDigits = 2
 
 abbrev pub tripleBytes : ℕ
 tripleBytes = 7
+
+-- how many digits a number has
+abbrev pub size : ℕ → ℕ
+size n = length (digits n)
 
 -- the second digit of a number below 100, if it has one
 abbrev pub second : ℕ → ℕ

@@ -1,7 +1,7 @@
 -- Each number is charged once: at most one container holds an entity, in one place, and at most one user is on a device.
 use mathlib.Core.Logic.{inl, inr}
 use mathlib.Core.Path.{_∙_, _≡_, ap, sym}
-use Prim.Native.Nat.{_*_, _+_, _<_, _≤_, ℕ}
+use Prim.Native.Nat.{_*_, _<_, _≤_, ℕ}
 use native.Mathlib.Nat.{zero-mul}
 use native.Mathlib.Omega.{arith}
 use lib.Dec.{eqb}
@@ -13,8 +13,8 @@ use Rattle.model.specs.Tables.Words.{Tables, containerKind, deviceKind, devices
 use Rattle.tables_text.specs.LongestLineLaws.{place-range}
 use Rattle.tables_text.specs.LongestShares.{contentBytes, inBytes, onBytes, timesHeld, timesIn, userOn, usersOn}
 use Rattle.tables_text.specs.Total.{one, total}
-use Rattle.tables_text.specs.TotalLaws.{one-is, one-most, one-same, total-at, total-before, total-const, total-each, total-le, total-none, total-same, total-scale}
-use Rattle.tables_text.specs.TotalLaws.{total-some, total-swap, total-unique}
+use Rattle.tables_text.specs.TotalLaws.{one-is, one-most, one-same, total-at, total-before, total-const, total-each, total-le, total-none}
+use Rattle.tables_text.specs.TotalLaws.{total-same, total-scale, total-some, total-swap, total-unique}
 use borrow.Author.Tests.{eqb-false, eqb-true}
 
 -- sums of sums of products, in the other order: each number that is counted gives its own bytes

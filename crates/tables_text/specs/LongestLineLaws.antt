@@ -1,6 +1,6 @@
 -- How many bytes the lines of a well-formed record have.
 use mathlib.Core.List.{List, [], _++_, _∷_}
-use mathlib.Core.Path.{_∙_, _≡_, ap, refl, subst, sym}
+use mathlib.Core.Path.{_≡_, refl}
 use Prim.Native.Nat.{_*_, _+_, _/_, _<_, _^_, _≤_, suc, zero, ℕ}
 use native.Mathlib.Nat.{pow-suc}
 use native.Mathlib.Omega.{arith}
@@ -20,7 +20,7 @@ use Rattle.model.specs.Text.Wording.{userKey}
 use Rattle.tables_text.specs.Keys.{Field, authorisedKey, clearanceKey, contentKey, currentKey, deviceKey, entityFields, entityKey, heldKey}
 use Rattle.tables_text.specs.Keys.{maximumKey, missedKey, operationKey, releaserKey, tripleKey, triplesKey, userFields, valueKey}
 use Rattle.tables_text.specs.Longest.{heldDigits, levelDigits, lineSize, missedDigits, operationDigits, placeSize, plainSize, roleDigits, second}
-use Rattle.tables_text.specs.Longest.{tripleBytes, triplesSize}
+use Rattle.tables_text.specs.Longest.{size, tripleBytes, triplesSize}
 use Rattle.tables_text.specs.TextOf.{entityLines, entityWords, fieldLines, placeAt, series, tripleAt, tripleCount, userLines, userWords}
 use Rattle.tables_text.specs.Total.{total}
 use Rattle.tables_text.specs.TotalLaws.{total-const, total-le}
@@ -28,10 +28,6 @@ use Rattle.tables_text.specs.Values.{numberLine, tripleLine}
 use borrow.Author.Tests.{le-ltb, lt-ltb}
 
 -- ---- numbers
-
--- how many digits a number has
-abbrev pub size : ℕ → ℕ
-size n = length (digits n)
 
 -- a number below 10 ^ k has at most k
 pub digits-fit : (k n : ℕ) → n < base ^ suc k → n < digitsEnd → size n ≤ suc k

@@ -16,8 +16,9 @@ use Rattle.model.specs.Tables.Words.{Tables, absentKind, deviceKind, entityCoun
 use Rattle.tables_text.specs.Longest.{deviceSize, placeSize, second, thingSize}
 use Rattle.tables_text.specs.LongestChargeLaws.{held-once, held-there, held-thing, idle-empty, on-device, on-few, on-once}
 use Rattle.tables_text.specs.LongestShares.{charged, inBytes, moreOn, mostCharged, onBytes, ownBytes, timesHeld, usersOn}
-use Rattle.tables_text.specs.TotalLaws.{Some, total-gap}
-use borrow.Author.Tests.{eqb-false, eqb-true, ne-eqb}
+use Rattle.tables_text.specs.Total.{Some}
+use Rattle.tables_text.specs.TotalLaws.{total-gap}
+use borrow.Author.Tests.{eqb-true, ne-eqb}
 
 times-none : (n c : ℕ) → n ≡ 0 → n * c ≡ 0
 times-none n c e = rw e (zero-mul c)

@@ -9,12 +9,12 @@ use Rattle.model.specs.Basics.Choice.{pick}
 use Rattle.model.specs.State.Agree.{device-range}
 use Rattle.model.specs.State.WellFormed.{WellFormed}
 use Rattle.model.specs.Tables.Kinds.{screen}
-use Rattle.model.specs.Tables.Words.{Tables, absentKind, containerKind, current, deviceKind, devices, entityCount, kinds, maximum, places, present, releasedType}
-use Rattle.model.specs.Tables.Words.{releaser, type, usedPlaces, userCount, value}
+use Rattle.model.specs.Tables.Words.{Tables, absentKind, containerKind, current, deviceKind, devices, entityCount, kinds, maximum, places, present}
+use Rattle.model.specs.Tables.Words.{releasedType, releaser, type, usedPlaces, userCount, value}
 use Rattle.model.specs.Text.NumberLaws.{length-most}
 use Rattle.model.specs.Text.Numbers.{digitCount}
-use Rattle.tables_text.specs.Longest.{deviceSize, levelDigits, placeSize, releaserDigits, roleDigits, second, thingSize, userSize}
-use Rattle.tables_text.specs.LongestLineLaws.{digits-fit, entity-lines, place-length, second-fits, second-most, size, user-lines}
+use Rattle.tables_text.specs.Longest.{deviceSize, levelDigits, placeSize, releaserDigits, roleDigits, second, size, thingSize, userSize}
+use Rattle.tables_text.specs.LongestLineLaws.{digits-fit, entity-lines, place-length, second-fits, second-most, user-lines}
 use Rattle.tables_text.specs.LongestShares.{contentBytes, inBytes, onBytes, ownBytes, userOn}
 use Rattle.tables_text.specs.TextOf.{entityLines, entityText, placeAt, userLines, userText}
 use Rattle.tables_text.specs.Total.{total}

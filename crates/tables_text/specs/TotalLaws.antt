@@ -5,16 +5,8 @@ use native.Mathlib.Nat.{add-mul, eq-or-lt-of-le, one-mul, suc-mul, zero-mul}
 use native.Mathlib.Omega.{arith}
 use lib.Dec.{eqb}
 use Rattle.model.specs.Basics.Cases.{cases, lt-or-le, true-or-false}
-use Rattle.tables_text.specs.Total.{one, total}
+use Rattle.tables_text.specs.Total.{Each, Some, one, total}
 use borrow.Author.Tests.{eq-eqb, eqb-true, ne-eqb}
-
--- what is said of each of the k numbers from i on
-abbrev pub Each : ℕ → ℕ → (ℕ → Type 0) → Type 0
-Each k i P = (j : ℕ) → i ≤ j → j < i + k → P j
-
--- what is said of one of them
-abbrev pub Some : ℕ → ℕ → (ℕ → Type 0) → Type 0
-Some k i P = (j : ℕ) × (i ≤ j) × (j < i + k) × P j
 
 -- ---- comparing sums
 
