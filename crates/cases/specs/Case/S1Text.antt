@@ -5,15 +5,18 @@ use Prim.Native.Nat.{ℕ}
 use lib.ListN.{length}
 use Rattle.cases.specs.Case.Opened.{opened}
 use Rattle.cases.specs.Case.S1.{s1, s1Sheet}
-use Rattle.cases.specs.Case.S1Words.{s1Words, s1Words-tables}
+use Rattle.cases.specs.Case.S1Words.{s1Entities, s1Users, s1Words, s1Words-tables}
 use Rattle.model.specs.Basics.Together.{together}
 use Rattle.model.specs.Tables.Layout.{tablesOf}
 use Rattle.model.specs.Tables.WordAt.{entityWordAt, entityWordOf, userWordAt, userWordOf}
-use Rattle.model.specs.Text.Lines.{line}
+use Rattle.model.specs.Tables.WordsOf.{firstValues, wordAtIndex, wordsOf}
+use Rattle.model.specs.Text.Lines.{line, readLine}
 use Rattle.model.specs.Text.Numbers.{digits}
 use Rattle.model.specs.Text.Unfinished.{ends}
-use Rattle.tables_text.specs.Stages.{noTables}
+use Rattle.tables_text.specs.Stages.{Stage, entitiesStage, entityRecord, entityStage, noTables, past, placesStage, reading, stuck, triplesStage}
+use Rattle.tables_text.specs.Stages.{userRecord, userStage, usersStage}
 use Rattle.tables_text.specs.TextOf.{entityLines, entityText, fieldLines, series, tablesText, userLines, userText}
+use Rattle.tables_text.specs.Values.{readField}
 
 -- its 103 lines
 unfoldable pub s1Lines : List (List ℕ)
@@ -253,3 +256,14 @@ s1Text-lines = refl
 pub no-text : tablesText noTables ≡ []
 unfolding tablesText series userText entityText
 no-text = refl
+
+-- what was read, as words
+abbrev wordsRead : Stage → List ℕ
+wordsRead (past d x) = wordsOf d
+wordsRead (stuck x) = []
+
+-- Rule 16.5: the text is read to its end, and gives S1's words.
+pub s1Text-read : wordsRead (reading s1Text) ≡ s1Words
+unfolding opened s1Words s1Users s1Entities s1Text s1Lines reading usersStage entitiesStage userRecord entityRecord userStage entityStage placesStage
+    triplesStage readField readLine line digits entityWordAt entityWordOf userWordAt userWordOf wordsOf firstValues wordAtIndex
+s1Text-read = refl
