@@ -117,7 +117,7 @@ module _ {s : List ℕ} {i : ℕ} (e : ℕ) (d : Tables) where
   unfolding placesRest
   rows-none f = rw (← f .is)
 
-  pub rows-next : {n j : ℕ} → FieldAt s i placesField (Value n j)
-      → placesRest e d (drop i s) ≡ onward (placesStage e n 0 (onEntity e (word used n) d) (drop j s)) (accessRest e)
+  pub rows-next : {n j : ℕ} (w : List ℕ) → FieldAt s i placesField (Value n j) → tablesOf w ≡ onEntity e (word used n) d
+      → placesRest e d (drop i s) ≡ onward (placesStage e n 0 (tablesOf w) (drop j s)) (accessRest e)
   unfolding placesRest
-  rows-next f = rw (← f .is)
+  rows-next w f q = rw (← f .is, q)

@@ -1,9 +1,7 @@
-use mathlib.Core.Path.{_∙_, ap, sym}
-use lib.ListN.{drop}
+use mathlib.Core.Path.{_∙_}
 use Rattle.record_reader.specs.FieldLaws.{field-fits}
 use Rattle.record_reader.specs.Rest.{accessRest}
 use Rattle.record_reader.specs.StageLaws.{onward-past, onward-stuck, rows-next, rows-none, staged}
-use Rattle.tables_text.specs.Stages.{onward, placesStage}
 use borrow.Author.Needs.{needs}
 use Rattle.record_reader.proofs.records.read_rows.Statement.{statement}
 use Rattle.record_reader.proofs.records.read_rows.Tie as tie
@@ -59,8 +57,8 @@ read-access-requires c κs =
     let s6 = c .before .before .before .before .before .before in
     let s10 = s6 .before .before .before .before in
     let s18 = s10 .before .before .before .before .before .before .before .before in
-    ((rw (c .before .before .i2 .given .1) at (s6 .read-places .ensures)) .within, s6 .read-places .kept .1 .1 .0 ∙ s10 .set-used .kept .0 ∙
-    s18 .pre .1 .0, s18 .pre .1 .1, s18 .pre .1 .2)
+    ((rw (c .before .before .i2 .given .1) at (s6 .read-places .ensures)) .within, (s6 .read-places .kept .1 .1 .0 ∙ s10 .set-used .kept .0 ∙
+    s18 .pre .1 .0, s18 .pre .1 .1, s18 .pre .1 .2))
 
 -- src/records.rt:81:1
 same-length : tie.Need-same-length
@@ -73,8 +71,9 @@ returns-2 c =
     let s9 = s5 .before .before .before .before in
     let s12 = s9 .before .before .before in
     let s14 = s12 .before .before in
-    staged (rows-next _ _ (rw (s12 .v .given .1) at (s14 .places-line .ensures)) ∙ ap (λ d. onward (placesStage _ _ 0 d (drop _ _)) (accessRest _))
-    (sym (s9 .set-used .ensures))) (onward-stuck _ (rw (c .before .i .given .1) at (s5 .read-places .ensures)))
+    let s17 = s14 .before .before .before in
+    staged (rows-next _ _ _ (rw (s12 .v .given .1) at (s14 .places-line .ensures)) (s9 .set-used .ensures))
+    (onward-stuck (accessRest (s17 .args .e .0)) (rw (c .before .i .given .1) at (s5 .read-places .ensures)))
 
 -- src/records.rt:81:1
 same-length-2 : tie.Need-same-length-2
@@ -88,8 +87,9 @@ returns-3 c =
     let s13 = s9 .before .before .before .before in
     let s16 = s13 .before .before .before in
     let s18 = s16 .before .before in
-    staged (rows-next _ _ (rw (s16 .v .given .1) at (s18 .places-line .ensures)) ∙ ap (λ d. onward (placesStage _ _ 0 d (drop _ _)) (accessRest _))
-    (sym (s13 .set-used .ensures)) ∙ onward-past _ (rw (s5 .i2 .given .1) at (s9 .read-places .ensures))) (c .before .before .read-access .ensures)
+    let s21 = s18 .before .before .before in
+    staged (rows-next _ _ _ (rw (s16 .v .given .1) at (s18 .places-line .ensures)) (s13 .set-used .ensures) ∙ onward-past
+    (accessRest (s21 .args .e .0)) (rw (s5 .i2 .given .1) at (s9 .read-places .ensures))) (c .before .before .read-access .ensures)
 
 pub read-rows-spec : {M : Type 1} → statement M
 read-rows-spec =
