@@ -7,3 +7,4 @@ pub mod NumberAt
 pub mod NumberAtLaws
 pub mod LineAt
 pub mod LineAtLaws
+pub mod CopyLaws

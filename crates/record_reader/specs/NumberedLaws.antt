@@ -113,7 +113,7 @@ module _ {key : List ℕ} {one : ℕ → Tables → List ℕ → Stage} {count :
   over out =
       record {
         is = r .is ∙ none key one (tablesOf t) (drop i s) (count - last) (suc last) (omega (arith, small, r .most))
-        (λ m a b. head-not key (drop i s) m (omega (arith, small, r .most)) (out m a (omega (arith, r .most))));
+            (λ m a b. head-not key (drop i s) m (omega (arith, small, r .most)) (out m a (omega (arith, r .most))));
         within = r .within;
       }
 

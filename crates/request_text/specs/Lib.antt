@@ -12,6 +12,5 @@ pub mod RefAt
 pub mod RefAtLaws
 pub mod Seven
 pub mod SevenLaws
-pub mod CopyLaws
 pub mod FillLaws
 pub mod ReadLaws

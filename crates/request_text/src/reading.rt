@@ -168,18 +168,6 @@ fn fill(s: &[u8], at: usize, w: &mut [u32]) -> Seven
     Seven::Next(s7)
 }
 
-// Copies as many words as there are.
-fn copy_words(out: &mut [u32], src: &[u32])
-    requires { ⌜ length (now out) ≡ length (now src) ⌝ }
-    ensures { λ _. ⌜ now (out .exit) ≡ now (src .entry) ⌝ }
-{
-    let mut i = 0;
-    while i < src.len() {
-        out[i] = src[i];
-        i += 1;
-    }
-}
-
 // Reads the next seven lines, from an index on, into sixteen words. At a bad line the words stay as they were.
 pub fn read_seven(s: &[u8], at: usize, w: &mut [u32]) -> Seven
     requires { ⌜ (at ≤ length (now s)) × (length (now w) ≡ requestWords) ⌝ }
@@ -189,7 +177,7 @@ pub fn read_seven(s: &[u8], at: usize, w: &mut [u32]) -> Seven
     match fill(s, at, &mut room) {
         Seven::BadLine(k) => Seven::BadLine(k),
         Seven::Next(i) => {
-            copy_words(w, &room);
+            lines::copying::copy_words(w, &room);
             Seven::Next(i)
         }
     }
@@ -219,7 +207,7 @@ pub fn read(text: &[u8], request: &mut [u32]) -> Parsed
                     line: text::LINE_AFTER,
                 };
             }
-            copy_words(request, &room);
+            lines::copying::copy_words(request, &room);
             Parsed {
                 answer: refusal::ACCEPTED,
                 line: 0,

@@ -58,18 +58,6 @@ fn line_at(s: &[u8], at: usize) -> u32
     n
 }
 
-// Copies as many words as there are.
-fn copy_words(out: &mut [u32], src: &[u32])
-    requires { ⌜ length (now out) ≡ length (now src) ⌝ }
-    ensures { λ _. ⌜ now (out .exit) ≡ now (src .entry) ⌝ }
-{
-    let mut i = 0;
-    while i < src.len() {
-        out[i] = src[i];
-        i += 1;
-    }
-}
-
 // Reads the text of tables, from any bytes into any words. The words must be 2,304. A text that breaks a line rule is refused with the line,
 // before one whose tables are not well-formed.
 pub fn read_tables(text: &[u8], tables: &mut [u32]) -> Parsed
@@ -94,7 +82,7 @@ pub fn read_tables(text: &[u8], tables: &mut [u32]) -> Parsed
                     line: 0,
                 };
             }
-            copy_words(tables, &room);
+            lines::copying::copy_words(tables, &room);
             Parsed {
                 answer: refusal::ACCEPTED,
                 line: 0,

@@ -25,7 +25,7 @@ enum-told c = search needs
 returns : tie.Need-returns
 returns c =
     let s5 = c .before .before .before .before .before in
-    record {is = access-none _ _ (rw (c .enum-told .given .1) at (c .before .before .triples-line .ensures)); within = s5 .pre .0}
+    record { is = access-none _ _ (rw (c .enum-told .given .1) at (c .before .before .triples-line .ensures)); within = s5 .pre .0 }
 
 -- src/records.rt:77:5
 read-triples-requires : tie.Need-read-triples-requires

@@ -24,9 +24,14 @@ enum-known-i-2 c = search needs
 read-rows-requires : tie.Need-read-rows-requires
 read-rows-requires c κs =
     let s6 = c .before .before .before .before .before .before in
-    let s10 = s6 .before .before .before .before in
-    ((rw (c .before .before .i2 .given .1) at (s6 .read-singles .ensures)) .within, (s6 .read-singles .kept .1 .1 .0 ∙ s10 .pre .1 .0, s10 .pre .1 .1,
-    s10 .pre .1 .2))
+    let s10 = s6 .before .before .before .before in (
+      (rw (c .before .before .i2 .given .1) at (s6 .read-singles .ensures)) .within,
+      (
+        s6 .read-singles .kept .1 .1 .0 ∙ s10 .pre .1 .0,
+        s10 .pre .1 .1,
+        s10 .pre .1 .2,
+      ),
+    )
 
 -- src/records.rt:96:1
 same-length : tie.Need-same-length

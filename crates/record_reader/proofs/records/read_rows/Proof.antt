@@ -28,7 +28,7 @@ enum-told c = search needs
 returns : tie.Need-returns
 returns c =
     let s5 = c .before .before .before .before .before in
-    record {is = rows-none _ _ (rw (c .enum-told .given .1) at (c .before .before .places-line .ensures)); within = s5 .pre .0}
+    record { is = rows-none _ _ (rw (c .enum-told .given .1) at (c .before .before .places-line .ensures)); within = s5 .pre .0 }
 
 -- src/records.rt:88:5
 set-used-requires : tie.Need-set-used-requires
@@ -56,9 +56,15 @@ read-access-requires : tie.Need-read-access-requires
 read-access-requires c κs =
     let s6 = c .before .before .before .before .before .before in
     let s10 = s6 .before .before .before .before in
-    let s18 = s10 .before .before .before .before .before .before .before .before in
-    ((rw (c .before .before .i2 .given .1) at (s6 .read-places .ensures)) .within, (s6 .read-places .kept .1 .1 .0 ∙ s10 .set-used .kept .0 ∙
-    s18 .pre .1 .0, s18 .pre .1 .1, s18 .pre .1 .2))
+    let s18 = s10 .before .before .before .before .before .before .before .before in (
+      (rw (c .before .before .i2 .given .1) at (s6 .read-places .ensures)) .within,
+      (
+        s6 .read-places .kept .1 .1 .0 ∙ s10 .set-used .kept .0 ∙
+            s18 .pre .1 .0,
+        s18 .pre .1 .1,
+        s18 .pre .1 .2,
+      ),
+    )
 
 -- src/records.rt:81:1
 same-length : tie.Need-same-length

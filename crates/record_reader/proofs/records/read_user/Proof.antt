@@ -30,8 +30,14 @@ set-user-at-requires c κs = (c .before .before .before .pre .1, omega arith)
 loop-holds : tie.Need-loop-holds Inv-loop μ-loop
 loop-holds c =
     let s6 : _ → _ = λ _. c .before .before .before .before .before .before in
-    record {is = refl; within = s6 c .pre .0; from = omega arith; most = omega arith; size = c .before .before .set-user-at .kept .0 ∙ s6
-    c .pre .1 .0}
+    record {
+      is = refl;
+      within = s6 c .pre .0;
+      from = omega arith;
+      most = omega arith;
+      size = c .before .before .set-user-at .kept .0 ∙ s6
+          c .pre .1 .0;
+    }
 
 -- src/records.rt:41:41
 user-line-requires : tie.Need-user-line-requires Inv-loop μ-loop

@@ -73,7 +73,7 @@ read-user-requires : tie.Need-read-user-requires Inv-loop μ-loop
 read-user-requires c κs =
     let s5 : _ → _ = λ _. c .before .before .before .before .before in
     let s8 : _ → _ = λ _. s5 c .before .before .before in
-    let i = inside _ _ _ (c .before .if1 .left) in
+    let i = inside (s8 c .loop .last) userCount (c .before .before .before .v .given .0 .0) (c .before .if1 .left) in
     ((rw (c .before .before .before .v .given .1) at (s5 c .read-line .ensures)) .within, (s8 c .loop .inv .size, omega (arith, i .0), i .1))
 
 -- src/records.rt:121:29
@@ -108,7 +108,10 @@ enum-known-j-2 c = search needs
 loop-less : tie.Need-loop-less Inv-loop μ-loop
 loop-less c =
     let s7 : _ → _ = λ _. c .before .before .before .before .before .before .before in
-    omega (arith, inside _ _ _ (s7 c .if1 .left) .0, inside _ _ _ (s7 c .if1 .left) .1)
+    let s9 : _ → _ = λ _. s7 c .before .before in
+    let s14 : _ → _ = λ _. s9 c .before .before .before .before .before in
+    let i = inside (s14 c .loop .last) userCount (s9 c .v .given .0 .0) (s7 c .if1 .left) in
+    omega (arith, i .0, i .1)
 
 -- src/records.rt:113:5
 loop-again : tie.Need-loop-again Inv-loop μ-loop

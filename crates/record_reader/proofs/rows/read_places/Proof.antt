@@ -65,9 +65,11 @@ set-shown-requires : tie.Need-set-shown-requires Inv-loop μ-loop
 set-shown-requires c κs =
     let s9 : _ → _ = λ _. c .before .before .before .before .before .before .before .before .before in
     let s10 : _ → _ = λ _. s9 c .before in
-    let s13 : _ → _ = λ _. s10 c .before .before .before in
-    ((c .before .before .before .set-place .kept .0 ∙ s10 c .loop .inv .size, s13 c .pre .1 .1, s13 c .pre .1 .2), omega
-    (arith, s9 c .loop-test .taken, s13 c .pre .2))
+    let s13 : _ → _ = λ _. s10 c .before .before .before in (
+      (c .before .before .before .set-place .kept .0 ∙ s10 c .loop .inv .size, s13 c .pre .1 .1, s13 c .pre .1 .2),
+      omega
+          (arith, s9 c .loop-test .taken, s13 c .pre .2),
+    )
 
 -- src/rows.rt:117:9
 add-k : tie.Need-add-k Inv-loop μ-loop

@@ -3,9 +3,9 @@ use Prim.Native.Nat.{_-_, _≤_}
 use native.Mathlib.Omega.{arith}
 use lib.ListN.{getD, length, length-set, set}
 use borrow.Author.Needs.{needs}
-use Rattle.request_text.specs.CopyLaws.{copied, copied-all, copied-turn}
-use Rattle.request_text.proofs.reading.copy_words.Statement.{statement}
-use Rattle.request_text.proofs.reading.copy_words.Tie as tie
+use Rattle.lines.specs.CopyLaws.{copied, copied-all, copied-turn}
+use Rattle.lines.proofs.copying.copy_words.Statement.{statement}
+use Rattle.lines.proofs.copying.copy_words.Tie as tie
 
 abbrev Inv-loop : tie.InvT-loop
 Inv-loop out₀ src i₀ out i = (i ≤ length src) × (length out ≡ length out₀) × (out ≡ copied src out₀ i)
