@@ -2,7 +2,11 @@
 pub mod Keys
 pub mod Values
 pub mod ValueLaws
+pub mod OnlyLaws
 pub mod TextOf
 pub mod Stages
+pub mod StageLaws
+pub mod Told
+pub mod UserLaws
 pub mod Calls
 pub mod Due
