@@ -8,5 +8,15 @@ pub mod Stages
 pub mod StageLaws
 pub mod Told
 pub mod UserLaws
+pub mod FieldLaws
+pub mod RowLaws
+pub mod EntityLaws
+pub mod EntityThereLaws
+pub mod ToldLaws
+pub mod BackLaws
+pub mod LaterLaws
+pub mod UsersThereLaws
+pub mod EntitiesThereLaws
+pub mod ThereLaws
 pub mod Calls
 pub mod Due

@@ -5,7 +5,7 @@ use mathlib.Core.Path.{_≡_}
 use Prim.Native.Nat.{_<_, _≤_, suc, ℕ}
 use Rattle.model.specs.Tables.Rows.{seek}
 use Rattle.model.specs.Tables.WordAt.{entityWordAt, userWordAt}
-use Rattle.model.specs.Tables.Words.{EntityWord, Tables, UserWord, place, placeCount, present, shown, spare, triple, used}
+use Rattle.model.specs.Tables.Words.{EntityWord, Tables, UserWord, entityCount, place, placeCount, present, shown, spare, triple, used, userCount}
 use Rattle.model.specs.Text.Numbers.{most}
 use Rattle.tables_text.specs.Keys.{Field, entityFields, userFields}
 
@@ -28,7 +28,18 @@ pub record EntityTold (w : EntityWord → ℕ) : Type 0 where
   pub triples : (i : ℕ) → i < seek 0 (λ j. w (triple j)) placeCount → w (triple i) ≤ most
   pub triplesRest : (i : ℕ) → seek 0 (λ j. w (triple j)) placeCount ≤ i → w (triple i) ≡ 0
 
--- Tables that can be told: each user and each entity is all zero, or told, and outside their numbers there is nothing.
+-- a record of zeros, of which there is no line
+abbrev pub Blank : {W : Type 0} → (W → ℕ) → Type 0
+Blank {W} w = (f : W) → w f ≡ 0
+
+-- Tables that can be told: each record is blank or told, and one outside the numbers is blank.
 pub record TablesTold (d : Tables) : Type 0 where
-  pub users : (u : ℕ) → ((f : UserWord) → d .user u f ≡ 0) ⊎ UserTold (d .user u)
-  pub entities : (e : ℕ) → ((f : EntityWord) → d .entity e f ≡ 0) ⊎ EntityTold (d .entity e)
+  pub users : (u : ℕ) → Blank (d .user u) ⊎ UserTold (d .user u)
+  pub entities : (e : ℕ) → Blank (d .entity e) ⊎ EntityTold (d .entity e)
+  pub usersOut : (u : ℕ) → (u ≡ 0) ⊎ (userCount < u) → Blank (d .user u)
+  pub entitiesOut : (e : ℕ) → (e ≡ 0) ⊎ (entityCount < e) → Blank (d .entity e)
+
+-- All words of the tables are of 32 bits.
+pub record SmallTables (d : Tables) : Type 0 where
+  pub users : (u : ℕ) (f : UserWord) → d .user u f ≤ most
+  pub entities : (e : ℕ) (f : EntityWord) → d .entity e f ≤ most

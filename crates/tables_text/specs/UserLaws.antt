@@ -14,7 +14,7 @@ use Rattle.model.specs.Tables.Words.{Tables, UserWord, authorised, clearance, c
 use Rattle.model.specs.Text.Numbers.{most}
 use Rattle.tables_text.specs.Keys.{Field, userFields}
 use Rattle.tables_text.specs.OnlyLaws.{Only, eq-or-ne, only-at, only-back, only-there}
-use Rattle.tables_text.specs.StageLaws.{orStuck-back}
+use Rattle.tables_text.specs.StageLaws.{lines-onto, orStuck-back}
 use Rattle.tables_text.specs.Stages.{past, userRecord, userStage}
 use Rattle.tables_text.specs.TextOf.{fieldLines, userWords}
 use Rattle.tables_text.specs.Told.{FieldsOk, UserTold}
@@ -29,10 +29,6 @@ At j k g = (j ≤ userOffset g) × (userOffset g < j + k)
 record Changed (u : ℕ) (S : UserWord → Type 0) (d d′ : Tables) : Type 0 where
   entities : d′ .entity ≡ d .entity
   users : Only u S (d .user) (d′ .user)
-
--- a line, and those after it
-lines-onto : (l m s t x : List ℕ) → s ≡ l ++ t → t ≡ m ++ x → s ≡ (l ++ m) ++ x
-lines-onto l m s t x p q = p ∙ ap (λ r. l ++ r) q ∙ sym (append-assoc l m x)
 
 -- one of k + 1 words is the first, or one of the others
 first-or : (j k : ℕ) (g : UserWord) → At j (suc k) g → (g ≡ userWordAt j) ⊎ At (suc j) k g
