@@ -5,6 +5,7 @@ use mathlib.Core.Path.{_∙_, _≡_, ap, refl, subst, sym}
 use Prim.Native.Nat.{_+_, _<_, _≤_, suc, zero, ℕ}
 use native.Mathlib.Omega.{arith}
 use Rattle.model.specs.Basics.Cases.{cases, lt-or-le}
+use Rattle.model.specs.Tables.Layout.{Bounded}
 use Rattle.model.specs.Tables.WordAt.{userWordAt}
 use Rattle.model.specs.Tables.Words.{EntityWord, Tables, UserWord, entityCount, kind, present, userCount}
 use Rattle.model.specs.Text.Lines.{behind}
@@ -14,8 +15,8 @@ use Rattle.tables_text.specs.Keys.{entityKey, userFields}
 use Rattle.tables_text.specs.StageLaws.{either-back, lines-onto, onward-back}
 use Rattle.tables_text.specs.Stages.{atEnd, entitiesStage, entityRecord, noTables, past, reading, userRecord, usersStage}
 use Rattle.tables_text.specs.TextOf.{entityText, fieldLines, series, tablesText, userLines, userText, userWords}
-use Rattle.tables_text.specs.Told.{Blank, EntityTold, TablesTold, UserTold}
-use Rattle.tables_text.specs.ToldLaws.{entity-absent, entity-present, told-kind, user-absent, user-present}
+use Rattle.tables_text.specs.Told.{Blank, EntityTold, SmallTables, TablesTold, UserTold}
+use Rattle.tables_text.specs.ToldLaws.{entity-absent, entity-present, told-bounded, told-kind, told-small, user-absent, user-present}
 use Rattle.tables_text.specs.UserLaws.{user-record-back}
 use Rattle.tables_text.specs.ValueLaws.{head-back}
 use Rattle.tables_text.specs.Values.{numberLine}
@@ -202,3 +203,7 @@ reading-back s d x h =
     subst (λ (k : Tables). EntitiesRead entityCount 1 c y k []) (n .1) (subst (λ (l : List ℕ). EntitiesRead entityCount 1 c y b l) (n .0) e) in
     let r : (s ≡ tablesText d) × TablesTold d = both-parts c d s y u e₁ in
     (n .2, r .0, r .1)
+
+-- So what a reading gives has words of 32 bits, and nothing outside the users, the entities and their rows.
+pub reading-bounded : (s : List ℕ) (d : Tables) (x : List ℕ) → reading s ≡ past d x → SmallTables d × Bounded d
+reading-bounded s d x e = let t : TablesTold d = reading-back s d x e .2 in (told-small d t, told-bounded d t)

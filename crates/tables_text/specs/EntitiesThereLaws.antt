@@ -13,6 +13,7 @@ use Rattle.model.specs.Text.Numbers.{bad, most}
 use Rattle.tables_text.specs.EntityLaws.{entityRest, rest-same}
 use Rattle.tables_text.specs.EntityThereLaws.{entity-record-there}
 use Rattle.tables_text.specs.Keys.{entityKey}
+use Rattle.tables_text.specs.LaterLaws.{entities-later}
 use Rattle.tables_text.specs.StageLaws.{either-bad, either-got, head-first, onward-there}
 use Rattle.tables_text.specs.Stages.{entitiesStage, entityRecord, past}
 use Rattle.tables_text.specs.TextOf.{entityText, series}
@@ -21,7 +22,6 @@ use Rattle.tables_text.specs.ToldLaws.{entity-absent, entity-present, to
 use Rattle.tables_text.specs.ValueLaws.{head-there}
 use Rattle.tables_text.specs.Values.{numberLine}
 use borrow.Author.Tests.{eq-eqb, ne-eqb}
-use Rattle.tables_text.specs.LaterLaws.{entities-later}
 
 -- the tables d with entity e of d′
 unfoldable withEntity : ℕ → Tables → Tables → Tables

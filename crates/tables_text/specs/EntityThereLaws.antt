@@ -11,6 +11,7 @@ use Rattle.model.specs.Tables.WordAt.{entityWordAt}
 use Rattle.model.specs.Tables.Words.{EntityWord, Tables, kind, level, mark, maximum, place, places, releaser, shown, tag, triple}
 use Rattle.model.specs.Tables.Words.{triples, type, used, usedPlaces, value}
 use Rattle.model.specs.Text.Numbers.{most}
+use Rattle.tables_text.specs.EntityLaws.{count-most, count-some, entityRest, lineOfPlace}
 use Rattle.tables_text.specs.FieldLaws.{At, Changed, fields-same, fields-there, ok-same, single-tag, singles}
 use Rattle.tables_text.specs.Keys.{entityFields, triplesField, triplesKey}
 use Rattle.tables_text.specs.OnlyLaws.{Only, eq-or-ne}
@@ -22,7 +23,6 @@ use Rattle.tables_text.specs.Told.{EntityTold}
 use Rattle.tables_text.specs.ValueLaws.{field-there}
 use Rattle.tables_text.specs.Values.{numberLine, readField}
 use borrow.Author.Tests.{eq-eqb, le-ltb, lt-ltb, ne-eqb}
-use Rattle.tables_text.specs.EntityLaws.{count-most, count-some, entityRest, lineOfPlace}
 
 -- the entity's words with a tag below b as in d′, and the others as in d
 unfoldable mix : ℕ → ℕ → Tables → Tables → Tables

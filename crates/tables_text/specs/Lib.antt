@@ -19,4 +19,9 @@ pub mod UsersThereLaws
 pub mod EntitiesThereLaws
 pub mod ThereLaws
 pub mod Calls
+pub mod Given
+pub mod GivenLaws
+pub mod WriteLaws
+pub mod ReadLaws
+pub mod CallLaws
 pub mod Due

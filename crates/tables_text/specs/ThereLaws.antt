@@ -13,14 +13,14 @@ use Rattle.model.specs.Tables.WordAt.{entityWordAt, entityWordOf, userWordAt}
 use Rattle.model.specs.Tables.Words.{EntityWord, Tables, UserWord, entityCount, kind, level, mark, maximum, place, placeCount, present, releaser}
 use Rattle.model.specs.Tables.Words.{shown, triple, type, used, userCount, value}
 use Rattle.model.specs.Text.Numbers.{most}
+use Rattle.tables_text.specs.EntitiesThereLaws.{entities-there}
+use Rattle.tables_text.specs.LaterLaws.{users-over}
 use Rattle.tables_text.specs.StageLaws.{onward-there}
 use Rattle.tables_text.specs.Stages.{entitiesStage, noTables, past, reading, usersStage}
 use Rattle.tables_text.specs.TextOf.{entityText, series, tablesText, userLines, userText}
 use Rattle.tables_text.specs.Told.{EntityTold, SmallTables, TablesTold, UserTold}
-use Rattle.tables_text.specs.ValueLaws.{entity-not-end}
-use Rattle.tables_text.specs.LaterLaws.{users-over}
 use Rattle.tables_text.specs.UsersThereLaws.{users-there}
-use Rattle.tables_text.specs.EntitiesThereLaws.{entities-there}
+use Rattle.tables_text.specs.ValueLaws.{entity-not-end}
 
 -- Rule 16.6: the text of tables that can be told is read to its end, as these tables.
 pub reading-told : (d : Tables) → TablesTold d → reading (tablesText d) ≡ past d []

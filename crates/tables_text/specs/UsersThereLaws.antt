@@ -13,6 +13,7 @@ use Rattle.model.specs.Text.Lines.{behind}
 use Rattle.model.specs.Text.Numbers.{bad, most}
 use Rattle.model.specs.Text.Wording.{userKey}
 use Rattle.tables_text.specs.Keys.{userFields}
+use Rattle.tables_text.specs.LaterLaws.{users-later}
 use Rattle.tables_text.specs.StageLaws.{either-bad, either-got, head-first, onward-there}
 use Rattle.tables_text.specs.Stages.{past, userRecord, usersStage}
 use Rattle.tables_text.specs.TextOf.{fieldLines, series, userText, userWords}
@@ -22,7 +23,6 @@ use Rattle.tables_text.specs.UserLaws.{user-record-there}
 use Rattle.tables_text.specs.ValueLaws.{head-there}
 use Rattle.tables_text.specs.Values.{numberLine}
 use borrow.Author.Tests.{eq-eqb, ne-eqb}
-use Rattle.tables_text.specs.LaterLaws.{users-later}
 
 -- the tables d with user u of d′
 unfoldable withUser : ℕ → Tables → Tables → Tables
