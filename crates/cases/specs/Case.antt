@@ -7,6 +7,7 @@ pub mod S1Holds
 pub mod S1Words
 pub mod S1List
 pub mod S1Script
+pub mod S1Text
 pub mod Condemned
 pub mod CondemnedDrops
 pub mod CondemnedHistories
