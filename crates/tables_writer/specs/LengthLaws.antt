@@ -12,7 +12,8 @@ use Rattle.model.specs.Basics.Choice.{pick}
 use Rattle.model.specs.Tables.Layout.{tablesOf}
 use Rattle.model.specs.Tables.RowLaws.{sought}
 use Rattle.model.specs.Tables.Rows.{Sought, seek}
-use Rattle.model.specs.Tables.Words.{Tables, absentKind, entityCount, kinds, operationIn, placeCount, places, positionOf, present, sums, triples, usedPlaces, userCount, whoOf}
+use Rattle.model.specs.Tables.Words.{Tables, absentKind, entityCount, kinds, operationIn, placeCount, places, positionOf, present}
+use Rattle.model.specs.Tables.Words.{sums, triples, usedPlaces, userCount, whoOf}
 use Rattle.model.specs.Text.LineLaws.{length-line}
 use Rattle.model.specs.Text.NumberLaws.{length-most}
 use Rattle.model.specs.Text.Numbers.{digitCount, digits}
@@ -182,6 +183,6 @@ pub text-length : (t : List ℕ)
 unfolding tablesText
 text-length t = length-append (series userCount 1 (userText (tablesOf t))) (series entityCount 1 (entityText (tablesOf t)))
 
--- and fits in 32 bits
+-- so long at most, whatever the words are
 pub text-most : (t : List ℕ) → Writable t → length (textOfTables t) ≤ userCount * userMost + entityCount * entityMost
 text-most t w = omega (arith, text-length t, users-most (tablesOf t) userCount, entities-most (tablesOf t) entityCount (w .room))

@@ -5,7 +5,6 @@ use names::kind;
 use names::size;
 use names::word;
 use tables::Entity;
-ghost use mathlib.Core.Path.{_≡_};
 ghost use Prim.Native.Nat.{_+_, _<_, _≤_};
 ghost use lib.ListN.{length};
 ghost use Rattle.lines.specs.Onto.{Puts};

@@ -12,7 +12,7 @@ mod users;
 mod values;
 
 // The bytes of the longest text of tables (rule 16.7).
-const TEXT_MOST: usize = 60000;
+const TEXT_MOST: usize = 17721;
 
 // The answer, and how many bytes the text has. With a refusal that is not for want of room, `bytes` is 0.
 pub struct Written {
