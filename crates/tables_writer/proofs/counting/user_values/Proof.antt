@@ -1,0 +1,75 @@
+use native.Mathlib.Omega.{arith}
+use mathlib.Core.Path.{_≡_}
+use Prim.Native.Nat.{_-_, _≤_}
+use lib.ListN.{length}
+use Rattle.model.specs.Tables.Layout.{tablesOf}
+use Rattle.tables_writer.specs.SeriesLaws.{series-more, series-zero}
+use Prim.Native.Nat.{_+_}
+use borrow.Author.Needs.{needs}
+use Rattle.tables.specs.Singles.{singleCount}
+use Rattle.tables_text.specs.TextOf.{series, userWords}
+use Rattle.tables_writer.specs.FieldAt.{digitsAt, userLineCount}
+use Rattle.tables_writer.specs.LengthLaws.{digits-bound, values-most}
+use Rattle.tables_writer.proofs.counting.user_values.Statement.{statement}
+use Rattle.tables_writer.proofs.counting.user_values.Tie as tie
+
+abbrev Inv-loop : tie.InvT-loop
+Inv-loop tables u n₀ j₀ n j = (1 ≤ j) × (j ≤ singleCount) × (n ≡ length (series (j - 1) 1 (digitsAt (userWords (tablesOf tables) (u .0)))))
+
+abbrev μ-loop : tie.MeasureT-loop
+μ-loop tables u n₀ j₀ n j = singleCount - j
+
+loop-holds : tie.Need-loop-holds Inv-loop μ-loop
+loop-holds c = (omega arith, omega arith, series-zero 1 _)
+
+user-at-requires : tie.Need-user-at-requires Inv-loop μ-loop
+user-at-requires c κs = (c .before .before .before .pre, omega arith)
+
+number-len-requires : tie.Need-number-len-requires Inv-loop μ-loop
+number-len-requires c κs = search needs
+
+add-n : tie.Need-add-n Inv-loop μ-loop
+add-n c =
+    let s5 : _ → _ = λ _. c .before .before .before .before .before in
+    omega (
+      arith,
+      digits-bound _ (c .number-len .ensures),
+      c .before .before .before .loop .inv .2,
+      values-most
+          (c .before .before .before .loop .j - 1) 1 (userWords (tablesOf (s5 c .args .tables .now)) (s5 c .args .u .0)),
+    )
+
+add-j : tie.Need-add-j Inv-loop μ-loop
+add-j c = omega arith
+
+loop-less : tie.Need-loop-less Inv-loop μ-loop
+loop-less c = omega arith
+
+loop-again : tie.Need-loop-again Inv-loop μ-loop
+loop-again c =
+    let s5 : _ → _ = λ _. c .before .before .before .before .before in
+    let e : c .before .before .before .loop .j + 1 - 1 ≡ c .before .before .before .loop .j - 1 + 1 = omega arith in (
+      omega arith,
+      omega arith,
+      rw (c .before .before .before .loop .inv .2, c .number-len .ensures, c .before .user-at .ensures, e)
+          (series-more (c .before .before .before .loop .j - 1) 1 (digitsAt (userWords (tablesOf (s5 c .args .tables .now)) (s5 c .args .u .0)))
+          (omega arith)),
+    )
+
+returns : tie.Need-returns Inv-loop μ-loop
+returns c = let e : c .before .loop .j - 1 ≡ userLineCount = omega arith in rw e at (c .before .loop .inv .2)
+
+pub user-values-spec : {M : Type 1} → statement M
+user-values-spec =
+    tie.close
+    (tie.spec
+    Inv-loop
+    μ-loop
+    loop-holds
+    user-at-requires
+    number-len-requires
+    add-n
+    add-j
+    loop-less
+    loop-again
+    returns)
