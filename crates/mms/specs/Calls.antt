@@ -1,11 +1,11 @@
--- Document 01, "What a reader can rely on"; document 02, M-100: the calls that are linked, as sentences about what was lent, the word that C gets and
+-- Document 01, "What a reader can rely on"; document 02, M-100 and M-103: the calls that are linked, as sentences about what was lent, the word that C gets and
 -- what stands afterwards. Each is what the call's contract in src/lib.rt ensures, under a name that can be read aloud.
 use mathlib.Core.List.{List, [], _++_, _∷_}
 use mathlib.Core.Logic.{_≢_, _⊎_}
 use mathlib.Core.Path.{_≡_}
 use Prim.Native.Nat.{_%_, _*_, _/_, _<_, _≤_, suc, ℕ}
-use lib.ListN.{getD, length, take}
-use Rattle.mms.specs.Contract.{Exports, Listing, Reading, Running, Stepping, Writing, checking, exported, numbers}
+use lib.ListN.{drop, getD, length, take}
+use Rattle.mms.specs.Contract.{Exports, Listing, Reading, ReadingTables, Running, Stepping, Writing, WritingTables, checking, exported, numbers}
 use Rattle.model.specs.Request.Words.{requestOf}
 use Rattle.model.specs.Run.Requests.{Requests}
 use Rattle.model.specs.Script.Reports.{Report, unread}
@@ -41,6 +41,14 @@ WriteCall w room a r = Exports (Writing w room) a r
 -- `mms_run`, lent the tables t, the words w of requests and a room for answers, answers a, and leaves r in the tables and s in the room.
 abbrev pub RunCall : List ℕ → List ℕ → List ℕ → ℕ → List ℕ → List ℕ → Type 0
 RunCall t w room a r s = Exports (λ b u. Running t w room b u s) a r
+
+-- `mms_write_tables`, lent the tables t and a room, answers a and leaves r in the room.
+abbrev pub WriteTablesCall : List ℕ → List ℕ → ℕ → List ℕ → Type 0
+WriteTablesCall t room a r = Exports (WritingTables t room) a r
+
+-- `mms_read_tables`, lent the text s and the words t, answers a and leaves r in the words.
+abbrev pub ReadTablesCall : List ℕ → List ℕ → ℕ → List ℕ → Type 0
+ReadTablesCall s t a r = Exports (ReadingTables s t) a r
 
 -- Rule 8.6: the answer in the word that C gets,
 abbrev pub noIn : ℕ → ℕ
@@ -100,6 +108,12 @@ pub record SingleSteps (t : List ℕ) (qs : List (List ℕ)) (ns u : List ℕ) :
 pub record OnlyNotice (t : List ℕ) (u : ℕ) (r : List ℕ) : Type 0 where
   pub size : length r ≡ length t
   pub others : (i : ℕ) → (userAt u held ≤ i → i ≤ userAt u missed → ⊥) → getD r i 0 ≡ getD t i 0
+
+-- Rules 11.3 and 16.4: a writer, with the answer b and what stands in the room afterwards, has written the text s, or had too little room for it.
+pub record TextWritten (s room : List ℕ) (b : ℕ) (r : List ℕ) : Type 0 where
+  pub bytes : numberIn b ≡ length s
+  pub fits : length s ≤ length room → (noIn b ≡ refusal.accepted) × (r ≡ s ++ drop (length s) room)
+  pub short : length room < length s → (noIn b ≡ refusal.tooShort) × (r ≡ room)
 
 -- Rule 12.4: no text of a request stands at the front of the bytes s.
 abbrev pub NoRequest : List ℕ → Type 0

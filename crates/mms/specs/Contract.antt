@@ -1,4 +1,4 @@
--- Document 01, "The refusal ladder" and "What a reader can rely on"; document 02, M-100; rules 8.6 and 14.1: what the public calls promise, for all
+-- Document 01, "The refusal ladder" and "What a reader can rely on"; document 02, M-100 and M-103; rules 8.6 and 14.1: what the public calls promise, for all
 -- words. Every call answers a pair; the check, the step and the run have no number to give.
 use mathlib.Core.List.{List}
 use mathlib.Core.Path.{_≡_}
@@ -11,6 +11,7 @@ use Rattle.model.specs.State.Check.{check}
 use Rattle.model.specs.Text.Numbers.{most}
 use Rattle.model.specs.Text.Reading.{Reads}
 use Rattle.model.specs.Text.Writing.{Writes}
+use Rattle.tables_text.specs.Calls.{ReadsTables, WritesTables}
 
 -- Rule 8.5: the state check of any words.
 abbrev pub checking : List ℕ → Answer
@@ -42,6 +43,14 @@ pub record Running (t w room : List ℕ) (a : Answer) (r s : List ℕ) : Type 0 
   pub answer : a ≡ record { no = runAnswer t w room; number = 0 }
   pub tables : r ≡ runTables t w room
   pub answers : s ≡ runRoom t w room
+
+-- Rule 16.4: the answer a, and the bytes r that stand in the room afterwards. The tables are only read.
+abbrev pub WritingTables : List ℕ → List ℕ → Answer → List ℕ → Type 0
+WritingTables t room a r = WritesTables t room (a .no) (a .number) r
+
+-- Rule 16.5: the answer a, and the words r that stand in the tables afterwards. The text is only read.
+abbrev pub ReadingTables : List ℕ → List ℕ → Answer → List ℕ → Type 0
+ReadingTables s t a r = ReadsTables s t (a .no) (a .number) r
 
 -- how many numbers 32 bits can be
 abbrev pub numbers : ℕ

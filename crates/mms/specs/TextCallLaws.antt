@@ -9,8 +9,7 @@ use lib.Dec.{T, eqb, leb}
 use lib.ListN.{length, take}
 use Rattle.mms.specs.AnswerLaws.{read-answers, readAnswers}
 use Rattle.mms.specs.CallLaws.{read-halves, write-halves}
-use Rattle.mms.specs.Calls.{ReadCall, WriteCall, noIn, numberIn}
-use Rattle.mms.specs.Demands.{TextWritten}
+use Rattle.mms.specs.Calls.{ReadCall, TextWritten, WriteCall, noIn, numberIn}
 use Rattle.model.specs.Basics.Cases.{cases, lt-or-le}
 use Rattle.model.specs.Basics.Choice.{Same, it, other, pick, same}
 use Rattle.model.specs.Basics.TestLaws.{is-true}

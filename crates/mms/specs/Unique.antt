@@ -5,7 +5,7 @@ use mathlib.Core.Path.{_∙_, _≡_, ap, sym}
 use Prim.Native.Nat.{_%_, _*_, _+_, _/_, _<_, ℕ}
 use native.Mathlib.Omega.{arith}
 use lib.ListN.{length}
-use Rattle.mms.specs.Contract.{Exports, Listing, Reading, Running, Stepping, Writing, checking, exported, numbers}
+use Rattle.mms.specs.Contract.{Exports, Listing, Reading, ReadingTables, Running, Stepping, Writing, WritingTables, checking, exported, numbers}
 use Rattle.mms.specs.declared.Answer.{Answer}
 use Rattle.model.specs.List.Complete.{Complete}
 use Rattle.model.specs.List.Listing.{barred, listAnswer, listNumber, opens, roomAfter}
@@ -15,6 +15,9 @@ use Rattle.model.specs.Run.Run.{Run}
 use Rattle.model.specs.Run.RunLaws.{run-computed, run-unique}
 use Rattle.model.specs.Text.BothWays.{read-number-small, reads-unique, write-number-small, writes-unique}
 use Rattle.model.specs.Theorem.Unique.{settles, settles-unique}
+use Rattle.tables_text.specs.CallLaws.{reads-unique as tables-reads-unique, writes-unique as tables-writes-unique}
+use Rattle.tables_text.specs.LineMostLaws.{read-number-most}
+use Rattle.tables_text.specs.LongestCallLaws.{number-longest}
 
 -- The state check has one answer.
 pub check-unique : (t : List ℕ) (a b : Answer) → a ≡ checking t → b ≡ checking t → a ≡ b
@@ -71,6 +74,18 @@ write-unique w room a b r s x y =
     let z = writes-unique x y in
     (λ i. record { no = z .0 i; number = z .1 i }, z .2)
 
+-- The writer of tables has one answer, and leaves one room.
+pub write-tables-unique : (t room : List ℕ) (a b : Answer) (r s : List ℕ) → WritingTables t room a r → WritingTables t room b s → (a ≡ b) × (r ≡ s)
+write-tables-unique t room a b r s x y =
+    let z = tables-writes-unique x y in
+    (λ i. record { no = z .0 i; number = z .1 i }, z .2)
+
+-- The reader of tables has one answer, and leaves one list of words.
+pub read-tables-unique : (s t : List ℕ) (a b : Answer) (u v : List ℕ) → ReadingTables s t a u → ReadingTables s t b v → (a ≡ b) × (u ≡ v)
+read-tables-unique s t a b u v x y =
+    let z = tables-reads-unique x y in
+    (λ i. record { no = z .0 i; number = z .1 i }, z .2)
+
 -- Two answers of 32 bits each are one where C gets one word.
 pub exported-unique : (a b : Answer) → a .number < numbers → b .number < numbers → exported a ≡ exported b → a ≡ b
 exported-unique a b h k e =
@@ -121,10 +136,28 @@ pub exported-read-parts : (s w : List ℕ) (a : ℕ) (u : List ℕ) (x : Exports
     → (a / numbers ≡ x .answer .no) × (a % numbers ≡ x .answer .number)
 exported-read-parts s w = exports-parts (Reading s w) (λ a u y. omega (arith, y .number, read-number-small s w))
 
--- and with the writer.
+-- with the writer,
 pub exported-write-unique : (w room : List ℕ) (a b : ℕ) (r s : List ℕ) → Exports (Writing w room) a r → Exports (Writing w room) b s → (a ≡ b) × (r ≡ s)
 exported-write-unique w room = exports-unique (Writing w room) (write-unique w room)
 
 pub exported-write-parts : (w room : List ℕ) (a : ℕ) (r : List ℕ) (x : Exports (Writing w room) a r)
     → (a / numbers ≡ x .answer .no) × (a % numbers ≡ x .answer .number)
 exported-write-parts w room = exports-parts (Writing w room) (λ a r y. omega (arith, y .number, write-number-small w))
+
+-- with the writer of tables,
+pub exported-write-tables-unique : (t room : List ℕ) (a b : ℕ) (r s : List ℕ) → Exports (WritingTables t room) a r → Exports (WritingTables t room) b s
+    → (a ≡ b) × (r ≡ s)
+exported-write-tables-unique t room = exports-unique (WritingTables t room) (write-tables-unique t room)
+
+pub exported-write-tables-parts : (t room : List ℕ) (a : ℕ) (r : List ℕ) (x : Exports (WritingTables t room) a r)
+    → (a / numbers ≡ x .answer .no) × (a % numbers ≡ x .answer .number)
+exported-write-tables-parts t room = exports-parts (WritingTables t room) (λ a r y. omega (arith, y .number, number-longest t))
+
+-- and with the reader of tables.
+pub exported-read-tables-unique : (s t : List ℕ) (a b : ℕ) (u v : List ℕ) → Exports (ReadingTables s t) a u → Exports (ReadingTables s t) b v
+    → (a ≡ b) × (u ≡ v)
+exported-read-tables-unique s t = exports-unique (ReadingTables s t) (read-tables-unique s t)
+
+pub exported-read-tables-parts : (s t : List ℕ) (a : ℕ) (u : List ℕ) (x : Exports (ReadingTables s t) a u)
+    → (a / numbers ≡ x .answer .no) × (a % numbers ≡ x .answer .number)
+exported-read-tables-parts s t = exports-parts (ReadingTables s t) (λ a u y. omega (arith, y .number, read-number-most s t))

@@ -2,7 +2,7 @@
 // number, and a count, a need or a line that goes with some of these. The check, the step and the run have no second number, and give 0.
 use names::text;
 ghost use mathlib.Core.Path.{_≡_};
-ghost use Rattle.mms.specs.Contract.{Exports, Listing, Reading, Running, Stepping, Writing, checking, exported};
+ghost use Rattle.mms.specs.Contract.{Exports, Listing, Reading, ReadingTables, Running, Stepping, Writing, WritingTables, checking, exported};
 
 // A call's answer: document 01's number, and what goes with it.
 pub struct Answer {
@@ -71,6 +71,30 @@ pub fn write(request: &[u32], room: &mut [u8]) -> Answer
     }
 }
 
+// The writer of tables puts their text at the front of the room, and answers its bytes. Tables that are not well-formed have no text; those that are not
+// secure are written like others. Where the room is too short, it answers the bytes that the text needs, and the room stays.
+pub fn write_tables(tables: &[u32], room: &mut [u8]) -> Answer
+    ensures { λ r. ⌜ WritingTables (now (tables .entry)) (now (room .entry)) r (now (room .exit)) ⌝ }
+{
+    let w = tables_writer::write_tables(tables, room);
+    Answer {
+        no: w.answer,
+        number: w.bytes,
+    }
+}
+
+// The reader of tables gives the words of a text. Where the text breaks a line rule, it answers the first line that is bad or missing; where its tables are
+// not well-formed, it says so. The words change only where neither is.
+pub fn read_tables(text: &[u8], tables: &mut [u32]) -> Answer
+    ensures { λ r. ⌜ ReadingTables (now (text .entry)) (now (tables .entry)) r (now (tables .exit)) ⌝ }
+{
+    let p = tables_reader::read_tables(text, tables);
+    Answer {
+        no: p.answer,
+        number: p.line,
+    }
+}
+
 // The answer in one word: document 01's number in the upper half, and what goes with it in the lower.
 fn packed(no: u32, number: u32) -> u64
     ensures { λ r. ⌜ r ≡ exported (record { no = no; number = number }) ⌝ }
@@ -130,5 +154,23 @@ pub extern "C" fn mms_write(request: &[u32], room: &mut [u8]) -> u64
     ensures { λ r. ⌜ Exports (Writing (now (request .entry)) (now (room .entry))) r (now (room .exit)) ⌝ }
 {
     let a = write(request, room);
+    packed(a.no, a.number)
+}
+
+// `write_tables` for C.
+#[no_mangle]
+pub extern "C" fn mms_write_tables(tables: &[u32], room: &mut [u8]) -> u64
+    ensures { λ r. ⌜ Exports (WritingTables (now (tables .entry)) (now (room .entry))) r (now (room .exit)) ⌝ }
+{
+    let a = write_tables(tables, room);
+    packed(a.no, a.number)
+}
+
+// `read_tables` for C.
+#[no_mangle]
+pub extern "C" fn mms_read_tables(text: &[u8], tables: &mut [u32]) -> u64
+    ensures { λ r. ⌜ Exports (ReadingTables (now (text .entry)) (now (tables .entry))) r (now (tables .exit)) ⌝ }
+{
+    let a = read_tables(text, tables);
     packed(a.no, a.number)
 }
