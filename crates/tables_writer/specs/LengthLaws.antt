@@ -20,7 +20,7 @@ use Rattle.model.specs.Text.Numbers.{digitCount, digits}
 use Rattle.model.specs.Text.Wording.{userKey}
 use Rattle.tables.specs.Singles.{singleCount}
 use Rattle.tables_text.specs.Calls.{textOfTables}
-use Rattle.tables_text.specs.Keys.{Field, entityFields, entityKey, triplesKey, userFields}
+use Rattle.tables_text.specs.Keys.{Field, contentKey, entityFields, entityKey, tripleKey, triplesKey, userFields}
 use Rattle.tables_text.specs.TextOf.{entityLines, entityText, entityWords, fieldLines, placeAt, series, tablesText, tripleAt, tripleCount, userLines, userText}
 use Rattle.tables_text.specs.TextOf.{userWords}
 use Rattle.tables_text.specs.Values.{numberLine, tripleLine}
@@ -118,17 +118,19 @@ module _ (d : Tables) where
 pub digits-bound : {r : ℕ} (n : ℕ) → r ≡ length (digits n) → r ≤ digitCount
 digits-bound {r} n e = omega (arith, length-most n)
 
+-- a user with the number and seven words; the lines of a place and of a triple; and an entity with the number, eight words, eight places and eight triples,
+-- where every number has ten digits
 abbrev pub userMost : ℕ
-userMost = 151
+userMost = userMarks + suc userLineCount * digitCount
 
 abbrev pub placeMost : ℕ
-placeMost = 30
+placeMost = length contentKey + (2 + 2 * digitCount)
 
 abbrev pub tripleMost : ℕ
-tripleMost = 40
+tripleMost = length tripleKey + (3 + 3 * digitCount)
 
 abbrev pub entityMost : ℕ
-entityMost = 736
+entityMost = entityMarks + ((2 + singleCount) * digitCount + (placeCount * placeMost + placeCount * tripleMost))
 
 pub values-most : (k i : ℕ) (w : ℕ → ℕ) → length (series k i (digitsAt w)) ≤ k * digitCount
 values-most k i w = series-most k i digitCount (digitsAt w) (λ j. length-most (w j))
