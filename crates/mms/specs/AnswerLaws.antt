@@ -24,12 +24,12 @@ use Rattle.model.specs.Text.Writing.{Writes, hasText, textOfWords, writeAnswer,
 use Rattle.model.specs.Request.Refusals as refusal
 
 -- a number is one of a list
-unfoldable has : ℕ → List ℕ → Bool
+unfoldable pub has : ℕ → List ℕ → Bool
 has n [] = false
 has n (x ∷ l) = eqb n x || has n l
 
 -- and so a member of it
-has-member : (n : ℕ) (l : List ℕ) → T (has n l) → List·Memᴰ n l
+pub has-member : (n : ℕ) (l : List ℕ) → T (has n l) → List·Memᴰ n l
 unfolding has
 has-member n [] t = absurd t
 has-member n (x ∷ l) t = go (eqb n x) (same n x) t (has-member n l)

@@ -11,6 +11,7 @@ use Rattle.mms.specs.HistoryLaws.{step-effect, step-released, step-trans
 use Rattle.mms.specs.MixedLaws.{mixed-history, mixed-once, mixed-through, through-run, through-singly}
 use Rattle.mms.specs.RunCallLaws.{run-accepts, run-nothing, run-refuses, run-spare, run-through, run-unsound}
 use Rattle.mms.specs.ScriptOutputLaws.{script-calls}
+use Rattle.mms.specs.TablesCallLaws.{tablesAsText}
 use Rattle.mms.specs.TextCallLaws.{others-refused, read-length, read-names, read-only, read-refuses, read-text, read-written}
 use Rattle.mms.specs.TextCallLaws.{words-of-text, write-length, write-refuses, write-text, written-read}
 use Rattle.model.specs.Request.Applies.{Lowest}
@@ -66,4 +67,5 @@ demandTwo = record {
   writeRefuses = write-refuses;
   readThenWrite = read-written;
   writeThenRead = written-read;
+  tablesText = tablesAsText;
 }

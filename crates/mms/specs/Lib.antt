@@ -1,11 +1,14 @@
 -- What the public calls promise, that nothing else satisfies it, and the three demands as theorems about them.
 pub mod Contract
 pub mod Calls
+pub mod TablesAsText
 pub mod Demands
 pub mod Unique
 pub mod RoundTrip
 pub mod CallLaws
 pub mod AnswerLaws
+pub mod TablesAnswerLaws
+pub mod TablesCallLaws
 pub mod NoticeWordLaws
 pub mod RunCallLaws
 pub mod HistoryLaws
