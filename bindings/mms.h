@@ -1,5 +1,5 @@
 /*
- * The message desk for C and C++: the six calls of the proved archive,
+ * The message desk for C and C++: the eight calls of the proved archive,
  * libmms.a, and names for the numbers that they take and give. Rules are cited
  * by their numbers in docs/RULES.md, which says all that the calls do.
  *
@@ -16,8 +16,8 @@
  *   - What a call may write to does not overlap the call's other slices: the
  *     tables of a step not its request, the tables and the places of a run not
  *     each other and not its requests, the room of a list not the tables, the
- *     words that are read not their text, the text that is written not its
- *     words.
+ *     words or tables that are read not their text, the text that is written
+ *     not its words or tables.
  *
  * Of the contents nothing is asked: each call answers for any words and bytes.
  *
@@ -44,10 +44,12 @@ extern "C" {
  * 64 bits; mms_answer and mms_number take them apart. The number is
  *
  *   with MMS_ACCEPTED of mms_list    the entries that it wrote
- *   with MMS_ACCEPTED of mms_write   the bytes that it wrote
+ *   with MMS_ACCEPTED of mms_write   the bytes that it wrote, and so it is of
+ *                                    mms_write_tables
  *   with MMS_TOO_SHORT               the entries or bytes that there are
- *   with MMS_NOT_A_REQUEST           the first line that is bad or missing, 1
- *                                    to 7, or 8 for bytes behind the last
+ *   with MMS_NOT_A_REQUEST           the first line that is bad or missing,
+ *                                    from 1 on; of a request 1 to 7, or 8 for
+ *                                    bytes behind the last
  *   and else                         0
  *
  * What is not said to change stays as it was.
@@ -94,6 +96,22 @@ uint64_t mms_read(const uint8_t *text, size_t text_len, uint32_t *request, size_
  */
 uint64_t mms_write(const uint32_t *request, size_t request_len, uint8_t *room, size_t room_len);
 
+/*
+ * The text of tables (16.4): 0, 1, 2 or 17. With 0 it stands at the front of the
+ * room, with no zero behind it; bytes behind it stay. Tables that are well-formed
+ * and not secure are written. It has at most MMS_TABLES_TEXT_MOST bytes, so that
+ * a room of that length is never too short; a room of length 0 asks how many
+ * there are.
+ */
+uint64_t mms_write_tables(const uint32_t *tables, size_t tables_len, uint8_t *room, size_t room_len);
+
+/*
+ * The tables of a text (16.5): 0, 1, 2 or 18. With 0 all their words are written.
+ * 18 comes before 2: the text is read to its end first, and where each line is
+ * good and the tables are not well-formed it is 2.
+ */
+uint64_t mms_read_tables(const uint8_t *text, size_t text_len, uint32_t *tables, size_t tables_len);
+
 /* The answer, an mms_refusal, of what a call returned. */
 static inline uint32_t mms_answer(uint64_t returned)
 {
@@ -120,7 +138,8 @@ enum mms_size {
     MMS_ENTRY_WORDS = 5, /* of a reference: its length, four names, 0 behind the length */
     MMS_PLACES = 8,
     MMS_TRIPLES = 8,
-    MMS_TEXT_MOST = 166, /* bytes of the longest text */
+    MMS_TEXT_MOST = 166,          /* bytes of the longest text of a request */
+    MMS_TABLES_TEXT_MOST = 17721, /* bytes of the longest text of tables */
     MMS_LEVEL_MOST = 1023,
     MMS_ROLES_MOST = 255,
     MMS_MISSED_MOST = 65535
@@ -147,7 +166,7 @@ enum mms_refusal {
     MMS_ARRANGEMENT = 15,      /* the arrangement does not allow it */
     MMS_NOT_ACKNOWLEDGED = 16, /* the acknowledgement is not of what is held */
     MMS_TOO_SHORT = 17,        /* the room lent for output is too short */
-    MMS_NOT_A_REQUEST = 18     /* the text is no request */
+    MMS_NOT_A_REQUEST = 18     /* the text is no request, or not one of tables */
 };
 
 /* ---- requests (5, 6) ---- */

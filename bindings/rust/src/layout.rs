@@ -10,6 +10,8 @@ pub const ENTRY_WORDS: usize = 1 + NAMES;
 pub const STATE_BYTES: usize = TABLE_WORDS * WORD_BYTES;
 /// Bytes of the longest request text [rule 11.2].
 pub const TEXT_MOST: usize = 166;
+/// Bytes of the longest text of tables [rule 16.7].
+pub const TABLES_TEXT_MOST: usize = 17_721;
 
 /// Users that the tables have records for.
 pub(crate) const USERS: usize = 16;

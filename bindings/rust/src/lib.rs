@@ -27,8 +27,10 @@
 //! }
 //! ```
 //!
-//! What is proved is the archive behind [`words`]: its six calls answer as the rules say, for any words and bytes. The
-//! types here are ordinary Rust that hands words to those calls and takes them back. [`words`] is there for who has
+//! Tables can be kept as words, with [`Tables::to_bytes`], or as lines that people read, with [`Tables::to_text`].
+//!
+//! What is proved is the archive behind [`words`]: its eight calls answer as the rules say, for any words and bytes.
+//! The types here are ordinary Rust that hands words to those calls and takes them back. [`words`] is there for who has
 //! slices of their own.
 //!
 //! No call keeps what it was lent, allocates inside the archive or has a state of its own, so different tables can be
@@ -52,7 +54,7 @@ mod triple;
 #[allow(unsafe_code)] // the one place where the archive is called, and requests are taken as their words
 pub mod words;
 
-pub use layout::{ENTRY_WORDS, REQUEST_WORDS, STATE_BYTES, TABLE_WORDS, TEXT_MOST};
+pub use layout::{ENTRY_WORDS, REQUEST_WORDS, STATE_BYTES, TABLES_TEXT_MOST, TABLE_WORDS, TEXT_MOST};
 pub use level::{Entity, Level, User};
 pub use numbered::OutOfRange;
 pub use operation::{Kind, Operation, Position, Sort, Type};

@@ -57,7 +57,7 @@ pub enum Refusal {
         /// What there would have to be room for, in entries of a list or in bytes of a text.
         need: u32,
     },
-    /// 18: a text is no request.
+    /// 18: a text is no request, or not one of tables.
     NotARequest(
         /// Where it fails.
         BadLine,
@@ -66,7 +66,7 @@ pub enum Refusal {
 
 impl Refusal {
     /// The refusal of this number. `with` is what goes with it: the need with 17, the line with 18; with the others it
-    /// counts for nothing. `None` for a number that is no refusal, and for 18 with a line that is not 1 to 8.
+    /// counts for nothing. `None` for a number that is no refusal, and for 18 with line 0.
     pub const fn from_number(number: u32, with: u32) -> Option<Refusal> {
         Some(match number {
             1 => Refusal::BadLength,
@@ -138,7 +138,7 @@ impl Refusal {
             Refusal::Arrangement => "the arrangement does not allow it",
             Refusal::NotAcknowledged => "this is not the refusal that is held, or not how many were missed",
             Refusal::TooShort { .. } => "the room for the output is too short",
-            Refusal::NotARequest(_) => "the text is no request",
+            Refusal::NotARequest(_) => "a line of the text is bad or missing",
         }
     }
 }
@@ -155,8 +155,12 @@ impl fmt::Display for Refusal {
 
 impl Error for Refusal {}
 
-/// Where a text fails to be a request: the first line that is bad or missing, or 8 where seven good lines are followed
-/// by more [rule 11.4].
+/// Where a text fails to be a request or to be one of tables: its first line that is bad or missing, counted from 1
+/// [rules 11.4, 16.3].
+///
+/// A line is missing where the text ends before it, and then it is one more than the last. A request has seven lines,
+/// and what follows them is a bad line 8. Where lines of tables are good and too many, the first that is too much is
+/// bad.
 ///
 /// ```
 /// use mms::Request;
@@ -164,27 +168,23 @@ impl Error for Refusal {}
 /// fn main() {
 ///     let refused = Request::from_text(b"user=2\nop=ten\n").unwrap_err();
 ///     assert_eq!(refused.line(), 2);
-///     assert_eq!(refused.to_string(), "the text is no request: line 2 is bad or missing");
+///     assert_eq!(refused.to_string(), "line 2 of the text is bad or missing");
 /// }
 /// ```
 #[derive(Clone, Copy, Debug, PartialEq, Eq, Hash, PartialOrd, Ord)]
 pub struct BadLine(u32);
 
-/// Lines of a request, and the line that stands for what follows them.
-const LINES: u32 = 7;
-const BEHIND: u32 = LINES + 1;
-
 impl BadLine {
-    /// The line of this number, 1 to 8; `None` for another.
+    /// The line of this number; `None` for 0, since the first is 1.
     pub const fn from_number(line: u32) -> Option<BadLine> {
-        if line >= 1 && line <= BEHIND {
+        if line >= 1 {
             Some(BadLine(line))
         } else {
             None
         }
     }
 
-    /// The line, 1 to 8.
+    /// The line, from 1 on.
     pub const fn line(self) -> u32 {
         self.0
     }
@@ -192,12 +192,7 @@ impl BadLine {
 
 impl fmt::Display for BadLine {
     fn fmt(&self, f: &mut fmt::Formatter<'_>) -> fmt::Result {
-        let reason = Refusal::NotARequest(*self).reason();
-        if self.0 == BEHIND {
-            write!(f, "{}: something follows line {}", reason, LINES)
-        } else {
-            write!(f, "{}: line {} is bad or missing", reason, self.0)
-        }
+        write!(f, "line {} of the text is bad or missing", self.0)
     }
 }
 

@@ -1,6 +1,7 @@
 //! The tables, owned, and the desk's calls on them.
 mod building;
 mod reading;
+mod text;
 pub use reading::Notice;
 
 use crate::layout::{ENTITY_WORDS, ENTRY_WORDS, STATE_BYTES, TABLE_WORDS, USERS, USER_WORDS, WORD_BYTES};

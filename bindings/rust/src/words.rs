@@ -23,8 +23,7 @@ use std::slice;
 pub struct Answer {
     /// 0 for accepted, else the refusal's number.
     pub no: u32,
-    /// With 0 of the list or of the writer the entries or bytes written, with 17 those needed, with 18 the line; else
-    /// 0.
+    /// With 0 of the list or of a writer the entries or bytes written, with 17 those needed, with 18 the line; else 0.
     pub number: u32,
 }
 
@@ -42,6 +41,8 @@ extern "C" {
     fn mms_list(tables: *const u32, tables_len: usize, user: u32, room: *mut u32, room_len: usize) -> u64;
     fn mms_read(text: *const u8, text_len: usize, request: *mut u32, request_len: usize) -> u64;
     fn mms_write(request: *const u32, request_len: usize, room: *mut u8, room_len: usize) -> u64;
+    fn mms_write_tables(tables: *const u32, tables_len: usize, room: *mut u8, room_len: usize) -> u64;
+    fn mms_read_tables(text: *const u8, text_len: usize, tables: *mut u32, tables_len: usize) -> u64;
 }
 
 /// The words of requests, one request behind the other, where they lie.
@@ -175,4 +176,48 @@ pub fn read(text: &[u8], request: &mut [u32]) -> Answer {
 pub fn write(request: &[u32], room: &mut [u8]) -> Answer {
     // SAFETY: as for `step`.
     unpacked(unsafe { mms_write(request.as_ptr(), request.len(), room.as_mut_ptr(), room.len()) })
+}
+
+/// The text of tables [rule 16.4], at the front of the room: 0 with its bytes, 17 with the bytes that it needs, 2 for
+/// tables that are not well-formed, or 1. Tables that are not secure have a text too. The room changes only with 0, and
+/// only in the bytes of the text.
+///
+/// ```
+/// use mms::words::{self, Answer};
+///
+/// fn main() {
+///     let mut tables = [0; 2304];
+///     // tables with no record have the empty text
+///     assert_eq!(words::write_tables(&tables, &mut []), Answer { no: 0, number: 0 });
+///     tables[16] = 1; // there is a user 2
+///     let mut room = [b'-'; 80];
+///     assert_eq!(words::write_tables(&tables, &mut room), Answer { no: 0, number: 79 });
+///     assert_eq!(room[..19], *b"user=2\nclearance=0\n");
+///     assert_eq!(room[79], b'-');
+///     assert_eq!(words::write_tables(&tables, &mut room[..78]), Answer { no: 17, number: 79 });
+/// }
+/// ```
+pub fn write_tables(tables: &[u32], room: &mut [u8]) -> Answer {
+    // SAFETY: as for `step`.
+    unpacked(unsafe { mms_write_tables(tables.as_ptr(), tables.len(), room.as_mut_ptr(), room.len()) })
+}
+
+/// The tables of a text [rule 16.5]: 0, or 18 with the first line that is bad or missing, or 2 where all lines are good
+/// and the tables are not well-formed, or 1. The tables change only with 0.
+///
+/// ```
+/// use mms::words::{self, Answer};
+///
+/// fn main() {
+///     let mut tables = [7; 2304];
+///     assert_eq!(words::read_tables(b"user=2\nclearance=00\n", &mut tables), Answer { no: 18, number: 2 });
+///     assert_eq!(words::read_tables(b"user=2\nclearance=0\n", &mut tables), Answer { no: 18, number: 3 });
+///     assert_eq!(tables, [7; 2304]);
+///     assert_eq!(words::read_tables(b"", &mut tables), Answer { no: 0, number: 0 });
+///     assert_eq!(tables, [0; 2304]);
+/// }
+/// ```
+pub fn read_tables(text: &[u8], tables: &mut [u32]) -> Answer {
+    // SAFETY: as for `step`.
+    unpacked(unsafe { mms_read_tables(text.as_ptr(), text.len(), tables.as_mut_ptr(), tables.len()) })
 }

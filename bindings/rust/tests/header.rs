@@ -103,6 +103,7 @@ fn positions() -> Vec<(&'static str, usize)> {
         ("MMS_PLACES", layout::ROW),
         ("MMS_TRIPLES", layout::ROW),
         ("MMS_TEXT_MOST", mms::TEXT_MOST),
+        ("MMS_TABLES_TEXT_MOST", mms::TABLES_TEXT_MOST),
         ("MMS_REQUEST_USER", request::USER),
         ("MMS_REQUEST_OPERATION", request::OPERATION),
         ("MMS_REQUEST_FIRST", request::FIRST),
@@ -170,6 +171,7 @@ fn in_rust(parameter: &str) -> String {
 #[test]
 fn every_call_of_the_header_is_declared_in_the_crate_and_takes_the_same() {
     let calls = declared(HEADER, "uint64_t mms_", ");", in_rust);
-    assert_eq!(calls.keys().collect::<Vec<_>>(), ["check", "list", "read", "run", "step", "write"]);
+    let names = ["check", "list", "read", "read_tables", "run", "step", "write", "write_tables"];
+    assert_eq!(calls.keys().collect::<Vec<_>>(), names);
     assert_eq!(calls, declared(WORDS, "fn mms_", ") -> u64;", str::to_string));
 }

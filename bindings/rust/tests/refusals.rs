@@ -27,16 +27,14 @@ fn what_goes_with_a_refusal_is_kept() {
     for need in [0, 1, 37_440, u32::MAX] {
         assert_eq!(Refusal::from_number(17, need), Some(Refusal::TooShort { need }));
     }
-    for line in 1..=8 {
+    for line in (1..=8).chain([103, 1_793, u32::MAX]) {
         let bad = BadLine::from_number(line).expect("a line");
         assert_eq!(bad.line(), line);
         assert_eq!(Refusal::from_number(18, line), Some(Refusal::NotARequest(bad)));
         assert_eq!(Refusal::from(bad).to_string(), bad.to_string());
     }
-    for line in [0, 9, u32::MAX] {
-        assert_eq!(BadLine::from_number(line), None);
-        assert_eq!(Refusal::from_number(18, line), None);
-    }
+    assert_eq!(BadLine::from_number(0), None);
+    assert_eq!(Refusal::from_number(18, 0), None);
 }
 
 #[test]

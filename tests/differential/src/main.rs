@@ -6,6 +6,7 @@ mod runs;
 mod script;
 mod side;
 mod tables;
+mod tables_text;
 mod texts;
 mod wrong;
 
@@ -20,24 +21,26 @@ const USAGE: &str = "\
 usage: differential tables SEED STEPS [wrong=NAME] [table=NUMBER]
        differential texts SEED ROUNDS [wrong=NAME]
        differential runs SEED ROUNDS [wrong=NAME] [round=NUMBER]
+       differential tables_text SEED ROUNDS [wrong=NAME] [round=NUMBER]
        differential s1
        differential rooms SEED
        differential wrong SEED STEPS ROUNDS
        differential script SEED REQUESTS
        differential script s1
 
-tables: check, step and list of tables good and bad; table=NUMBER replays one of them alone
-texts:  request texts read and written, good ones and damaged ones
-runs:   requests in one run, in pieces and in single steps, and runs of odd lengths; round=NUMBER replays one round alone
-s1:     the answers that are listed for case state S1, by document 01 and by request M-101
-rooms:  lists of S1, of S1 with something amiss and of full tables, in rooms of every length
-wrong:  every wrong desk through tables, texts or runs, where it must be noticed
-script: tables as state.words has them, then a script of requests to them
+tables:      check, step and list of tables good and bad; table=NUMBER replays one of them alone
+texts:       request texts read and written, good ones and damaged ones
+runs:        requests in one run, in pieces and in single steps, and runs of odd lengths; round=NUMBER replays one round alone
+tables_text: tables written and read as text, good ones and damaged ones; round=NUMBER replays one round alone
+s1:          the answers that are listed for case state S1, by document 01 and by request M-101
+rooms:       lists of S1, of S1 with something amiss and of full tables, in rooms of every length
+wrong:       every wrong desk through tables, texts, runs or tables_text, where it must be noticed
+script:      tables as state.words has them, then a script of requests to them
 
 A seed is a number below 2^64, and everything follows from it. The status is 1 if anything differed or was not reached, and 2 if it is not
 clear what is wanted. With wrong=NAME the desk written by hand is one of these:";
 
-/// Differences after which a comparison of tables or of runs is given up.
+/// Differences after which a comparison of tables, of runs or of the text of tables is given up.
 const DIFFERENCES_MOST: u64 = 5;
 
 /// What is not understood.
@@ -76,7 +79,7 @@ fn one_of_many(calls: Calls) -> Option<&'static str> {
     match calls {
         Calls::Tables => Some("table"),
         Calls::Texts => None,
-        Calls::Runs => Some("round"),
+        Calls::Runs | Calls::TablesText => Some("round"),
     }
 }
 
@@ -148,6 +151,20 @@ fn run_runs(seed: &str, rounds: &str, rest: &[&str]) -> Result<Outcome, Unclear>
     Ok(runs::run(&what, Out::LOUD))
 }
 
+/// Compares the writer and the reader of tables.
+fn run_tables_text(seed: &str, rounds: &str, rest: &[&str]) -> Result<Outcome, Unclear> {
+    let options = options(rest, Calls::TablesText)?;
+    let what = tables_text::Comparison {
+        seed: number(seed)?,
+        rounds: number(rounds)?,
+        only: options.only,
+        desk: options.desk(),
+        options: options.words(),
+        most_differences: DIFFERENCES_MOST,
+    };
+    Ok(tables_text::run(&what, Out::LOUD))
+}
+
 /// What is said of S1, in single requests and in runs.
 fn run_s1() -> Outcome {
     let (single, runs) = (tables::s1::run(Out::LOUD), runs::s1::run(Out::LOUD));
@@ -178,6 +195,7 @@ fn run(words: &[&str]) -> Result<Outcome, Unclear> {
         ["tables", seed, steps, rest @ ..] => run_tables(seed, steps, rest),
         ["texts", seed, rounds, rest @ ..] => run_texts(seed, rounds, rest),
         ["runs", seed, rounds, rest @ ..] => run_runs(seed, rounds, rest),
+        ["tables_text", seed, rounds, rest @ ..] => run_tables_text(seed, rounds, rest),
         ["s1"] => Ok(run_s1()),
         ["rooms", seed] => Ok(tables::rooms::run(number(seed)?, Out::LOUD)),
         ["wrong", seed, steps, rounds] => run_wrong(seed, steps, rounds),

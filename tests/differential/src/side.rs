@@ -68,6 +68,22 @@ impl Side<'_> {
             Side::Proved => reply(words::read(text, request)),
         }
     }
+
+    /// The text of tables.
+    pub fn write_tables(self, tables: &[u32], room: &mut [u8]) -> Reply {
+        match self {
+            Side::Ordinary(desk) => desk.write_tables(tables, room),
+            Side::Proved => reply(words::write_tables(tables, room)),
+        }
+    }
+
+    /// The tables of a text.
+    pub fn read_tables(self, text: &[u8], tables: &mut [u32]) -> Reply {
+        match self {
+            Side::Ordinary(desk) => desk.read_tables(text, tables),
+            Side::Proved => reply(words::read_tables(text, tables)),
+        }
+    }
 }
 
 /// What the proved desk answered, as the other one puts it.

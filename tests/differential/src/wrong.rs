@@ -1,7 +1,7 @@
 //! Every wrong desk must be found out, and by a difference: what a wrong desk fails to reach is no proof against it.
 use crate::outcome::{Out, Outcome};
 use crate::side::ByHand;
-use crate::{runs, tables, texts};
+use crate::{runs, tables, tables_text, texts};
 use ordinary::{Calls, Right, Wrong, WRONG};
 
 /// How much is tried with each.
@@ -33,12 +33,21 @@ impl Effort {
         runs::run(&runs::Comparison { seed, rounds, only, desk, options, most_differences: 1 }, Out::QUIET).first
     }
 
+    /// The first difference of a desk's writer and reader of tables with the proved ones.
+    fn of_tables_text(&self, desk: ByHand) -> Option<String> {
+        let Effort { seed, rounds, .. } = *self;
+        let (only, options) = (None, String::new());
+        let what = tables_text::Comparison { seed, rounds, only, desk, options, most_differences: 1 };
+        tables_text::run(&what, Out::QUIET).first
+    }
+
     /// Where a wrong desk is noticed first: step and list are tried one without the other, since a wrong list would hide a wrong step.
     fn noticed(&self, wrong: &Wrong) -> Vec<String> {
         let found = match wrong.calls {
             Calls::Tables => vec![self.of_tables(wrong.desk, &Right), self.of_tables(&Right, wrong.desk)],
             Calls::Texts => vec![self.of_texts(wrong.desk)],
             Calls::Runs => vec![self.of_runs(wrong.desk)],
+            Calls::TablesText => vec![self.of_tables_text(wrong.desk)],
         };
         found.into_iter().flatten().collect()
     }

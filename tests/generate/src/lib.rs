@@ -6,8 +6,11 @@ pub mod full;
 mod good;
 pub mod layout;
 mod levels;
+pub mod longest;
 mod request;
 mod s1;
+pub mod tables_text;
+pub mod text;
 pub mod view;
 
 pub use damage::{damage, random_words};

@@ -38,3 +38,9 @@ impl Whos {
 pub fn triple(who: u32, operation: u32, position: u32) -> u32 {
     who << 16 | operation << 8 | position
 }
+
+/// Who, operation and position of any word.
+#[inline]
+pub fn parts(triple: u32) -> [u32; 3] {
+    [triple >> 16, triple >> 8 & 0xff, triple & 0xff]
+}

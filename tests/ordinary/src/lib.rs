@@ -16,6 +16,7 @@ mod run;
 mod script;
 mod set;
 mod tables;
+mod tables_text;
 mod text;
 mod words;
 
@@ -81,6 +82,23 @@ pub fn read<R: Rules>(text: &[u8], request: &mut [u32]) -> Reply {
 pub fn write<R: Rules>(request: &[u32], room: &mut [u8]) -> Reply {
     match request.try_into() {
         Ok(request) => text::write::whole::<R>(request, room),
+        Err(_) => Reply::to(Err(Refusal::BadLength)),
+    }
+}
+
+/// Writes tables as text, and answers how many bytes it has.
+pub fn write_tables<R: Rules>(tables: &[u32], room: &mut [u8]) -> Reply {
+    match tables.try_into() {
+        Ok(tables) => tables_text::write::whole::<R>(tables, room),
+        Err(_) => Reply::to(Err(Refusal::BadLength)),
+    }
+}
+
+/// Reads a text into the words of tables, which stay as they are unless the answer is 0.
+pub fn read_tables<R: Rules>(text: &[u8], tables: &mut [u32]) -> Reply {
+    match tables.try_into() {
+        Ok(tables) => tables_text::read::whole::<R>(text, tables),
+        Err(_) if R::LENGTHS => tables_text::read::whole::<R>(text, &mut [0; TABLE_WORDS]),
         Err(_) => Reply::to(Err(Refusal::BadLength)),
     }
 }

@@ -16,6 +16,10 @@ pub trait Desk {
     fn read(&self, text: &[u8], request: &mut [u32]) -> Reply;
     /// Turns the words of a request into a text.
     fn write(&self, request: &[u32], room: &mut [u8]) -> Reply;
+    /// Turns the words of tables into a text.
+    fn write_tables(&self, tables: &[u32], room: &mut [u8]) -> Reply;
+    /// Turns a text into the words of tables.
+    fn read_tables(&self, text: &[u8], tables: &mut [u32]) -> Reply;
     /// Gives what the program writes for a script.
     fn script(&self, state: &[u8], script: &[u8]) -> Vec<u8>;
     /// Compares two levels.
@@ -47,6 +51,14 @@ impl<R: Rules> Desk for R {
         crate::write::<R>(request, room)
     }
 
+    fn write_tables(&self, tables: &[u32], room: &mut [u8]) -> Reply {
+        crate::write_tables::<R>(tables, room)
+    }
+
+    fn read_tables(&self, text: &[u8], tables: &mut [u32]) -> Reply {
+        crate::read_tables::<R>(text, tables)
+    }
+
     fn script(&self, state: &[u8], script: &[u8]) -> Vec<u8> {
         crate::script::<R>(state, script)
     }
@@ -56,12 +68,13 @@ impl<R: Rules> Desk for R {
     }
 }
 
-/// Calls that are compared together: check, step and list; read and write; run.
+/// Calls that are compared together: check, step and list; read and write; run; the writer and the reader of tables.
 #[derive(Clone, Copy, Debug, PartialEq, Eq)]
 pub enum Calls {
     Tables,
     Texts,
     Runs,
+    TablesText,
 }
 
 /// A wrong desk: its name, what it does wrong, the calls where that must be noticed, and the desk.
@@ -133,4 +146,42 @@ errors! {
     FITS, Fits, "fits", Runs, "a run with too few places writes the answers that fit";
     REST, Rest, "rest", Runs, "a run passes over words that are less than a request";
     SPARE, Spare, "spare", Runs, "a run writes 0 to the places behind its answers";
+    ABSENT, Absent, "absent", TablesText, "the text of tables has records of who or what is absent";
+    TURNED, Turned, "turned", TablesText, "the text of tables has the entities before the users";
+    GAPS, Gaps, "gaps", TablesText, "the text of tables has an empty line between two records";
+    BARE, Bare, "bare", TablesText, "the text of tables leaves out what is 0";
+    SUMS, Sums, "sums", TablesText, "the text of tables has places without their sums";
+    UNSHOWN, Unshown, "unshown", TablesText, "the text of tables has 0 for the sum of each place";
+    PARTS, Parts, "parts", TablesText, "the text of tables has the operation of a triple before who";
+    ANYHOW, Anyhow, "anyhow", TablesText, "the writer of tables does not look whether they are well-formed";
+    SECURE, Secure, "secure", TablesText, "the writer of tables refuses those that are not secure";
+    NEEDS, Needs, "needs", TablesText, "the writer of tables looks at the room first, and then at the tables";
+    SCANT, Scant, "scant", TablesText, "the writer of tables accepts a room that is one byte too short";
+    PARTLY, Partly, "partly", TablesText, "the writer of tables writes to a room that is too short what fits there";
+    CLEARS, Clears, "clears", TablesText, "the writer of tables writes 0 to the bytes behind the text";
+    LENGTHS, Lengths, "lengths", TablesText, "the reader of tables looks at the text first, and then at their length";
+    HASTY, Hasty, "hasty", TablesText, "the reader of tables answers 2 for a level before it has read the rest";
+    SOONER, Sooner, "sooner", TablesText, "the reader of tables names a line that is missing one too early";
+    SPILLS, Spills, "spills", TablesText, "the reader of tables leaves what it has read before a bad line";
+    KEEPS, Keeps, "keeps", TablesText, "the reader of tables leaves tables that it answers 2 for";
+    STALE, Stale, "stale", TablesText, "the reader of tables leaves the words of absent records as they were";
+    ALLOWS, Allows, "allows", TablesText, "the reader of tables does not look whether they are well-formed";
+    STRICT, Strict, "strict", TablesText, "the reader of tables refuses those that are not secure";
+    PADDED, Padded, "padded", TablesText, "the reader of tables accepts a leading zero";
+    ROUND, Round, "round", TablesText, "the reader of tables takes a number beyond 32 bits for what is left of it";
+    RETURN, Return, "return", TablesText, "the reader of tables accepts CR LF";
+    OPEN, Open, "open", TablesText, "the reader of tables accepts a last line that does not end";
+    MORE, More, "more", TablesText, "the reader of tables accepts an empty line at the end";
+    MIXED, Mixed, "mixed", TablesText, "the reader of tables accepts users whose numbers do not rise";
+    FALLS, Falls, "falls", TablesText, "the reader of tables accepts entities whose numbers do not rise";
+    BEYOND, Beyond, "beyond", TablesText, "the reader of tables accepts a user 17";
+    AGAIN, Again, "again", TablesText, "the reader of tables accepts a user behind an entity";
+    KINDS, Kinds, "kinds", TablesText, "the reader of tables accepts the kind 0";
+    NINTH, Ninth, "ninth", TablesText, "the reader of tables accepts nine places";
+    UNSEEN, Unseen, "unseen", TablesText, "the reader of tables passes over the sums of places";
+    TALLY, Tally, "tally", TablesText, "the reader of tables takes as many triples as there are lines of them";
+    NIL, Nil, "nil", TablesText, "the reader of tables accepts a triple of which all parts are 0";
+    WIDE, Wide, "wide", TablesText, "the reader of tables accepts a triple for 65,536";
+    CARRY, Carry, "carry", TablesText, "the reader of tables accepts a triple of operation 256";
+    FAR, Far, "far", TablesText, "the reader of tables accepts a triple of position 256";
 }

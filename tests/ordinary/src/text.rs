@@ -1,5 +1,6 @@
 //! The request as text: seven lines, each a key and its value [rules 11.1, 11.2].
 
+pub mod place;
 pub mod read;
 pub mod write;
 
@@ -24,7 +25,7 @@ const LINES: [(&[u8], Value); 7] = [
 ];
 
 /// What stands between the names of a reference.
-const DOT: u8 = b'.';
-const END_OF_LINE: u8 = b'\n';
-const BASE: u32 = 10;
-const ZERO: u8 = b'0';
+pub const DOT: u8 = b'.';
+pub const END_OF_LINE: u8 = b'\n';
+pub const BASE: u32 = 10;
+pub const ZERO: u8 = b'0';

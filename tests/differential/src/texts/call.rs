@@ -1,11 +1,13 @@
 //! One call to both desks, and whether each did what the slow texts say, and nothing else.
 
-use generate::layout::{refusal, REQUEST_WORDS};
+use generate::layout::refusal;
 use ordinary::Reply;
 
-use super::slow;
 use crate::guarded::{Filler, Guarded};
 use crate::side::Side;
+
+/// So much of what was lent and left is told.
+const TOLD: usize = 400;
 
 /// What a desk was found to do otherwise.
 pub struct Difference {
@@ -15,22 +17,32 @@ pub struct Difference {
     pub details: String,
 }
 
+/// A sort of text: how its writer and its reader are asked, and what must come of it.
+pub struct Sort {
+    /// The two calls by name.
+    pub names: [&'static str; 2],
+    pub write: for<'a> fn(Side<'a>, &[u32], &mut [u8]) -> Reply,
+    pub read: for<'a> fn(Side<'a>, &[u8], &mut [u32]) -> Reply,
+    /// The text of these words, whatever the room; else the refusal.
+    pub text_of: fn(&[u32]) -> Result<Vec<u8>, u32>,
+    /// The words of a text, for so many words to be filled; else the refusal with its number.
+    pub words_of: fn(&[u8], usize) -> Result<Vec<u32>, Reply>,
+}
+
 /// Words to be written as a text: the first so many of these are lent, the others stand behind, for whoever goes on.
 pub struct Writing<'a> {
+    pub sort: &'a Sort,
     pub words: &'a [u32],
     pub count: usize,
     pub room: usize,
 }
 
 impl Writing<'_> {
-    /// What must be answered, and what must then stand at the front of the room [rule 11.3].
+    /// What must be answered, and what must then stand at the front of the room.
     fn expected(&self) -> (Reply, Vec<u8>) {
-        if self.count != REQUEST_WORDS {
-            return (Reply { answer: refusal::BAD_LENGTH, number: 0 }, Vec::new());
-        }
-        match slow::write(&self.words[..REQUEST_WORDS]) {
-            None => (Reply { answer: refusal::BAD_REQUEST, number: 0 }, Vec::new()),
-            Some(text) => {
+        match (self.sort.text_of)(&self.words[..self.count]) {
+            Err(answer) => (Reply { answer, number: 0 }, Vec::new()),
+            Ok(text) => {
                 let number = text.len() as u32;
                 let fits = text.len() <= self.room;
                 let answer = if fits { refusal::ACCEPTED } else { refusal::TOO_SHORT };
@@ -45,10 +57,10 @@ impl Writing<'_> {
         for side in sides {
             let mut words = Guarded::holding(self.words);
             let mut room = Guarded::room(self.room);
-            let got = side.write(&words.lent()[..self.count], room.lent());
+            let got = (self.sort.write)(*side, &words.lent()[..self.count], room.lent());
             if got != expected || !words.holds(self.words) || !begins_with(&room, &text) {
-                let left = format!("in the room: \"{}\"", room.words().escape_ascii());
-                return Err(difference("write", *side, expected, got, &self.told(), &left));
+                let left = format!("in the room: \"{}\"", first(&room.words().escape_ascii().to_string()));
+                return Err(difference(self.sort.names[0], *side, expected, got, &self.told(), &left));
             }
         }
         Ok(expected)
@@ -56,40 +68,39 @@ impl Writing<'_> {
 
     /// What was lent, in words.
     fn told(&self) -> String {
-        format!("room of {} bytes, {} of the words {:?}", self.room, self.count, self.words)
+        let words = first(&format!("{:?}", self.words)).to_string();
+        format!("room of {} bytes, {} of the words {}", self.room, self.count, words)
     }
 }
 
-/// Bytes to be read as a request text; `behind` stands behind them, for whoever goes on, and is not lent.
+/// Bytes to be read as a text; `behind` stands behind them, for whoever goes on, and is not lent.
 pub struct Reading<'a> {
+    pub sort: &'a Sort,
     pub text: &'a [u8],
     pub behind: &'a [u8],
     pub count: usize,
 }
 
 impl Reading<'_> {
-    /// What must be answered, and what must then stand in the words [rule 11.4].
-    fn expected(&self) -> (Reply, Vec<u32>) {
-        if self.count != REQUEST_WORDS {
-            return (Reply { answer: refusal::BAD_LENGTH, number: 0 }, Vec::new());
-        }
-        match slow::read(self.text) {
-            Ok(words) => (Reply { answer: refusal::ACCEPTED, number: 0 }, words.to_vec()),
-            Err(line) => (Reply { answer: refusal::NOT_A_REQUEST, number: line as u32 }, Vec::new()),
-        }
-    }
-
     /// Asks all sides; the reply, where none differs.
     pub fn compare(&self, sides: &[Side]) -> Result<Reply, Difference> {
-        let (expected, words) = self.expected();
+        self.compare_with((self.sort.words_of)(self.text, self.count), sides)
+    }
+
+    /// The same where it is known what the words must be, or the refusal with its number.
+    pub fn compare_with(&self, due: Result<Vec<u32>, Reply>, sides: &[Side]) -> Result<Reply, Difference> {
+        let (expected, words) = match due {
+            Ok(words) => (Reply { answer: refusal::ACCEPTED, number: 0 }, words),
+            Err(reply) => (reply, Vec::new()),
+        };
         let whole = [self.text, self.behind].concat();
         for side in sides {
             let mut bytes = Guarded::holding(&whole);
             let mut room = Guarded::room(self.count);
-            let got = side.read(&bytes.lent()[..self.text.len()], room.lent());
+            let got = (self.sort.read)(*side, &bytes.lent()[..self.text.len()], room.lent());
             if got != expected || !bytes.holds(&whole) || !begins_with(&room, &words) {
-                let left = format!("in the words: {:?}", room.words());
-                return Err(difference("read", *side, expected, got, &self.told(), &left));
+                let left = format!("in the words: {}", first(&format!("{:?}", room.words())));
+                return Err(difference(self.sort.names[1], *side, expected, got, &self.told(), &left));
             }
         }
         Ok(expected)
@@ -97,8 +108,13 @@ impl Reading<'_> {
 
     /// What was lent, in words.
     fn told(&self) -> String {
-        format!("{} words for the text \"{}\"", self.count, self.text.escape_ascii())
+        format!("{} words for the text \"{}\"", self.count, first(&self.text.escape_ascii().to_string()))
     }
+}
+
+/// The beginning of what there is to tell.
+fn first(told: &str) -> &str {
+    &told[..TOLD.min(told.len())]
 }
 
 /// Does this stand at the front of a room, and nothing new behind it or around it?

@@ -1,20 +1,21 @@
 //! The request text [rules 11.1 to 11.5]: the proved writer and reader and those of a desk written by hand get the same words and bytes, and
 //! must do what a slow and plain pair says.
 
-mod call;
+pub mod call;
 pub mod cases;
 mod damage;
-mod edit;
 mod slow;
 mod tally;
 
-use generate::layout::REQUEST_WORDS;
+use generate::layout::{refusal, REQUEST_WORDS};
+use generate::text::Act;
 use generate::{dice_for, Dice};
 
 use crate::guarded;
 use crate::outcome::{again, Out, Outcome};
 use crate::side::{ByHand, Side};
-use call::{Difference, Reading, Writing};
+use call::{Difference, Reading, Sort, Writing};
+use ordinary::Reply;
 use tally::Tally;
 
 /// Rooms of every length up to this are written to; it is some bytes more than the longest text has.
@@ -27,6 +28,24 @@ const WORDS_MOST: usize = 20;
 const LENGTH_STRIDE: usize = 16;
 /// Differences after which a run is given up.
 const REPORTS_MOST: u64 = 5;
+
+/// The text of a request [rules 11.3, 11.4].
+const REQUEST: Sort = Sort {
+    names: ["write", "read"],
+    write: |side, words, room| side.write(words, room),
+    read: |side, text, words| side.read(text, words),
+    text_of: |words| match words.len() {
+        REQUEST_WORDS => slow::write(words).ok_or(refusal::BAD_REQUEST),
+        _ => Err(refusal::BAD_LENGTH),
+    },
+    words_of: |text, count| match count {
+        REQUEST_WORDS => match slow::read(text) {
+            Ok(words) => Ok(words.to_vec()),
+            Err(line) => Err(Reply { answer: refusal::NOT_A_REQUEST, number: line as u32 }),
+        },
+        _ => Err(Reply { answer: refusal::BAD_LENGTH, number: 0 }),
+    },
+};
 
 /// What a run is asked for.
 pub struct Comparison<'a> {
@@ -134,7 +153,7 @@ impl Round<'_> {
     }
 
     /// One damage at each byte. What stands behind a text that is cut off is what was cut off, so that whoever reads on reads well.
-    fn compare_damaged(&mut self, good: &[u8], kind: usize, act: damage::Act) -> Result<(), Difference> {
+    fn compare_damaged(&mut self, good: &[u8], kind: usize, act: Act) -> Result<(), Difference> {
         for at in 0..good.len() {
             let mut text = good.to_vec();
             act(&mut self.dice, &mut text, at);
@@ -160,14 +179,14 @@ impl Round<'_> {
 
     /// The first so many of the words go to both writers, with a room of this length.
     fn write(&mut self, words: &[u32], count: usize, room: usize) -> Result<(), Difference> {
-        let reply = Writing { words, count, room }.compare(&self.sides)?;
+        let reply = Writing { sort: &REQUEST, words, count, room }.compare(&self.sides)?;
         self.tally.wrote(reply.answer);
         Ok(())
     }
 
     /// A text goes to both readers, with so many words to fill; the first bad line is returned, 0 where there is none.
     fn read(&mut self, text: &[u8], behind: &[u8], count: usize) -> Result<usize, Difference> {
-        let reply = Reading { text, behind, count }.compare(&self.sides)?;
+        let reply = Reading { sort: &REQUEST, text, behind, count }.compare(&self.sides)?;
         self.tally.read(reply.answer);
         Ok(reply.number as usize)
     }

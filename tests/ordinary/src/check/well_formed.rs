@@ -1,5 +1,6 @@
 //! Whether any 2,304 words are well-formed tables [section 3 of the rules].
 
+use crate::access;
 use crate::refusal::Refusal;
 use crate::set::EntitySet;
 use crate::tables::*;
@@ -98,7 +99,7 @@ fn all_differ(words: &[u32]) -> bool {
 
 /// Who 1 to 24, operation 1 to 20, position 1 or 2 [rule 3.22].
 fn is_triple(word: u32) -> bool {
-    let (who, operation, position) = (word >> 16, word >> 8 & 0xff, word & 0xff);
+    let [who, operation, position] = access::parts(word);
     (1..=WHO_MOST).contains(&who)
         && (1..=OPERATION_MOST).contains(&operation)
         && (1..=POSITION_MOST).contains(&position)

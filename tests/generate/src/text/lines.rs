@@ -1,11 +1,7 @@
 //! Damages to a line: where it stands, how it ends, its key.
 
-use generate::Dice;
-
-use crate::texts::edit::{any_byte, line_at, replace};
-
-const KEYS: [&str; 15] =
-    ["user", "op", "ref", "ref2", "a", "b", "c", "ref1", "ref3", "", "us", "users", "d", "=", "ref2=ref"];
+use super::edit::{any_byte, line_at, replace};
+use crate::Dice;
 
 /// The line changes places with another, or with itself. A last line without LF stays.
 pub fn swap(dice: &mut Dice, text: &mut Vec<u8>, at: usize) {
@@ -60,10 +56,10 @@ pub fn no_equals(dice: &mut Dice, text: &mut Vec<u8>, at: usize) {
     }
 }
 
-/// The line has the key of another, or one that no line has.
-pub fn other_key(dice: &mut Dice, text: &mut Vec<u8>, at: usize) {
+/// The line has this key.
+pub fn set_key(text: &mut Vec<u8>, at: usize, key: &str) {
     let line = line_at(text, at);
-    replace(text, line.start..line.equals, dice.one_of(&KEYS).as_bytes());
+    replace(text, line.start..line.equals, key.as_bytes());
 }
 
 /// One letter of the key is a capital.

@@ -2,7 +2,7 @@
 
 use std::ops::Range;
 
-use generate::Dice;
+use crate::Dice;
 
 /// Bytes that a careless reader might pass over or take for others.
 const ODD: &[u8] = b".=\n\r \t/:+-,;\x0b\x0c_\0";

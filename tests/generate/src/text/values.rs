@@ -1,8 +1,7 @@
 //! Damages to a value: the number that a byte belongs to, or all of it.
 
-use generate::Dice;
-
-use crate::texts::edit::{line_at, number_at, replace};
+use super::edit::{line_at, number_at, replace};
+use crate::Dice;
 
 const ZEROS: &[u8] = b"000000000000";
 
@@ -33,22 +32,6 @@ const LARGE: [&str; 21] = [
 
 const NO_NUMBERS: [&str; 11] = ["", "x", "0x1", "1e3", "1_000", "1,000", "1.5", "-0", "1 ", " 1", "00"];
 
-/// Two of these are references all the same.
-const MANY_NAMES: [&str; 8] = [
-    "1.2.3.4.5",
-    "1.2.3.4.",
-    "1.2.3.4.5.6.7.8",
-    "4294967295.4294967295.4294967295.4294967295.0",
-    "1.2.3.4",
-    "0.0.0.0.0",
-    "0.0.0.0",
-    "1.2.3.4.x",
-];
-
-/// The last of these is a reference all the same.
-const EMPTY_NAMES: [&str; 12] =
-    ["1..2", ".1", "1.", ".", "..", "...", "1.2..", "1...2", ".1.2.3", "1.2.3.", "1..2.3", ""];
-
 /// Zeros stand before the number, mostly one.
 pub fn leading_zeros(dice: &mut Dice, text: &mut Vec<u8>, at: usize) {
     let start = number_at(text, at).start;
@@ -58,12 +41,12 @@ pub fn leading_zeros(dice: &mut Dice, text: &mut Vec<u8>, at: usize) {
 
 /// The number is one of the largest, or too large.
 pub fn large(dice: &mut Dice, text: &mut Vec<u8>, at: usize) {
-    change_number(text, at, dice.one_of(&LARGE));
+    set_number(text, at, dice.one_of(&LARGE));
 }
 
 /// What stands there is no number, or no whole one.
 pub fn no_number(dice: &mut Dice, text: &mut Vec<u8>, at: usize) {
-    change_number(text, at, dice.one_of(&NO_NUMBERS));
+    set_number(text, at, dice.one_of(&NO_NUMBERS));
 }
 
 /// The number has a sign.
@@ -71,24 +54,14 @@ pub fn sign(dice: &mut Dice, text: &mut Vec<u8>, at: usize) {
     text.insert(number_at(text, at).start, dice.one_of(b"+-"));
 }
 
-/// The value has four names or more.
-pub fn many_names(dice: &mut Dice, text: &mut Vec<u8>, at: usize) {
-    change_value(text, at, dice.one_of(&MANY_NAMES));
-}
-
-/// The value has a name without digits.
-pub fn empty_name(dice: &mut Dice, text: &mut Vec<u8>, at: usize) {
-    change_value(text, at, dice.one_of(&EMPTY_NAMES));
-}
-
 /// Puts this in place of the number that a byte belongs to.
-fn change_number(text: &mut Vec<u8>, at: usize, to: &str) {
+pub fn set_number(text: &mut Vec<u8>, at: usize, to: &str) {
     let number = number_at(text, at);
     replace(text, number, to.as_bytes());
 }
 
 /// Puts this in place of the value of a line.
-fn change_value(text: &mut Vec<u8>, at: usize, to: &str) {
+pub fn set_value(text: &mut Vec<u8>, at: usize, to: &str) {
     let line = line_at(text, at);
     replace(text, line.value()..line.end, to.as_bytes());
 }

@@ -1,11 +1,7 @@
 //! Damages to single bytes, and to all that follow.
 
-use generate::Dice;
-
-use crate::texts::edit::any_byte;
-
-/// Random texts are up to some twice as long as the longest that can be read.
-const RANDOM_MOST: u32 = 350;
+use super::edit::any_byte;
+use crate::Dice;
 
 /// The byte is missing.
 pub fn drop(_: &mut Dice, text: &mut Vec<u8>, at: usize) {
@@ -52,19 +48,15 @@ pub fn behind(dice: &mut Dice, text: &mut Vec<u8>, at: usize) {
     }
 }
 
-/// From here on, bytes that occur in texts, in no order.
-pub fn noise(dice: &mut Dice, text: &mut Vec<u8>, at: usize) {
+/// From here on, mostly these bytes, in no order.
+pub fn noise(dice: &mut Dice, bytes: &[u8], text: &mut [u8], at: usize) {
     for byte in &mut text[at..] {
-        *byte = if dice.chance(95) {
-            dice.one_of(b"user=op=ref=ref2=a=b=c=\n\n\n\n\n\n\n0123456789.")
-        } else {
-            any_byte(dice)
-        };
+        *byte = if dice.chance(95) { dice.one_of(bytes) } else { any_byte(dice) };
     }
 }
 
-/// Bytes that have nothing to do with the text, any number of them.
-pub fn random(dice: &mut Dice, text: &mut Vec<u8>, _: usize) {
-    let length = dice.below(RANDOM_MOST);
+/// Fewer bytes than so many, which have nothing to do with the text.
+pub fn random(dice: &mut Dice, most: u32, text: &mut Vec<u8>) {
+    let length = dice.below(most);
     *text = (0..length).map(|_| dice.word() as u8).collect();
 }
