@@ -1,16 +1,17 @@
--- What a case says of the exported step, and of the exported run. The cases are those of Case/Cases, as they stand there: the requests of a case are calls
+-- What a case says of the exported step, of the exported run, and of the exported reader of tables. The cases are those of Case/Cases, as they stand there: the requests of a case are calls
 -- one after another, or one run.
 use mathlib.Core.List.{List, [], _++_, _∷_}
 use mathlib.Core.Path.{_≡_}
 use Prim.Native.Nat.{_≤_, ℕ}
 use lib.Dec.{T}
 use lib.ListN.{drop, length}
-use Rattle.mms.specs.Calls.{RunCall, StepCall}
+use Rattle.mms.specs.Calls.{ReadTablesCall, RunCall, StepCall, noIn, numberIn}
 use Rattle.mms.specs.Contract.{exported}
 use Rattle.mms.specs.RoundTrip.{answering}
 use Rattle.cases.specs.Case.Cases.{Case, Exchange, Stands, _gets_, asked, gotten, stand}
+use Rattle.cases.specs.Case.S1Damaged.{Damaged}
 use Rattle.model.specs.Basics.Together.{together}
-use Rattle.model.specs.Tables.Layout.{tablesOf}
+use Rattle.model.specs.Tables.Layout.{tablesOf, wordCount}
 use Rattle.model.specs.Request.Refusals as refusal
 
 -- Calls on the words t, each on what the one before it left: whatever word and words meet the promise of a call, the word is that of the answer, which
@@ -33,3 +34,10 @@ InOneRun t es ws = (room : List ℕ) → length es ≤ length room → (a : ℕ)
 abbrev pub AllInOneRun : List ℕ → List Case → Type 0
 AllInOneRun t [] = Unit {0}
 AllInOneRun t (c ∷ cs) = InOneRun t (c .exchanges) (c .standing) × AllInOneRun t cs
+
+-- Texts that the reader of tables refuses: each with its answer and its number, whatever the 2,304 words are that it may write to; and they stay.
+abbrev pub AllRefused : List Damaged → Type 0
+AllRefused [] = Unit {0}
+AllRefused (c ∷ cs) =
+    ((v w : List ℕ) (a : ℕ) → length v ≡ wordCount → ReadTablesCall (c .text) v a w → (noIn a ≡ c .answer) × (numberIn a ≡ c .number) × (w ≡ v))
+    × AllRefused cs

@@ -8,6 +8,7 @@ use lib.ListN.{drop, getD, length}
 use Rattle.exhibits.specs.Called.{AllConfirmed, AllInOneRun}
 use Rattle.exhibits.specs.Listed.{called-1, called-2, called-2-short, called-unmarked}
 use Rattle.exhibits.specs.S1Exhibit.{S1Exhibit}
+use Rattle.exhibits.specs.TextCalled.{damaged-refused, s1-text-read, s1-text-written}
 use Rattle.exhibits.specs.CalledLaws.{both-called, both-run, called-word, cases-called, cases-run}
 use Rattle.mms.specs.Calls.{RunCall, StepCall}
 use Rattle.mms.specs.Contract.{Stepping, checking, exported, numbers}
@@ -16,6 +17,7 @@ use Rattle.cases.specs.Case.Cases.{allInSixteen, asking, entityIs, expect, note
 use Rattle.cases.specs.Case.S1.{s1, starred, unstarred}
 use Rattle.cases.specs.Case.S1Holds.{starred-hold, unstarred-hold}
 use Rattle.cases.specs.Case.S1Script.{s1-script-only, s1-script-writes}
+use Rattle.cases.specs.Case.S1Text.{s1Text-length}
 use Rattle.cases.specs.Case.S1Words.{s1Words, s1Words-checked, s1Words-length, s1Words-tables, s1Words-unknown}
 use Rattle.model.specs.Request.Words.{requestWords}
 use Rattle.model.specs.Tables.Layout.{tablesOf}
@@ -108,4 +110,8 @@ s1-exhibit = record {
   listOfOne = called-1;
   scriptWrites = s1-script-writes;
   scriptOnly = s1-script-only;
+  textWritten = s1-text-written;
+  textBytes = s1Text-length;
+  textRead = s1-text-read;
+  damagedRead = damaged-refused;
 }

@@ -1,19 +1,23 @@
--- Document 01, "Case state S1"; rule 13: all of its cases, as one statement about the linked calls on S1's 2,304 words, and about the program's output.
+-- Document 01, "Case state S1"; document 02, M-103; rules 13 and 16: all of its cases, as one statement about the linked calls on
+-- S1's 2,304 words and on S1's text, and about the program's output.
 use mathlib.Core.List.{List, [], _++_, _∷_}
 use mathlib.Core.Path.{_≡_}
 use Prim.Native.Nat.{_*_, _<_, _≤_, ℕ}
 use lib.ListN.{drop, getD, length}
-use Rattle.exhibits.specs.Called.{AllConfirmed, AllInOneRun}
-use Rattle.mms.specs.Calls.{ListCall, Passes, StepCall}
+use Rattle.exhibits.specs.Called.{AllConfirmed, AllInOneRun, AllRefused}
+use Rattle.mms.specs.Calls.{ListCall, Passes, ReadTablesCall, StepCall, TextWritten, WriteTablesCall, noIn}
 use Rattle.mms.specs.Contract.{exported}
 use Rattle.mms.specs.RoundTrip.{answering}
 use Rattle.cases.specs.Case.S1.{starred, unstarred}
+use Rattle.cases.specs.Case.S1Damaged.{damaged}
 use Rattle.cases.specs.Case.S1List.{s1Unmarked}
 use Rattle.cases.specs.Case.S1Script.{s1Output, s1Script}
+use Rattle.cases.specs.Case.S1Text.{s1Text}
 use Rattle.cases.specs.Case.S1Words.{s1Words}
 use Rattle.model.specs.List.Listing.{entryWords}
 use Rattle.model.specs.Request.Words.{requestWords}
 use Rattle.model.specs.Script.Runs.{Outputs}
+use Rattle.model.specs.Tables.Layout.{wordCount}
 use Rattle.model.specs.Request.Refusals as refusal
 
 pub record S1Exhibit : Type 0 where
@@ -41,3 +45,10 @@ pub record S1Exhibit : Type 0 where
   -- The script of two shows has these six lines as its output, and no other.
   pub scriptWrites : Outputs s1Words s1Script s1Output
   pub scriptOnly : (o : List ℕ) → Outputs s1Words s1Script o → o ≡ s1Output
+  -- S1's text has 987 bytes, one after another those of the case; the writer of tables puts them into any room that has so many,
+  pub textWritten : {room r : List ℕ} {a : ℕ} → WriteTablesCall s1Words room a r → TextWritten s1Text room a r
+  pub textBytes : length s1Text ≡ 987
+  -- and the reader of tables gives S1's words for them.
+  pub textRead : {v w : List ℕ} {a : ℕ} → length v ≡ wordCount → ReadTablesCall s1Text v a w → (noIn a ≡ refusal.accepted) × (w ≡ s1Words)
+  -- Damaged texts of S1 are refused with 18 and the line that is the first bad one, or with 2, and the words to write to stay.
+  pub damagedRead : AllRefused damaged

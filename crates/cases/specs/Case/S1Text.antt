@@ -1,22 +1,33 @@
 -- Document 02, M-103; rules 13, 16.1 and 16.2: the text of case state S1, byte for byte, a line to a line.
+use mathlib.Core.Bool.{true}
 use mathlib.Core.List.{List, [], _∷_}
-use mathlib.Core.Path.{_∙_, _≡_, ap, refl}
-use Prim.Native.Nat.{ℕ}
-use lib.ListN.{length}
+use mathlib.Core.Path.{_∙_, _≡_, ap, refl, sym}
+use Prim.Native.Nat.{_≤_, ℕ}
+use native.Mathlib.Omega.{arith}
+use lib.Dec.{leb}
+use lib.ListN.{List·getD-eq-default, getD, length}
 use Rattle.cases.specs.Case.Opened.{opened}
 use Rattle.cases.specs.Case.S1.{s1, s1Sheet}
-use Rattle.cases.specs.Case.S1Words.{s1Entities, s1Users, s1Words, s1Words-tables}
+use Rattle.cases.specs.Case.S1Words.{s1Entities, s1Users, s1Words, s1Words-checked, s1Words-length, s1Words-tables}
+use Rattle.model.specs.Basics.Agree.{agrees-eq, agrees-le, every-at}
+use Rattle.model.specs.Basics.Cases.{cases, lt-or-le}
+use Rattle.model.specs.Basics.TestLaws.{is-true}
+use Rattle.model.specs.Basics.Tests.{every}
 use Rattle.model.specs.Basics.Together.{together}
-use Rattle.model.specs.Tables.Layout.{tablesOf}
+use Rattle.model.specs.State.AgreeSecure.{check-agrees}
+use Rattle.model.specs.State.Check.{check}
+use Rattle.model.specs.Tables.Layout.{tablesOf, wordCount}
 use Rattle.model.specs.Tables.WordAt.{entityWordAt, entityWordOf, userWordAt, userWordOf}
 use Rattle.model.specs.Tables.WordsOf.{firstValues, wordAtIndex, wordsOf}
 use Rattle.model.specs.Text.Lines.{line, readLine}
-use Rattle.model.specs.Text.Numbers.{digits}
+use Rattle.model.specs.Text.Numbers.{digits, most}
 use Rattle.model.specs.Text.Unfinished.{ends}
+use Rattle.tables_text.specs.Given.{TextOf}
 use Rattle.tables_text.specs.Stages.{Stage, entitiesStage, entityRecord, entityStage, noTables, past, placesStage, reading, stuck, triplesStage}
 use Rattle.tables_text.specs.Stages.{userRecord, userStage, usersStage}
 use Rattle.tables_text.specs.TextOf.{entityLines, entityText, fieldLines, series, tablesText, userLines, userText}
 use Rattle.tables_text.specs.Values.{readField}
+use Rattle.model.specs.Request.Refusals as refusal
 
 -- its 103 lines
 unfoldable pub s1Lines : List (List ℕ)
@@ -267,3 +278,24 @@ pub s1Text-read : wordsRead (reading s1Text) ≡ s1Words
 unfolding opened s1Words s1Users s1Entities s1Text s1Lines reading usersStage entitiesStage userRecord entityRecord userStage entityStage placesStage
     triplesStage readField readLine line digits entityWordAt entityWordOf userWordAt userWordOf wordsOf firstValues wordAtIndex
 s1Text-read = refl
+
+-- ---- S1's words have this text
+
+words-fit : every wordCount (λ i. leb (getD s1Words i 0) most) ≡ true
+unfolding opened s1Words s1Users s1Entities
+words-fit = refl
+
+-- every word fits in 32 bits
+small : (i : ℕ) → getD s1Words i 0 ≤ most
+small i =
+    cases (lt-or-le i wordCount)
+    (λ l. agrees-le (getD s1Words i 0) most .to (every-at wordCount (λ j. leb (getD s1Words j 0) most) (is-true _ words-fit) i l))
+    (λ l. omega (arith, List·getD-eq-default s1Words 0 {n = i} (omega (arith, s1Words-length))))
+
+pub s1-text : TextOf s1Text s1Words
+s1-text = record {
+  size = s1Words-length;
+  small = small;
+  wellFormed = check-agrees s1Words .to (agrees-eq (check s1Words) refusal.accepted .from s1Words-checked) .1 .0;
+  is = sym s1Words-text;
+}
