@@ -4,7 +4,7 @@ use bench::load::{Call, Load};
 use bench::requests::Wanted;
 use bench::{requests, runs, tables, texts};
 use generate::layout::OPERATION_MOST;
-use generate::{dice_for, full, Dice};
+use generate::{dice_for, full, longest, Dice};
 
 /// The operations by their numbers from 1.
 const OPERATION_NAMES: [&str; OPERATION_MOST as usize] = [
@@ -90,6 +90,7 @@ pub const MIX: Contest = Contest { call: Call::Advance, kind: Kind::Mixed };
 pub fn all() -> Vec<Contest> {
     let tables = [Kind::S1, Kind::Middle, Kind::Full, Kind::Fullest];
     let texts = [Kind::Short, Kind::Longest, Kind::Mixed];
+    let tables_texts = [Kind::S1, Kind::Middle, Kind::Full, Kind::Longest];
     let operations: Vec<Kind> = (1..=OPERATION_MOST).map(Kind::Operation).collect();
     let of = |call: Call, kinds: &[Kind]| kinds.iter().map(|&kind| Contest { call, kind }).collect::<Vec<_>>();
     [
@@ -100,6 +101,8 @@ pub fn all() -> Vec<Contest> {
         of(Call::List, &tables),
         of(Call::Read, &texts),
         of(Call::Write, &texts),
+        of(Call::ReadTables, &tables_texts),
+        of(Call::WriteTables, &tables_texts),
     ]
     .concat()
 }
@@ -120,7 +123,8 @@ impl Contest {
     pub fn load(&self, seed: u64, tables: usize) -> Result<Load, String> {
         let mut dice = self.kind.dice(seed);
         let load = match self.call {
-            Call::Check => self.check_load(&mut dice, tables),
+            Call::Check | Call::WriteTables => self.check_load(&mut dice, tables),
+            Call::ReadTables => tables::with_texts(self.check_load(&mut dice, tables)),
             Call::List => self.list_load(&mut dice, tables),
             Call::Step | Call::Advance => self.request_load(&mut dice, tables),
             Call::Run => runs::prepare(&mut dice),
@@ -137,7 +141,7 @@ impl Contest {
         }
     }
 
-    /// Tables to check.
+    /// Tables to check or to write.
     fn check_load(&self, dice: &mut Dice, tables: usize) -> Load {
         self.maker().map_or_else(tables::check_s1, |make| tables::check(dice, tables, make))
     }
@@ -153,6 +157,7 @@ impl Contest {
             Kind::S1 => None,
             Kind::Full => Some(full::full),
             Kind::Fullest => Some(full::fullest),
+            Kind::Longest => Some(longest::longest_text),
             _ => Some(generate::tables),
         }
     }

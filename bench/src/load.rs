@@ -1,9 +1,10 @@
 //! What calls are made on: tables, and for each call the number of its tables and what else it takes.
 use crate::side::{Outcome, Side};
 use generate::full::ENTRIES_MOST;
-use generate::layout::{ENTRY_WORDS, REQUEST_WORDS};
+use generate::layout::{ENTRY_WORDS, REQUEST_WORDS, TABLE_WORDS};
+use generate::longest::TABLES_TEXT_MOST;
 
-/// The bytes of the longest text.
+/// The bytes of the longest text of a request.
 pub const TEXT_MOST: usize = 166;
 
 /// The requests of a run.
@@ -22,6 +23,8 @@ pub enum Call {
     List,
     Read,
     Write,
+    ReadTables,
+    WriteTables,
 }
 
 impl Call {
@@ -35,17 +38,21 @@ impl Call {
             Call::List => "list",
             Call::Read => "read",
             Call::Write => "write",
+            Call::ReadTables => "read_tables",
+            Call::WriteTables => "write_tables",
         }
     }
 }
 
-/// Lent to calls to write to: large enough for any list, any text, any request and the answers of any run.
+/// Lent to calls to write to: large enough for any list, any text, any request, any tables and the answers of any run.
 #[derive(Clone, PartialEq, Eq)]
 pub struct Rooms {
     pub entries: Vec<u32>,
     pub text: Vec<u8>,
     pub request: Request,
     pub answers: Vec<u32>,
+    pub tables: Vec<u32>,
+    pub tables_text: Vec<u8>,
 }
 
 impl Rooms {
@@ -53,7 +60,8 @@ impl Rooms {
     pub fn new() -> Rooms {
         let entries = vec![0; ENTRIES_MOST as usize * ENTRY_WORDS];
         let answers = vec![0; RUN_REQUESTS];
-        Rooms { entries, text: vec![0; TEXT_MOST], request: [0; REQUEST_WORDS], answers }
+        let (tables, tables_text) = (vec![0; TABLE_WORDS], vec![0; TABLES_TEXT_MOST]);
+        Rooms { entries, text: vec![0; TEXT_MOST], request: [0; REQUEST_WORDS], answers, tables, tables_text }
     }
 
     /// The sum of the answers that the last run has left; no other call writes there.
@@ -71,6 +79,7 @@ pub struct Load {
     pub places: Vec<usize>,
     pub requests: Vec<Request>,
     pub users: Vec<u32>,
+    /// Of requests; or of all tables, in their order.
     pub texts: Vec<Vec<u8>>,
     /// The words of all requests of a run, which is one call, on the first tables.
     pub run: Vec<u32>,
@@ -80,7 +89,7 @@ impl Load {
     /// How many calls of this kind a pass makes.
     pub fn calls(&self, call: Call) -> usize {
         match call {
-            Call::Check => self.places.len(),
+            Call::Check | Call::ReadTables | Call::WriteTables => self.places.len(),
             Call::Step | Call::Advance | Call::Write => self.requests.len(),
             Call::Run => usize::from(!self.run.is_empty()),
             Call::List => self.users.len(),
@@ -99,6 +108,8 @@ impl Load {
             Call::List => (side.list)(&tables[self.places[at]], self.users[at], &mut rooms.entries),
             Call::Read => (side.read)(&self.texts[at], &mut rooms.request),
             Call::Write => (side.write)(&self.requests[at], &mut rooms.text),
+            Call::ReadTables => (side.read_tables)(&self.texts[self.places[at]], &mut rooms.tables),
+            Call::WriteTables => (side.write_tables)(&tables[self.places[at]], &mut rooms.tables_text),
         }
     }
 
@@ -114,6 +125,8 @@ impl Load {
             Call::List => sum(calls, |at| self.call(at, Call::List, side, tables, rooms)),
             Call::Read => sum(calls, |at| self.call(at, Call::Read, side, tables, rooms)),
             Call::Write => sum(calls, |at| self.call(at, Call::Write, side, tables, rooms)),
+            Call::ReadTables => sum(calls, |at| self.call(at, Call::ReadTables, side, tables, rooms)),
+            Call::WriteTables => sum(calls, |at| self.call(at, Call::WriteTables, side, tables, rooms)),
         }
     }
 }

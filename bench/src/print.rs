@@ -6,12 +6,13 @@ use bench::load::{Call, RUN_REQUESTS};
 
 /// What the names in the first two columns mean.
 const NAMES: &str = "
-- check, step, run, list, read, write: the six calls. A run has 10,000 requests to one tables. advance: the step without the check.
+- check, step, run, list, read, write, read_tables, write_tables: the eight calls. A run has 10,000 requests to one tables. advance: the step
+  without the check.
 - s1: case state S1 alone, again and again; the list is that of user 2.
 - middle: tables made by dice, some entities absent and some users off. full: all entities present and all users on, levels and triples
   by dice. fullest: the tables that have the longest list there is.
 - mixed: all operations. A name of an operation: that one alone.
-- short: texts of 39 bytes. longest: texts of 166 bytes.";
+- short: texts of 39 bytes. longest: texts of 166 bytes, and of tables texts of 17,721 bytes.";
 
 /// What stands above the lines of the contests.
 pub fn heading(seed: u64, repetitions: u32) {
@@ -41,12 +42,12 @@ fn a_pass(report: &Report) -> String {
     let mean = report.agreed.numbers as f64 / report.calls as f64;
     let about = match report.contest.call {
         Call::List => format!(", {mean:.1} entries each"),
-        Call::Write => format!(", {mean:.1} bytes each"),
+        Call::Write | Call::WriteTables => format!(", {mean:.1} bytes each"),
         Call::Step | Call::Advance => format!(", {} accepted", whole(report.agreed.accepted as u64)),
         Call::Run => {
             format!(" of {} requests, {} accepted", whole(RUN_REQUESTS as u64), whole(report.agreed.accepted as u64))
         }
-        Call::Check | Call::Read => String::new(),
+        Call::Check | Call::Read | Call::ReadTables => String::new(),
     };
     let calls = if report.calls == 1 { "call" } else { "calls" };
     format!("{} {calls}{about}", whole(report.calls as u64))

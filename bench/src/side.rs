@@ -13,6 +13,8 @@ pub struct Side {
     pub list: fn(&[u32], u32, &mut [u32]) -> Outcome,
     pub read: fn(&[u8], &mut [u32]) -> Outcome,
     pub write: fn(&[u32], &mut [u8]) -> Outcome,
+    pub read_tables: fn(&[u8], &mut [u32]) -> Outcome,
+    pub write_tables: fn(&[u32], &mut [u8]) -> Outcome,
 }
 
 /// Puts an answer and its number into one word.

@@ -5,7 +5,7 @@ use crate::advance;
 use bench::side::{packed, Outcome, Side};
 use ordinary::Right;
 
-/// One of the six calls of a desk, kept out of line.
+/// One of the eight calls of a desk, kept out of line.
 macro_rules! call {
     ($name:ident, $desk:path, $answer:ident, ($($given:ident: $kind:ty),*)) => {
         #[inline(never)]
@@ -22,6 +22,8 @@ call!(proved_run, mms::words::run, no, (tables: &mut [u32], requests: &[u32], an
 call!(proved_list, mms::words::list, no, (tables: &[u32], user: u32, room: &mut [u32]));
 call!(proved_read, mms::words::read, no, (text: &[u8], request: &mut [u32]));
 call!(proved_write, mms::words::write, no, (request: &[u32], room: &mut [u8]));
+call!(proved_read_tables, mms::words::read_tables, no, (text: &[u8], tables: &mut [u32]));
+call!(proved_write_tables, mms::words::write_tables, no, (tables: &[u32], room: &mut [u8]));
 
 call!(ordinary_check, ordinary::check::<Right>, answer, (tables: &[u32]));
 call!(ordinary_step, ordinary::step::<Right>, answer, (tables: &mut [u32], request: &[u32]));
@@ -29,6 +31,8 @@ call!(ordinary_run, ordinary::run::<Right>, answer, (tables: &mut [u32], request
 call!(ordinary_list, ordinary::list::<Right>, answer, (tables: &[u32], user: u32, room: &mut [u32]));
 call!(ordinary_read, ordinary::read::<Right>, answer, (text: &[u8], request: &mut [u32]));
 call!(ordinary_write, ordinary::write::<Right>, answer, (request: &[u32], room: &mut [u8]));
+call!(ordinary_read_tables, ordinary::read_tables::<Right>, answer, (text: &[u8], tables: &mut [u32]));
+call!(ordinary_write_tables, ordinary::write_tables::<Right>, answer, (tables: &[u32], room: &mut [u8]));
 
 /// The proved step without the check, which answers no number.
 #[inline(never)]
@@ -52,6 +56,8 @@ pub static PROVED: Side = Side {
     list: proved_list,
     read: proved_read,
     write: proved_write,
+    read_tables: proved_read_tables,
+    write_tables: proved_write_tables,
 };
 
 /// The desk as one would write it by hand.
@@ -64,6 +70,8 @@ pub static ORDINARY: Side = Side {
     list: ordinary_list,
     read: ordinary_read,
     write: ordinary_write,
+    read_tables: ordinary_read_tables,
+    write_tables: ordinary_write_tables,
 };
 
 /// Both, in the order of the printed columns.

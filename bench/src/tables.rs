@@ -1,7 +1,9 @@
-//! Tables for the check and for the list, with who asks for a list.
+//! Tables for the check, for the writer and the reader of tables and for the list, with who asks for a list.
 use crate::load::Load;
 use generate::layout::{user, user_base, USERS};
+use generate::longest::TABLES_TEXT_MOST;
 use generate::Dice;
+use ordinary::Right;
 
 /// Checks of each tables, one after the other: a desk's own tables are asked again and again, and so stay in the caches.
 const CHECKS_OF_EACH: usize = 4;
@@ -24,6 +26,19 @@ pub fn check_s1() -> Load {
 pub fn check(dice: &mut Dice, tables: usize, make: Maker) -> Load {
     let places = (0..tables).flat_map(|place| [place; CHECKS_OF_EACH]).collect();
     Load { tables: (0..tables).map(|_| make(dice)).collect(), places, ..Load::default() }
+}
+
+/// The same tables with their texts.
+pub fn with_texts(load: Load) -> Load {
+    Load { texts: load.tables.iter().map(|tables| text(tables)).collect(), ..load }
+}
+
+/// The text of tables.
+fn text(tables: &[u32]) -> Vec<u8> {
+    let mut room = vec![0; TABLES_TEXT_MOST];
+    let reply = ordinary::write_tables::<Right>(tables, &mut room);
+    room.truncate(reply.number as usize);
+    room
 }
 
 /// Lists of S1 alone.
@@ -49,4 +64,19 @@ pub fn list(dice: &mut Dice, tables: usize, make: Maker) -> Load {
         }
     }
     load
+}
+
+#[cfg(test)]
+mod tests {
+    use super::*;
+    use generate::longest::longest_text;
+
+    /// Texts have the lengths that are printed with their figures.
+    #[test]
+    fn texts_are_as_long_as_they_are_said_to_be() {
+        let longest = with_texts(check(&mut Dice::new(1), 3, longest_text));
+        assert_eq!((longest.texts.len(), longest.places.len()), (3, 3 * CHECKS_OF_EACH));
+        assert!(longest.texts.iter().all(|text| text.len() == TABLES_TEXT_MOST));
+        assert_eq!(with_texts(check_s1()).texts.iter().map(Vec::len).collect::<Vec<_>>(), [987]);
+    }
 }

@@ -1,6 +1,7 @@
 //! The tables as text: for each record that is present a line with its number, and then its words by their keys
 //! [rules 16.1, 16.2].
 
+mod place;
 pub mod read;
 pub mod write;
 mod wrong;

@@ -1,6 +1,5 @@
 //! The request as text: seven lines, each a key and its value [rules 11.1, 11.2].
 
-pub mod place;
 pub mod read;
 pub mod write;
 

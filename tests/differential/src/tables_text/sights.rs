@@ -81,8 +81,8 @@ impl Read<'_> {
 
     /// The bytes of the bad line; none where it is missing.
     fn line(&self, bad: &Bad) -> &[u8] {
-        let lines = self.text.split_inclusive(|byte| *byte == b'\n');
-        let line = lines.skip(bad.line - 1).next().unwrap_or(b"");
+        let mut lines = self.text.split_inclusive(|byte| *byte == b'\n');
+        let line = lines.nth(bad.line - 1).unwrap_or(b"");
         line.strip_suffix(b"\n").unwrap_or(line)
     }
 }

@@ -1,15 +1,14 @@
 //! Reading the tables' text [rule 16.5].
 
+use super::place::Place;
 use super::{wrong, Field, CONTENT, ENTITY, OF_ENTITY, OF_USER, TRIPLE, TRIPLES, USER};
 use crate::access;
 use crate::check;
 use crate::refusal::{Refusal, Reply};
 use crate::tables::{entity_words_mut, user_words_mut, Entity, User};
-use crate::text::place::{Numbers, Place};
 use crate::text::{DOT, END_OF_LINE};
 use crate::words::*;
 use crate::Rules;
-use std::marker::PhantomData;
 
 /// The most that fits into the part of a triple's word that has who, and into those that have operation and position.
 const WHO_FITS: u32 = 0xffff;
@@ -114,18 +113,18 @@ impl Lines<'_> {
     /// Reads a line with a number that will do.
     #[inline]
     fn number<R: Rules>(&mut self, key: &[u8], will_do: impl FnOnce(u32) -> bool) -> Option<u32> {
-        self.line::<R, _>(key, |place| place.number::<OfTables<R>>().filter(|number| will_do(*number)))
+        self.line::<R, _>(key, |place| place.number::<R>().filter(|number| will_do(*number)))
     }
 
     /// Reads the line of a place: the entity and the shown sum.
     fn place<R: Rules>(&mut self) -> Option<[u32; 2]> {
-        self.line::<R, _>(CONTENT, |place| Some([place.number::<OfTables<R>>()?, part::<R>(place)?]))
+        self.line::<R, _>(CONTENT, |place| Some([place.number::<R>()?, part::<R>(place)?]))
     }
 
     /// Reads the line of a triple that has who, operation and position in their ranges and is not all 0.
     fn triple<R: Rules>(&mut self) -> Option<u32> {
         self.line::<R, _>(TRIPLE, |place| {
-            let [who, operation, position] = [place.number::<OfTables<R>>()?, part::<R>(place)?, part::<R>(place)?];
+            let [who, operation, position] = [place.number::<R>()?, part::<R>(place)?, part::<R>(place)?];
             let fits = who <= WHO_FITS + u32::from(R::WIDE)
                 && operation <= PART_FITS + u32::from(R::CARRY)
                 && position <= PART_FITS + u32::from(R::FAR)
@@ -169,13 +168,5 @@ impl Lines<'_> {
 #[inline]
 fn part<R: Rules>(place: &mut Place) -> Option<u32> {
     place.take(DOT).then_some(())?;
-    place.number::<OfTables<R>>()
-}
-
-/// The numbers of tables.
-struct OfTables<R>(PhantomData<R>);
-
-impl<R: Rules> Numbers for OfTables<R> {
-    const LEADING: bool = R::PADDED;
-    const WRAPPED: bool = R::ROUND;
+    place.number::<R>()
 }

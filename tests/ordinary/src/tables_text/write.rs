@@ -19,9 +19,16 @@ const WRONG_MOST: usize = 40_000;
 pub fn whole<R: Rules>(tables: &Tables, room: &mut [u8]) -> Reply {
     match judged::<R>(tables) {
         Err(refusal) if !R::NEEDS => Reply::to(Err(refusal)),
-        judged if R::NEEDS || R::ANYHOW || R::GAPS => Text::<WRONG_MOST>::of::<R>(tables).put::<R>(judged, room),
-        judged => Text::<TEXT_MOST>::of::<R>(tables).put::<R>(judged, room),
+        judged if R::NEEDS || R::ANYHOW || R::GAPS => made::<R, WRONG_MOST>(tables, judged, room),
+        judged => made::<R, TEXT_MOST>(tables, judged, room),
     }
+}
+
+/// Makes the text, and puts it into the room.
+fn made<R: Rules, const MOST: usize>(tables: &Tables, judged: Result<(), Refusal>, room: &mut [u8]) -> Reply {
+    let mut text = Text { bytes: [0; MOST], length: 0 };
+    text.records::<R>(tables);
+    text.put::<R>(judged, room)
 }
 
 /// Whether tables have a text.
@@ -40,22 +47,20 @@ struct Text<const MOST: usize> {
 }
 
 impl<const MOST: usize> Text<MOST> {
-    /// The text of tables: users by number, and then entities by number.
-    fn of<R: Rules>(tables: &Tables) -> Text<MOST> {
-        let mut text = Text { bytes: [0; MOST], length: 0 };
+    /// All records of tables: users by number, and then entities by number.
+    fn records<R: Rules>(&mut self, tables: &Tables) {
         if R::TURNED {
-            text.entities::<R>(tables);
+            self.entities::<R>(tables);
         }
         for user in User::all() {
             let words = user_words(tables, user);
             if words[user::PRESENT] != 0 || R::ABSENT {
-                text.user::<R>(user, words);
+                self.user::<R>(user, words);
             }
         }
         if !R::TURNED {
-            text.entities::<R>(tables);
+            self.entities::<R>(tables);
         }
-        text
     }
 
     /// Puts the text into a room that is long enough.

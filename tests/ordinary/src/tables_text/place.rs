@@ -1,18 +1,11 @@
-//! A place in a text, and what can be read there whatever the text is of.
+//! A place in a text of tables, and the numbers and bytes that can be read there.
 
-use super::{BASE, ZERO};
+use crate::text::{BASE, ZERO};
+use crate::Rules;
 
 /// What is still to be read.
 pub struct Place<'a> {
     pub rest: &'a [u8],
-}
-
-/// Which errors a desk makes in the numbers of one sort of text.
-pub trait Numbers {
-    /// It takes leading zeros.
-    const LEADING: bool;
-    /// It takes what 32 bits leave of a larger number.
-    const WRAPPED: bool;
 }
 
 impl Place<'_> {
@@ -24,14 +17,15 @@ impl Place<'_> {
     }
 
     /// Reads a number up to the first byte that is no digit. The first digit is 0 only where it stands alone.
-    pub fn number<N: Numbers>(&mut self) -> Option<u32> {
+    #[inline]
+    pub fn number<R: Rules>(&mut self) -> Option<u32> {
         let mut value = self.digit()?;
-        if value == 0 && !N::LEADING {
+        if value == 0 && !R::PADDED {
             // A further digit is left standing, where a dot or the end of the line should be.
             return Some(0);
         }
         while let Some(digit) = self.digit() {
-            value = if N::WRAPPED {
+            value = if R::ROUND {
                 value.wrapping_mul(BASE).wrapping_add(digit)
             } else {
                 value.checked_mul(BASE)?.checked_add(digit)?
@@ -44,9 +38,12 @@ impl Place<'_> {
     #[inline]
     fn digit(&mut self) -> Option<u32> {
         let (byte, rest) = self.rest.split_first()?;
-        let digit = Some(byte).filter(|byte| byte.is_ascii_digit())?;
+        let digit = u32::from(byte.wrapping_sub(ZERO));
+        if digit >= BASE {
+            return None;
+        }
         self.rest = rest;
-        Some(u32::from(digit - ZERO))
+        Some(digit)
     }
 
     /// Reads that byte, and says whether it came next.
