@@ -8,7 +8,9 @@ from machine import ROOT, Wrong
 
 PAGE = "docs/MODEL.md"
 DEMANDS = "mms/Demands"
-SHUT = {"CheckCall", "StepCall", "RunCall", "ListCall", "ReadCall", "WriteCall", "after", "Outputs"}
+SHUT = {"CheckCall", "StepCall", "RunCall", "ListCall", "ReadCall", "WriteCall", "WriteTablesCall", "ReadTablesCall", "after", "Outputs"}
+# crates whose places are named with them; the others are rooms of the model
+NAMED = ("mms", "tables_text")
 
 USE = re.compile(r"^use Rattle·(\w+)(?:·specs\.specs|\.specs)\.(\S+?)\.\{([^}]*)\}$", re.M)
 ALIAS = re.compile(r"^use Rattle·(\w+)(?:·specs\.specs|\.specs)\.(\S+) as (\w+)$", re.M)
@@ -16,7 +18,7 @@ SORTS = r"(?:abbrev |unfoldable |pub |record |data )*"
 DECLARED = re.compile(rf"^(?:  )?{SORTS}([^\s:(]+)")
 INNER = re.compile(r"^  (?:abbrev|unfoldable|pub) ")
 TOKEN = re.compile(r"[^\s(){}\[\],;]+")
-CELL = re.compile(r"\b((?:mms|[A-Z]\w*)/[A-Z]\w*|Level)\b(?: without its `(\w+)`)?(?:: ((?:`[^`]+`(?:, | and )?)+))?")
+CELL = re.compile(rf"\b((?:{'|'.join(NAMED)}|[A-Z]\w*)/[A-Z]\w*|Level)\b(?: without its `(\w+)`)?(?:: ((?:`[^`]+`(?:, | and )?)+))?")
 
 
 def place_of(crate, module):
@@ -25,7 +27,7 @@ def place_of(crate, module):
 
 def file_of(place):
     crate, _, rest = place.partition("/")
-    return ROOT / "crates" / "mms" / "specs" / f"{rest}.antt" if crate == "mms" else ROOT / "crates" / "model" / "specs" / f"{place}.antt"
+    return ROOT / "crates" / crate / "specs" / f"{rest}.antt" if crate in NAMED else ROOT / "crates" / "model" / "specs" / f"{place}.antt"
 
 
 class Definitions:
