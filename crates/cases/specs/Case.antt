@@ -8,7 +8,7 @@ pub mod S1Words
 pub mod S1List
 pub mod S1Script
 pub mod S1Text
-pub mod S1Damaged
+pub mod DamagedTexts
 pub mod Condemned
 pub mod CondemnedDrops
 pub mod CondemnedHistories

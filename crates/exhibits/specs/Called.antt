@@ -9,7 +9,7 @@ use Rattle.mms.specs.Calls.{ReadTablesCall, RunCall, StepCall, noIn, numberIn}
 use Rattle.mms.specs.Contract.{exported}
 use Rattle.mms.specs.RoundTrip.{answering}
 use Rattle.cases.specs.Case.Cases.{Case, Exchange, Stands, _gets_, asked, gotten, stand}
-use Rattle.cases.specs.Case.S1Damaged.{Damaged}
+use Rattle.cases.specs.Case.DamagedTexts.{DamagedText}
 use Rattle.model.specs.Basics.Together.{together}
 use Rattle.model.specs.Tables.Layout.{tablesOf, wordCount}
 use Rattle.model.specs.Request.Refusals as refusal
@@ -36,7 +36,7 @@ AllInOneRun t [] = Unit {0}
 AllInOneRun t (c ∷ cs) = InOneRun t (c .exchanges) (c .standing) × AllInOneRun t cs
 
 -- Texts that the reader of tables refuses: each with its answer and its number, whatever the 2,304 words are that it may write to; and they stay.
-abbrev pub AllRefused : List Damaged → Type 0
+abbrev pub AllRefused : List DamagedText → Type 0
 AllRefused [] = Unit {0}
 AllRefused (c ∷ cs) =
     ((v w : List ℕ) (a : ℕ) → length v ≡ wordCount → ReadTablesCall (c .text) v a w → (noIn a ≡ c .answer) × (numberIn a ≡ c .number) × (w ≡ v))

@@ -9,7 +9,7 @@ use Rattle.mms.specs.Calls.{ListCall, Passes, ReadTablesCall, StepCall, TextWri
 use Rattle.mms.specs.Contract.{exported}
 use Rattle.mms.specs.RoundTrip.{answering}
 use Rattle.cases.specs.Case.S1.{starred, unstarred}
-use Rattle.cases.specs.Case.S1Damaged.{damaged}
+use Rattle.cases.specs.Case.DamagedTexts.{damagedTexts}
 use Rattle.cases.specs.Case.S1List.{s1Unmarked}
 use Rattle.cases.specs.Case.S1Script.{s1Output, s1Script}
 use Rattle.cases.specs.Case.S1Text.{s1Text}
@@ -51,4 +51,4 @@ pub record S1Exhibit : Type 0 where
   -- and the reader of tables gives S1's words for them.
   pub textRead : {v w : List ℕ} {a : ℕ} → length v ≡ wordCount → ReadTablesCall s1Text v a w → (noIn a ≡ refusal.accepted) × (w ≡ s1Words)
   -- Damaged texts of S1 are refused with 18 and the line that is the first bad one, or with 2, and the words to write to stay.
-  pub damagedRead : AllRefused damaged
+  pub damagedRead : AllRefused damagedTexts

@@ -8,7 +8,7 @@ use lib.ListN.{length}
 use Rattle.exhibits.specs.Called.{AllRefused}
 use Rattle.mms.specs.Calls.{ReadTablesCall, TextWritten, WriteTablesCall, noIn, numberIn}
 use Rattle.mms.specs.TablesCallLaws.{read-tables-halves, tablesAsText}
-use Rattle.cases.specs.Case.S1Damaged.{Damaged, allHold, damaged, damaged-hold, holds}
+use Rattle.cases.specs.Case.DamagedTexts.{DamagedText, allHold, damagedTexts, damaged-texts-hold, holds}
 use Rattle.cases.specs.Case.S1Text.{s1-text, s1Text}
 use Rattle.cases.specs.Case.S1Words.{s1Words}
 use Rattle.model.specs.Basics.Agree.{agrees-eq, agrees-not}
@@ -27,7 +27,7 @@ pub s1-text-read : {v w : List ℕ} {a : ℕ} → length v ≡ wordCount → Rea
 s1-text-read h x = tablesAsText .read s1-text h x
 
 -- what is computed of a damaged text is what the call answers
-damaged-called : (c : Damaged) → T (holds c) → (v w : List ℕ) (a : ℕ) → length v ≡ wordCount
+damaged-called : (c : DamagedText) → T (holds c) → (v w : List ℕ) (a : ℕ) → length v ≡ wordCount
     → ReadTablesCall (c .text) v a w → (noIn a ≡ c .answer) × (numberIn a ≡ c .number) × (w ≡ v)
 unfolding holds readAnswer readNumber
 damaged-called c t v w a h x =
@@ -40,10 +40,10 @@ damaged-called c t v w a h x =
     let n : noIn a ≡ c .answer = y .answer ∙ rw z p in
     (n, y .number ∙ rw z q, read-refused y (λ e. f (sym n ∙ e)))
 
-all-called : (cs : List Damaged) → T (allHold cs) → AllRefused cs
+all-called : (cs : List DamagedText) → T (allHold cs) → AllRefused cs
 unfolding allHold
 all-called [] t = tt
 all-called (c ∷ cs) t = (damaged-called c (T-l (holds c) (allHold cs) t), all-called cs (T-r (holds c) (allHold cs) t))
 
-pub damaged-refused : AllRefused damaged
-damaged-refused = all-called damaged damaged-hold
+pub damaged-refused : AllRefused damagedTexts
+damaged-refused = all-called damagedTexts damaged-texts-hold

@@ -45,3 +45,4 @@ pub mod LongestLaws
 pub mod LongestTables
 pub mod LongestMetLaws
 pub mod LongestCallLaws
+pub mod FigureLaws

@@ -24,17 +24,17 @@ abbrev pub withLines : ℕ → List (List ℕ) → List ℕ
 withLines n ls = together (take (n - 1) s1Lines ++ (ls ++ drop n s1Lines))
 
 -- A text, and what the reader answers and names.
-pub record Damaged : Type 0 where
+pub record DamagedText : Type 0 where
   pub text : List ℕ
   pub answer : ℕ
   pub number : ℕ
 
 -- 18, at this line
-abbrev pub broken : ℕ → List ℕ → Damaged
+abbrev pub broken : ℕ → List ℕ → DamagedText
 broken n s = record { text = s; answer = refusal.notARequest; number = n }
 
 -- 2, where all lines can be read
-abbrev pub unformed : List ℕ → Damaged
+abbrev pub unformed : List ℕ → DamagedText
 unformed s = record { text = s; answer = refusal.notWellFormed; number = 0 }
 
 -- a line with three parts
@@ -43,8 +43,8 @@ partLine w o p = line tripleKey (joined (w ∷ o ∷ p ∷ []))
 
 -- The lines that are touched here: 1 and 2 are user 1 and its clearance, 17 is user 3, 56 and 57 are entity 4 and its kind, 59 is its level, 64 the number
 -- of its places, 65 and 66 the places, 68 is entity 5, 77 the number of its triples, 78 and 79 these; 103 is the last.
-unfoldable pub damaged : List Damaged
-damaged =
+unfoldable pub damagedTexts : List DamagedText
+damagedTexts =
     -- a line is dropped, a line is doubled, a blank line
     broken 2 (withLines 2 []) ∷ broken 3 (withLines 2 (numberLine clearanceKey 1023 ∷ numberLine clearanceKey 1023 ∷ []))
     ∷ broken 2 (withLines 2 ((lineEnd ∷ []) ∷ numberLine clearanceKey 1023 ∷ []))
@@ -77,14 +77,14 @@ damaged =
     ∷ []
 
 -- what a reading of a text answers and names, and that it is a refusal
-unfoldable pub holds : Damaged → Bool
+unfoldable pub holds : DamagedText → Bool
 holds c = eqb (answerIn (reading (c .text))) (c .answer) && (eqb (lineIn (c .text) (reading (c .text))) (c .number) && not (eqb (c .answer) refusal.accepted))
 
-unfoldable pub allHold : List Damaged → Bool
+unfoldable pub allHold : List DamagedText → Bool
 allHold [] = true
 allHold (c ∷ cs) = holds c && allHold cs
 
-pub damaged-hold : T (allHold damaged)
-unfolding opened s1Text s1Lines damaged holds allHold reading usersStage entitiesStage userRecord entityRecord userStage entityStage placesStage triplesStage
+pub damaged-texts-hold : T (allHold damagedTexts)
+unfolding opened s1Text s1Lines damagedTexts holds allHold reading usersStage entitiesStage userRecord entityRecord userStage entityStage placesStage triplesStage
     readField readLine line digits entityWordAt entityWordOf userWordAt userWordOf
-damaged-hold = tt
+damaged-texts-hold = tt
