@@ -1,5 +1,5 @@
--- What a case says of the exported step, of the exported run, and of the exported reader of tables. The cases are those of Case/Cases, as they stand there: the requests of a case are calls
--- one after another, or one run.
+-- What a case says of the exported step, of the exported run, and of the exported reader of tables. The cases are those of Case/Cases, as they stand
+-- there: the requests of a case are calls one after another, or one run; and those of Case/DamagedTexts.
 use mathlib.Core.List.{List, [], _++_, _∷_}
 use mathlib.Core.Path.{_≡_}
 use Prim.Native.Nat.{_≤_, ℕ}

@@ -1,7 +1,7 @@
 -- Rule 16 of the calls: what their words say, and that what is stated of the tables as text holds.
 use mathlib.Core.List.{List}
 use mathlib.Core.Logic.{_↔_}
-use mathlib.Core.Path.{_∙_, _≡_, refl, subst, sym}
+use mathlib.Core.Path.{_≡_, refl, subst, sym}
 use Prim.Native.Nat.{_≤_, ℕ}
 use lib.ListN.{length}
 use Rattle.mms.specs.Calls.{ReadTablesCall, TextWritten, WriteTablesCall, noIn, numberIn}

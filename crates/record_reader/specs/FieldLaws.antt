@@ -1,5 +1,4 @@
 -- The ways in which reading the line of a field ends.
-use mathlib.Core.Bool.{_&&_}
 use mathlib.Core.List.{List}
 use mathlib.Core.Path.{_∙_, _≡_, refl, sym}
 use Prim.Native.Nat.{_<_, _≤_, zero-le, ℕ}

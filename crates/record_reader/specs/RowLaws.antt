@@ -6,7 +6,7 @@ use Prim.Native.Nat.{_+_, _<_, _≤_, zero-le, ℕ}
 use native.Mathlib.Numerals.{add-one}
 use native.Mathlib.Omega.{arith}
 use lib.Dec.{leb, ltb}
-use lib.ListN.{drop, drop-of-length-le, getD, length}
+use lib.ListN.{drop-of-length-le, getD, length}
 use lib.Seq.{drop-cons}
 use Rattle.laws.specs.Bools.{neither-l, neither-r, or-cases}
 use Rattle.lines.specs.LineAt.{KeyAt}

@@ -11,7 +11,6 @@ use names::size;
 use names::word;
 use tables::Entity;
 use tables::User;
-ghost use mathlib.Core.List.{[]};
 ghost use mathlib.Core.Path.{_≡_};
 ghost use Prim.Native.Nat.{_≤_};
 ghost use lib.ListN.{drop, length};

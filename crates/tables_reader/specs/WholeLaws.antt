@@ -1,6 +1,6 @@
 -- The laws of a whole reading: where it is stuck, where it is past its end, and what the reader then answers and leaves.
 use mathlib.Core.Bool.{Bool, false, true}
-use mathlib.Core.List.{List, [], _++_, _∷_}
+use mathlib.Core.List.{List, [], _∷_}
 use mathlib.Core.Logic.{_≢_}
 use mathlib.Core.Path.{_∙_, _≡_, ap, fun-ext, refl, sym}
 use Prim.Native.Nat.{_+_, _-_, _<_, _≤_, suc, zero, zero-le, ℕ}
@@ -16,7 +16,6 @@ use Rattle.model.specs.Basics.TestLaws.{pick-same}
 use Rattle.model.specs.State.Check.{judge, secureTest, wellFormedTest}
 use Rattle.model.specs.Tables.Layout.{entityAt, entityIn, tablesOf, userAt, userIn, wordCount}
 use Rattle.model.specs.Tables.Words.{EntityWord, Tables, UserWord, entityCount, userCount}
-use Rattle.model.specs.Tables.WordsOf.{wordsOf}
 use Rattle.model.specs.Tables.WordsOfLaws.{wordsOf-tablesOf}
 use Rattle.model.specs.Text.Lines.{lineEnd}
 use Rattle.model.specs.Text.Unfinished.{ends}
@@ -24,11 +23,11 @@ use Rattle.record_reader.specs.StageAt.{StageAt}
 use Rattle.record_reader.specs.StageLaws.{onward-past, onward-stuck, staged}
 use Rattle.record_reader.specs.declared.records.Progress.the-variants.{Past, Stuck}
 use Rattle.tables_reader.specs.Blank.{blank}
-use Rattle.tables_text.specs.Calls.{ReadsTables, answerIn, lineIn, lineOf, readAnswer, readNumber, tablesAfter, tablesIn}
+use Rattle.tables_text.specs.Calls.{ReadsTables, lineOf, readAnswer, readNumber, tablesAfter}
 use Rattle.tables_text.specs.EndsLaws.{ends-append}
 use Rattle.tables_text.specs.LineMost.{lineMost}
 use Rattle.tables_text.specs.LineMostLaws.{line-most}
-use Rattle.tables_text.specs.Stages.{Stage, atEnd, entitiesStage, noTables, onward, past, reading, stuck, usersStage}
+use Rattle.tables_text.specs.Stages.{Stage, atEnd, entitiesStage, noTables, onward, reading, usersStage}
 use Rattle.model.specs.Request.Refusals as refusal
 use borrow.Author.Tests.{eq-eqb, ne-eqb}
 

@@ -15,7 +15,7 @@ use Rattle.model.specs.Text.References.{joined}
 use Rattle.model.specs.Text.Wording.{userKey}
 use Rattle.tables_text.specs.Calls.{answerIn, lineIn}
 use Rattle.tables_text.specs.Keys.{clearanceKey, contentKey, entityKey, kindKey, levelKey, placesKey, tripleKey, triplesKey}
-use Rattle.tables_text.specs.Stages.{Stage, entitiesStage, entityRecord, entityStage, placesStage, reading, triplesStage, userRecord, userStage, usersStage}
+use Rattle.tables_text.specs.Stages.{entitiesStage, entityRecord, entityStage, placesStage, reading, triplesStage, userRecord, userStage, usersStage}
 use Rattle.tables_text.specs.Values.{numberLine, placeLine, readField}
 use Rattle.model.specs.Request.Refusals as refusal
 
@@ -85,6 +85,6 @@ allHold [] = true
 allHold (c ∷ cs) = holds c && allHold cs
 
 pub damaged-texts-hold : T (allHold damagedTexts)
-unfolding opened s1Text s1Lines damagedTexts holds allHold reading usersStage entitiesStage userRecord entityRecord userStage entityStage placesStage triplesStage
-    readField readLine line digits entityWordAt entityWordOf userWordAt userWordOf
+unfolding opened s1Text s1Lines damagedTexts holds allHold reading usersStage entitiesStage userRecord entityRecord userStage entityStage
+    placesStage triplesStage readField readLine line digits entityWordAt entityWordOf userWordAt userWordOf
 damaged-texts-hold = tt

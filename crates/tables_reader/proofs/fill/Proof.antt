@@ -1,13 +1,9 @@
-use mathlib.Core.Path.{_∙_, ap, sym}
+use mathlib.Core.Path.{_∙_, ap}
 use lib.ListN.{length}
 use Rattle.tables_reader.specs.WholeLaws.{all-read, blank-length, entities-stuck, left-over, users-stuck}
 use borrow.Author.Needs.{needs}
 use Rattle.tables_reader.proofs.fill.Statement.{statement}
 use Rattle.tables_reader.proofs.fill.Tie as tie
-use Rattle.tables_reader.proofs.fill.Reads as reads
-use Rattle.tables_reader.proofs.fill.Lts as lts
-use Rattle.record_reader.proofs.records.read_entities.Reads as read-entities-reads
-use Rattle.record_reader.proofs.records.read_users.Reads as read-users-reads
 
 -- src/lib.rt:31:11
 read-users-requires : tie.Need-read-users-requires

@@ -3,13 +3,10 @@ use mathlib.Core.Path.{_∙_, _≡_, ap, refl}
 use Prim.Native.Nat.{_-_, _<_, _≤_, suc, ℕ}
 use native.Mathlib.Omega.{arith}
 use lib.ListN.{length, take}
-use borrow.Author.Needs.{needs}
 use Rattle.model.specs.Text.Unfinished.{ends}
 use Rattle.tables_reader.specs.WholeLaws.{ends-most, line-ends, line-goes}
 use Rattle.tables_reader.proofs.line_at.Statement.{statement}
 use Rattle.tables_reader.proofs.line_at.Tie as tie
-use Rattle.tables_reader.proofs.line_at.Reads as reads
-use Rattle.tables_reader.proofs.line_at.Lts as lts
 
 abbrev Inv-loop : tie.InvT-loop
 Inv-loop s at n₀ i₀ n i = (i ≤ at) × (n ≡ suc (ends (take i s)))

@@ -1,13 +1,8 @@
-use mathlib.Core.Path.{refl}
 use Rattle.record_reader.specs.FieldLaws.{field-fits}
 use Rattle.record_reader.specs.StageLaws.{access-next, access-none, staged}
 use borrow.Author.Needs.{needs}
 use Rattle.record_reader.proofs.records.read_access.Statement.{statement}
 use Rattle.record_reader.proofs.records.read_access.Tie as tie
-use Rattle.record_reader.proofs.records.read_access.Reads as reads
-use Rattle.record_reader.proofs.records.read_access.Lts as lts
-use Rattle.record_reader.proofs.rows.read_triples.Reads as read-triples-reads
-use Rattle.record_reader.proofs.singles.triples_line.Reads as triples-line-reads
 
 -- src/records.rt:74:37
 triples-line-requires : tie.Need-triples-line-requires

@@ -10,10 +10,6 @@ use Rattle.record_reader.specs.NumberedLaws.{RecordsTo, inside, records-
 use Rattle.tables_text.specs.Stages.{entitiesStage, entityRecord}
 use Rattle.record_reader.proofs.records.read_entities.Statement.{statement}
 use Rattle.record_reader.proofs.records.read_entities.Tie as tie
-use Rattle.record_reader.proofs.records.read_entities.Reads as reads
-use Rattle.record_reader.proofs.records.read_entities.Lts as lts
-use Rattle.lines.proofs.reading.read_line.Reads as read-line-reads
-use Rattle.record_reader.proofs.records.read_entity.Reads as read-entity-reads
 
 abbrev Inv-loop : tie.InvT-loop
 Inv-loop s at t₀ i₀ last₀ t10 t i last = RecordsTo entityKey entityRecord entityCount (entitiesStage entityCount 1 (tablesOf t₀) (drop at s)) s i last t

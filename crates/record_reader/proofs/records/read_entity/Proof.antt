@@ -3,10 +3,6 @@ use Rattle.record_reader.specs.StageLaws.{entity-record, onward-past, on
 use borrow.Author.Needs.{needs}
 use Rattle.record_reader.proofs.records.read_entity.Statement.{statement}
 use Rattle.record_reader.proofs.records.read_entity.Tie as tie
-use Rattle.record_reader.proofs.records.read_entity.Reads as reads
-use Rattle.record_reader.proofs.records.read_entity.Lts as lts
-use Rattle.record_reader.proofs.records.read_rows.Reads as read-rows-reads
-use Rattle.record_reader.proofs.records.read_singles.Reads as read-singles-reads
 
 -- src/records.rt:100:11
 read-singles-requires : tie.Need-read-singles-requires

@@ -5,12 +5,6 @@ use Rattle.record_reader.specs.StageLaws.{onward-past, onward-stuck, row
 use borrow.Author.Needs.{needs}
 use Rattle.record_reader.proofs.records.read_rows.Statement.{statement}
 use Rattle.record_reader.proofs.records.read_rows.Tie as tie
-use Rattle.record_reader.proofs.records.read_rows.Reads as reads
-use Rattle.record_reader.proofs.records.read_rows.Lts as lts
-use Rattle.record_reader.proofs.records.read_access.Reads as read-access-reads
-use Rattle.record_reader.proofs.rows.read_places.Reads as read-places-reads
-use Rattle.record_reader.proofs.singles.places_line.Reads as places-line-reads
-use Rattle.tables.proofs.set_used.Reads as set-used-reads
 
 -- src/records.rt:85:37
 places-line-requires : tie.Need-places-line-requires

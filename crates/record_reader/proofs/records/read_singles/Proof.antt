@@ -10,10 +10,6 @@ use Rattle.tables_text.specs.Keys.{singleFields}
 use Rattle.tables_text.specs.Stages.{entityStage}
 use Rattle.record_reader.proofs.records.read_singles.Statement.{statement}
 use Rattle.record_reader.proofs.records.read_singles.Tie as tie
-use Rattle.record_reader.proofs.records.read_singles.Reads as reads
-use Rattle.record_reader.proofs.records.read_singles.Lts as lts
-use Rattle.tables.proofs.set_entity_at.Reads as set-entity-at-reads
-use Rattle.record_reader.proofs.singles.entity_line.Reads as entity-line-reads
 
 abbrev Inv-loop : tie.InvT-loop
 Inv-loop s at t₀ e i₀ j₀ t i j = EntityTo (entityStage (e .0) singleFields 0 (tablesOf t₀) (drop at s)) (e .0) s i j t

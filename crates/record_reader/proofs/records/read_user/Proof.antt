@@ -11,10 +11,6 @@ use Rattle.tables_text.specs.Keys.{userFields}
 use Rattle.tables_text.specs.Stages.{userStage}
 use Rattle.record_reader.proofs.records.read_user.Statement.{statement}
 use Rattle.record_reader.proofs.records.read_user.Tie as tie
-use Rattle.record_reader.proofs.records.read_user.Reads as reads
-use Rattle.record_reader.proofs.records.read_user.Lts as lts
-use Rattle.tables.proofs.set_user_at.Reads as set-user-at-reads
-use Rattle.record_reader.proofs.singles.user_line.Reads as user-line-reads
 
 abbrev Inv-loop : tie.InvT-loop
 Inv-loop s at t₀ u i₀ j₀ t i j = UserTo (userStage (u .0) userFields 1 (tablesOf t₀) (drop at s)) (u .0) s i j t

@@ -1,7 +1,6 @@
 use mathlib.Core.Path.{_∙_, sym}
 use Prim.Native.Nat.{_-_}
 use native.Mathlib.Omega.{arith}
-use lib.ListN.{drop}
 use borrow.Author.Needs.{needs}
 use Rattle.model.specs.Tables.Layout.{tablesOf}
 use Rattle.model.specs.Tables.Words.{userCount}
@@ -10,10 +9,6 @@ use Rattle.record_reader.specs.NumberedLaws.{RecordsTo, inside, records-
 use Rattle.tables_text.specs.Stages.{userRecord, usersStage}
 use Rattle.record_reader.proofs.records.read_users.Statement.{statement}
 use Rattle.record_reader.proofs.records.read_users.Tie as tie
-use Rattle.record_reader.proofs.records.read_users.Reads as reads
-use Rattle.record_reader.proofs.records.read_users.Lts as lts
-use Rattle.lines.proofs.reading.read_line.Reads as read-line-reads
-use Rattle.record_reader.proofs.records.read_user.Reads as read-user-reads
 
 abbrev Inv-loop : tie.InvT-loop
 Inv-loop s t₀ i₀ last₀ t9 t i last = RecordsTo userKey userRecord userCount (usersStage userCount 1 (tablesOf t₀) s) s i last t

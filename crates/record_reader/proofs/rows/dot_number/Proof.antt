@@ -2,9 +2,6 @@ use Rattle.record_reader.specs.RowLaws.{dot-end, dot-number, dot-other}
 use borrow.Author.Needs.{needs}
 use Rattle.record_reader.proofs.rows.dot_number.Statement.{statement}
 use Rattle.record_reader.proofs.rows.dot_number.Tie as tie
-use Rattle.record_reader.proofs.rows.dot_number.Reads as reads
-use Rattle.record_reader.proofs.rows.dot_number.Lts as lts
-use Rattle.lines.proofs.reading.read_number.Reads as read-number-reads
 
 -- src/rows.rt:33:9
 returns : tie.Need-returns

@@ -1,4 +1,4 @@
-use mathlib.Core.Path.{_∙_, ap, refl, sym}
+use mathlib.Core.Path.{_∙_, ap, sym}
 use Prim.Native.Nat.{_-_}
 use native.Mathlib.Omega.{arith}
 use lib.ListN.{drop}
@@ -10,11 +10,6 @@ use Rattle.record_reader.specs.RecordLaws.{PlacesTo, places-next, places
 use Rattle.tables_text.specs.Stages.{placesStage}
 use Rattle.record_reader.proofs.rows.read_places.Statement.{statement}
 use Rattle.record_reader.proofs.rows.read_places.Tie as tie
-use Rattle.record_reader.proofs.rows.read_places.Reads as reads
-use Rattle.record_reader.proofs.rows.read_places.Lts as lts
-use Rattle.tables.proofs.set_place.Reads as set-place-reads
-use Rattle.tables.proofs.set_shown.Reads as set-shown-reads
-use Rattle.record_reader.proofs.rows.place_line.Reads as place-line-reads
 
 abbrev Inv-loop : tie.InvT-loop
 Inv-loop s at t₀ e n i₀ k₀ t i k = PlacesTo (placesStage (e .0) n 0 (tablesOf t₀) (drop at s)) (e .0) n s i k t

@@ -1,4 +1,4 @@
-use mathlib.Core.Path.{_∙_, refl, sym}
+use mathlib.Core.Path.{_∙_, sym}
 use Prim.Native.Nat.{_-_}
 use native.Mathlib.Omega.{arith}
 use lib.ListN.{drop}
@@ -8,10 +8,6 @@ use Rattle.record_reader.specs.RecordLaws.{TriplesTo, triples-next, trip
 use Rattle.tables_text.specs.Stages.{triplesStage}
 use Rattle.record_reader.proofs.rows.read_triples.Statement.{statement}
 use Rattle.record_reader.proofs.rows.read_triples.Tie as tie
-use Rattle.record_reader.proofs.rows.read_triples.Reads as reads
-use Rattle.record_reader.proofs.rows.read_triples.Lts as lts
-use Rattle.tables.proofs.set_triple.Reads as set-triple-reads
-use Rattle.record_reader.proofs.rows.triple_line.Reads as triple-line-reads
 
 abbrev Inv-loop : tie.InvT-loop
 Inv-loop s at t₀ e n i₀ k₀ t i k = TriplesTo (triplesStage (e .0) n 0 (tablesOf t₀) (drop at s)) (e .0) n s i k t

@@ -4,13 +4,6 @@ use Rattle.record_reader.specs.RowLaws.{triple-no-who, triple-read, trip
 use borrow.Author.Needs.{needs}
 use Rattle.record_reader.proofs.rows.triple_line.Statement.{statement}
 use Rattle.record_reader.proofs.rows.triple_line.Tie as tie
-use Rattle.record_reader.proofs.rows.triple_line.Reads as reads
-use Rattle.record_reader.proofs.rows.triple_line.Lts as lts
-use Rattle.lines.proofs.reading.read_end.Reads as read-end-reads
-use Rattle.lines.proofs.reading.read_key.Reads as read-key-reads
-use Rattle.lines.proofs.reading.read_number.Reads as read-number-reads
-use Rattle.record_reader.proofs.rows.dot_number.Reads as dot-number-reads
-use Rattle.record_reader.proofs.rows.packed.Reads as packed-reads
 
 -- src/rows.rt:74:40
 slice-aggregate-read-key : tie.Need-slice-aggregate-read-key

@@ -4,10 +4,6 @@ use Rattle.record_reader.specs.FieldLaws.{any-field}
 use borrow.Author.Needs.{needs}
 use Rattle.record_reader.proofs.singles.entity_line.Statement.{statement}
 use Rattle.record_reader.proofs.singles.entity_line.Tie as tie
-use Rattle.record_reader.proofs.singles.entity_line.Reads as reads
-use Rattle.record_reader.proofs.singles.entity_line.Lts as lts
-use Rattle.lines.proofs.reading.read_line.Reads as read-line-reads
-use Rattle.record_reader.proofs.singles.kind_line.Reads as kind-line-reads
 
 -- src/singles.rt:60:9
 kind-line-requires : tie.Need-kind-line-requires

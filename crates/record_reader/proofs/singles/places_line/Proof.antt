@@ -4,9 +4,6 @@ use Rattle.tables_text.specs.Keys.{placesField}
 use borrow.Author.Needs.{needs}
 use Rattle.record_reader.proofs.singles.places_line.Statement.{statement}
 use Rattle.record_reader.proofs.singles.places_line.Tie as tie
-use Rattle.record_reader.proofs.singles.places_line.Reads as reads
-use Rattle.record_reader.proofs.singles.places_line.Lts as lts
-use Rattle.lines.proofs.reading.read_line.Reads as read-line-reads
 
 -- src/singles.rt:85:28
 slice-aggregate-read-line : tie.Need-slice-aggregate-read-line

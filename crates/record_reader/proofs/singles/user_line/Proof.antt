@@ -4,9 +4,6 @@ use Rattle.record_reader.specs.FieldLaws.{any-field}
 use borrow.Author.Needs.{needs}
 use Rattle.record_reader.proofs.singles.user_line.Statement.{statement}
 use Rattle.record_reader.proofs.singles.user_line.Tie as tie
-use Rattle.record_reader.proofs.singles.user_line.Reads as reads
-use Rattle.record_reader.proofs.singles.user_line.Lts as lts
-use Rattle.lines.proofs.reading.read_line.Reads as read-line-reads
 
 -- src/singles.rt:18:33
 slice-aggregate-read-line : tie.Need-slice-aggregate-read-line

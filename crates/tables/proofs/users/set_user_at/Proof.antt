@@ -2,8 +2,6 @@ use Rattle.tables.specs.Laws.{user-store-at}
 use borrow.Author.Needs.{needs}
 use Rattle.tables.proofs.users.set_user_at.Statement.{statement}
 use Rattle.tables.proofs.users.set_user_at.Tie as tie
-use Rattle.tables.proofs.users.set_user_at.Reads as reads
-use Rattle.tables.proofs.users.set_user_at.Lts as lts
 
 cast-n : tie.Need-cast-n
 cast-n c = search needs
