@@ -50,6 +50,11 @@ WriteTablesCall t room a r = Exports (WritingTables t room) a r
 abbrev pub ReadTablesCall : List ℕ → List ℕ → ℕ → List ℕ → Type 0
 ReadTablesCall s t a r = Exports (ReadingTables s t) a r
 
+-- Rules 14.1 and 14.2: what a call promises can be met, and by one answer and one thing left only. That the code ends and meets it, the toolchain proves.
+pub record OneAnswer (Call : ℕ → List ℕ → Type 0) : Type 0 where
+  pub ends : (a : ℕ) × (r : List ℕ) × Call a r
+  pub once : (a b : ℕ) (r s : List ℕ) → Call a r → Call b s → (a ≡ b) × (r ≡ s)
+
 -- Rule 8.6: the answer in the word that C gets,
 abbrev pub noIn : ℕ → ℕ
 noIn a = a / numbers

@@ -11,18 +11,16 @@ use Rattle.mms.specs.AnswerLaws.{list-answers, list-number, list-unchang
 use Rattle.mms.specs.AnswerLaws.{read-unchanged, write-answers, write-number, write-unchanged}
 use Rattle.mms.specs.CallLaws.{answered-size, check-no, check-number, list-halves, passes-check, read-halves, step-call, step-left, step-no, step-number}
 use Rattle.mms.specs.CallLaws.{step-sequence, write-halves}
-use Rattle.mms.specs.Calls.{ListCall, MixedCalls, OnlyNotice, Passes, ReadCall, ReadTablesCall, SingleSteps, StepCall, WriteCall, WriteTablesCall}
-use Rattle.mms.specs.Calls.{noIn, requester}
-use Rattle.mms.specs.Contract.{Exports, Listing, Reading, ReadingTables, Writing, WritingTables, checking, exported}
-use Rattle.mms.specs.Demands.{DemandOne, OneAnswer, OneRun}
+use Rattle.mms.specs.Calls.{ListCall, MixedCalls, OnlyNotice, Passes, ReadCall, SingleSteps, StepCall, WriteCall}
+use Rattle.mms.specs.Calls.{OneAnswer, noIn, requester}
+use Rattle.mms.specs.Contract.{Listing, Reading, Writing, checking, exported}
+use Rattle.mms.specs.Demands.{DemandOne, OneRun}
 use Rattle.mms.specs.MixedLaws.{mixed-through, singly-steps, through-singly}
 use Rattle.mms.specs.NoticeWordLaws.{quiet-words}
 use Rattle.mms.specs.RunCallLaws.{run-number, run-range, run-unchanged}
-use Rattle.mms.specs.TablesAnswerLaws.{read-tables-answers, read-tables-line, read-tables-number, write-tables-answers, write-tables-number}
-use Rattle.mms.specs.TablesCallLaws.{read-tables-halves, write-tables-halves}
-use Rattle.mms.specs.Unique.{exported-list-unique, exported-read-tables-unique, exported-read-unique, exported-run-unique, exported-step-unique}
-use Rattle.mms.specs.Unique.{exported-write-tables-unique, exported-write-unique}
-use Rattle.mms.specs.declared.Answer.{Answer}
+use Rattle.mms.specs.TablesCallLaws.{tablesSettled}
+use Rattle.mms.specs.Unique.{exporting, exported-list-unique, exported-read-unique, exported-run-unique, exported-step-unique}
+use Rattle.mms.specs.Unique.{exported-write-unique}
 use Rattle.model.specs.Basics.Cases.{cases, lt-or-le}
 use Rattle.model.specs.Basics.Choice.{Same, it, other, same}
 use Rattle.model.specs.List.Listing.{barred, entries, entryWords}
@@ -40,15 +38,7 @@ use Rattle.model.specs.Theorem.SequenceLaws.{answerOf-range, sequence-noticed}
 use Rattle.model.specs.Theorem.SequenceStep.{others-noticed}
 use Rattle.model.specs.Theorem.Statements.{SameNotice}
 use Rattle.model.specs.Theorem.Steps.{afterOf-length, check-range, high-refusal-words, low-refusal-words}
-use Rattle.tables_text.specs.LongestCallLaws.{number-longest}
-use Rattle.tables_text.specs.ReadLaws.{read-refused}
-use Rattle.tables_text.specs.WriteLaws.{write-refused}
 use Rattle.model.specs.Request.Refusals as refusal
-use Rattle.tables_text.specs.Calls as tables
-
--- whatever meets a promise does so for C
-exporting : (P : Answer → List ℕ → Type 0) (n k : ℕ) (r : List ℕ) → P (record { no = n; number = k }) r → (a : ℕ) × (r : List ℕ) × Exports P a r
-exporting P n k r p = (exported (record { no = n; number = k }), r, record { answer = record { no = n; number = k }; called = p; word = refl })
 
 -- every user has a list of any words, in any room
 list-ends : (t : List ℕ) (u : ℕ) (room : List ℕ) → (a : ℕ) × (r : List ℕ) × ListCall t u room a r
@@ -98,20 +88,6 @@ write-settled w room = record {
   once = exported-write-unique w room;
 }
 
-write-tables-settled : (t room : List ℕ) → OneAnswer (WriteTablesCall t room)
-write-tables-settled t room = record {
-  ends = exporting (WritingTables t room) (tables.writeAnswer t (length room)) (tables.writeNumber t)
-      (tables.roomAfter (tables.writeAnswer t (length room)) t room) (record { answer = refl; number = refl; bytes = refl });
-  once = exported-write-tables-unique t room;
-}
-
-read-tables-settled : (s t : List ℕ) → OneAnswer (ReadTablesCall s t)
-read-tables-settled s t = record {
-  ends = exporting (ReadingTables s t) (tables.readAnswer s t) (tables.readNumber s t) (tables.tablesAfter s t)
-      (record { answer = refl; number = refl; words = refl });
-  once = exported-read-tables-unique s t;
-}
-
 module _ {t q : List ℕ} {a : ℕ} {r : List ℕ} (x : StepCall t q a r) where
   step-unchanged : refusal.badLength ≤ noIn a → noIn a < firstNoticed → r ≡ t
   step-unchanged l h = step-left x ∙ low-refusal-words t q (omega (arith, step-no x)) (omega (arith, step-no x))
@@ -148,8 +124,6 @@ demandOne = record {
   listSettled = list-settled;
   readSettled = read-settled;
   writeSettled = write-settled;
-  writeTablesSettled = write-tables-settled;
-  readTablesSettled = read-tables-settled;
   checkAnswers = λ t a x. (omega (arith, check-no t a x, check-range t), check-number t a x);
   stepAnswers = λ {t} {q} x. (omega (arith, step-no x, answerOf-range t q), step-number x);
   runAnswers = λ x. (run-range x, run-number x);
@@ -160,19 +134,12 @@ demandOne = record {
   lineOfRead = λ x. read-line (read-halves x);
   writeAnswers = λ x. write-answers (write-halves x);
   numberOfWrite = λ x. write-number (write-halves x);
-  writeTablesAnswers = λ x. write-tables-answers (write-tables-halves x);
-  numberOfWriteTables = λ x. write-tables-number (write-tables-halves x);
-  bytesOfWriteTables = λ {t} x. omega (arith, write-tables-halves x .number, number-longest t);
-  readTablesAnswers = λ x. read-tables-answers (read-tables-halves x);
-  numberOfReadTables = λ x. read-tables-number (read-tables-halves x);
-  lineOfReadTables = λ x. read-tables-line (read-tables-halves x);
   stepUnchanged = step-unchanged;
   runUnchanged = λ x. run-unchanged x;
   listUnchanged = λ x. list-unchanged (list-halves x);
   readUnchanged = λ x. read-unchanged (read-halves x);
   writeUnchanged = λ x. write-unchanged (write-halves x);
-  writeTablesUnchanged = λ x. write-refused (write-tables-halves x);
-  readTablesUnchanged = λ x. read-refused (read-tables-halves x);
+  tablesSettled = tablesSettled;
   stepNotice = step-only-notice;
   noticeKept = λ m tables requests answers c p.
       sequence-noticed tables requests (λ i. noIn (answers i)) m (step-sequence m tables requests answers c) (passes-check (tables 0) p);

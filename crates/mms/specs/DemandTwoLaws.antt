@@ -67,5 +67,5 @@ demandTwo = record {
   writeRefuses = write-refuses;
   readThenWrite = read-written;
   writeThenRead = written-read;
-  tablesText = tablesAsText;
+  tablesAsText = tablesAsText;
 }

@@ -6,10 +6,9 @@ use mathlib.Core.Logic.{_↔_, _≢_, _⊎_}
 use mathlib.Core.Path.{_≡_}
 use Prim.Native.Nat.{_%_, _*_, _<_, _≤_, suc, ℕ}
 use lib.ListN.{drop, getD, length, take}
-use Rattle.mms.specs.Calls.{CheckCall, ListCall, MixedCalls, NoRequest, OnlyNotice, Passes, ReadCall, ReadTablesCall, RunCall, ScriptCalls}
-use Rattle.mms.specs.Calls.{SingleSteps, Sound}
-use Rattle.mms.specs.Calls.{StepCall, StepCalls, TextWritten, Unsound, WriteCall, WriteTablesCall, noIn, numberIn, requester}
-use Rattle.mms.specs.TablesAsText.{TablesAsText}
+use Rattle.mms.specs.Calls.{CheckCall, ListCall, MixedCalls, NoRequest, OneAnswer, OnlyNotice, Passes, ReadCall, RunCall, ScriptCalls, SingleSteps}
+use Rattle.mms.specs.Calls.{Sound, StepCall, StepCalls, TextWritten, Unsound, WriteCall, noIn, numberIn, requester}
+use Rattle.mms.specs.TablesAsText.{TablesAsText, TablesSettled}
 use Rattle.model.specs.Basics.Together.{together}
 use Rattle.model.specs.List.Admitted.{Admitted}
 use Rattle.model.specs.List.Listing.{entries, entryWords, showing}
@@ -38,16 +37,9 @@ use Rattle.model.specs.Theorem.Definitions.{History, HistorySecure, Obeys, Pape
 use Rattle.model.specs.Theorem.Done.{Outcome}
 use Rattle.model.specs.Theorem.Sequence.{Noticed}
 use Rattle.model.specs.Theorem.Statements.{SameNotice}
-use Rattle.tables_text.specs.LineMost.{lineMost}
-use Rattle.tables_text.specs.Longest.{longestText}
 use Rattle.model.specs.Request.Refusals as refusal
 
--- Rules 14.1 and 14.2: what a call promises can be met, and by one answer and one thing left only. That the code ends and meets it, the toolchain proves.
-pub record OneAnswer (Call : ℕ → List ℕ → Type 0) : Type 0 where
-  pub ends : (a : ℕ) × (r : List ℕ) × Call a r
-  pub once : (a b : ℕ) (r s : List ℕ) → Call a r → Call b s → (a ≡ b) × (r ≡ s)
-
--- The same of the run, which may write two things.
+-- Rules 14.1 and 14.2: what the run promises can be met, and in one way only, as with the other calls (`OneAnswer`); it may write two things.
 pub record OneRun (t w room : List ℕ) : Type 0 where
   pub ends : (a : ℕ) × (r s : List ℕ) × RunCall t w room a r s
   pub once : (a b : ℕ) (r s u v : List ℕ) → RunCall t w room a r s → RunCall t w room b u v → (a ≡ b) × (r ≡ u) × (s ≡ v)
@@ -61,8 +53,6 @@ pub record DemandOne : Type 0 where
   pub listSettled : (t : List ℕ) (u : ℕ) (room : List ℕ) → OneAnswer (ListCall t u room)
   pub readSettled : (s w : List ℕ) → OneAnswer (ReadCall s w)
   pub writeSettled : (w room : List ℕ) → OneAnswer (WriteCall w room)
-  pub writeTablesSettled : (t room : List ℕ) → OneAnswer (WriteTablesCall t room)
-  pub readTablesSettled : (s t : List ℕ) → OneAnswer (ReadTablesCall s t)
   -- The check answers 0 to 3. No number goes with its answer.
   pub checkAnswers : (t : List ℕ) (a : ℕ) → CheckCall t a → (noIn a ≤ refusal.notSecure) × (numberIn a ≡ 0)
   -- The step answers 0 to 16. No number goes with its answer.
@@ -85,17 +75,6 @@ pub record DemandOne : Type 0 where
       → List·Memᴰ (noIn a) (refusal.accepted ∷ refusal.badLength ∷ refusal.badRequest ∷ refusal.tooShort ∷ [])
   pub numberOfWrite : {w room r : List ℕ} {a : ℕ} → WriteCall w room a r → noIn a ≢ refusal.accepted → noIn a ≢ refusal.tooShort
       → numberIn a ≡ 0
-  -- The writer of tables answers 0, 1, 2 or 17. A number goes with 0 and 17 only, and is 17,721 at most.
-  pub writeTablesAnswers : {t room r : List ℕ} {a : ℕ} → WriteTablesCall t room a r
-      → List·Memᴰ (noIn a) (refusal.accepted ∷ refusal.badLength ∷ refusal.notWellFormed ∷ refusal.tooShort ∷ [])
-  pub numberOfWriteTables : {t room r : List ℕ} {a : ℕ} → WriteTablesCall t room a r → noIn a ≢ refusal.accepted → noIn a ≢ refusal.tooShort
-      → numberIn a ≡ 0
-  pub bytesOfWriteTables : {t room r : List ℕ} {a : ℕ} → WriteTablesCall t room a r → numberIn a ≤ longestText
-  -- The reader of tables answers 0, 1, 2 or 18. A number goes with 18 only, and is 1 to 1,793.
-  pub readTablesAnswers : {s t r : List ℕ} {a : ℕ} → ReadTablesCall s t a r
-      → List·Memᴰ (noIn a) (refusal.accepted ∷ refusal.badLength ∷ refusal.notWellFormed ∷ refusal.notARequest ∷ [])
-  pub numberOfReadTables : {s t r : List ℕ} {a : ℕ} → ReadTablesCall s t a r → noIn a ≢ refusal.notARequest → numberIn a ≡ 0
-  pub lineOfReadTables : {s t r : List ℕ} {a : ℕ} → ReadTablesCall s t a r → noIn a ≡ refusal.notARequest → (1 ≤ numberIn a) × (numberIn a ≤ lineMost)
   -- After a refusal 1 to 4 of the step the tables are as they were;
   pub stepUnchanged : {t q : List ℕ} {a : ℕ} {r : List ℕ} → StepCall t q a r → refusal.badLength ≤ noIn a → noIn a < firstNoticed → r ≡ t
   -- after the refusal of a run the tables are, and so is the room for answers;
@@ -104,11 +83,10 @@ pub record DemandOne : Type 0 where
   pub listUnchanged : {t room r : List ℕ} {u a : ℕ} → ListCall t u room a r → noIn a ≢ refusal.accepted → r ≡ room
   -- after any of the reader, 18 among them, the request is;
   pub readUnchanged : {s w r : List ℕ} {a : ℕ} → ReadCall s w a r → noIn a ≢ refusal.accepted → r ≡ w
-  -- after any of the writer, 5 and 17 among them, the room is;
+  -- and after any of the writer, 5 and 17 among them, the room is.
   pub writeUnchanged : {w room r : List ℕ} {a : ℕ} → WriteCall w room a r → noIn a ≢ refusal.accepted → r ≡ room
-  -- after any of the writer of tables the room is, and after any of the reader of tables the tables are.
-  pub writeTablesUnchanged : {t room r : List ℕ} {a : ℕ} → WriteTablesCall t room a r → noIn a ≢ refusal.accepted → r ≡ room
-  pub readTablesUnchanged : {s t r : List ℕ} {a : ℕ} → ReadTablesCall s t a r → noIn a ≢ refusal.accepted → r ≡ t
+  -- The same of the writer and the reader of tables: it is stated on the page of the tables as text.
+  pub tablesSettled : TablesSettled
   -- After a refusal 5 to 16 of the step the tables differ in words 5 to 7 of the requester at most.
   pub stepNotice : {t q : List ℕ} {a : ℕ} {r : List ℕ} → StepCall t q a r → firstNoticed ≤ noIn a → OnlyNotice t (requester q) r
   -- After any calls of the step, from tables that the check passes on, each user's notice holds the first refusal 5 to 16 of that user since the
@@ -296,8 +274,8 @@ pub record DemandTwo : Type 0 where
   -- Words of 32 bits that are written are read again, word for word, from the bytes that were written.
   pub writeThenRead : {w room r v u : List ℕ} {a b : ℕ} → Small w → WriteCall w room b r → noIn b ≡ refusal.accepted → length v ≡ requestWords
       → ReadCall (take (numberIn b) r) v a u → (noIn a ≡ refusal.accepted) × (u ≡ w)
-  -- The tables convert both ways too: what their text is worth is stated on a page of its own.
-  pub tablesText : TablesAsText
+  -- The tables convert both ways too: it is stated on the page of the tables as text.
+  pub tablesAsText : TablesAsText
 
 -- Demand 3: the list of the user u on the tables t, in a room, with the answer a and what stands in the room afterwards.
 pub record Disclosed (t : List ℕ) (u : ℕ) (room : List ℕ) (a : ℕ) (r : List ℕ) : Type 0 where

@@ -3,17 +3,21 @@ use mathlib.Core.List.{List}
 use mathlib.Core.Logic.{_↔_}
 use mathlib.Core.Path.{_≡_, refl, subst, sym}
 use Prim.Native.Nat.{_≤_, ℕ}
+use native.Mathlib.Omega.{arith}
 use lib.ListN.{length}
-use Rattle.mms.specs.Calls.{ReadTablesCall, TextWritten, WriteTablesCall, noIn, numberIn}
-use Rattle.mms.specs.TablesAnswerLaws.{read-tables-length, write-tables-length}
-use Rattle.mms.specs.TablesAsText.{TablesAsText}
-use Rattle.mms.specs.Unique.{exported-read-tables-parts, exported-write-tables-parts}
+use Rattle.mms.specs.Calls.{OneAnswer, ReadTablesCall, TextWritten, WriteTablesCall, noIn, numberIn}
+use Rattle.mms.specs.Contract.{ReadingTables, WritingTables}
+use Rattle.mms.specs.TablesAnswerLaws.{read-tables-answers, read-tables-length, read-tables-line, read-tables-number, write-tables-answers}
+use Rattle.mms.specs.TablesAnswerLaws.{write-tables-length, write-tables-number}
+use Rattle.mms.specs.TablesAsText.{TablesAsText, TablesSettled}
+use Rattle.mms.specs.Unique.{exported-read-tables-parts, exported-read-tables-unique, exported-write-tables-parts, exported-write-tables-unique}
+use Rattle.mms.specs.Unique.{exporting}
 use Rattle.model.specs.Basics.Cases.{cases, lt-or-le}
 use Rattle.model.specs.State.WellFormed.{WellFormed}
 use Rattle.model.specs.Tables.Layout.{tablesOf, wordCount}
 use Rattle.model.specs.Tables.Words.{Tables}
 use Rattle.tables_text.specs.CallLaws.{write-then-read}
-use Rattle.tables_text.specs.Calls.{ReadsTables, WritesTables, textOfTables}
+use Rattle.tables_text.specs.Calls.{ReadsTables, WritesTables, readAnswer, readNumber, roomAfter, tablesAfter, textOfTables, writeAnswer, writeNumber}
 use Rattle.tables_text.specs.Due.{Whole, atFirst}
 use Rattle.tables_text.specs.DueCallLaws.{broken-reads, reads-broken}
 use Rattle.tables_text.specs.DueLaws.{past-whole}
@@ -21,11 +25,12 @@ use Rattle.tables_text.specs.DueOnceLaws.{whole-past}
 use Rattle.tables_text.specs.Given.{Tells, TextOf}
 use Rattle.tables_text.specs.GivenLaws.{tells-once, tells-reading, tells-text, text-once, text-tells, words-once}
 use Rattle.tables_text.specs.Longest.{longestText}
+use Rattle.tables_text.specs.LongestCallLaws.{number-longest}
 use Rattle.tables_text.specs.LongestLaws.{text-longest}
 use Rattle.tables_text.specs.LongestMetLaws.{longest-fit, longest-formed, longest-length, longest-met}
 use Rattle.tables_text.specs.LongestTables.{longestWords}
-use Rattle.tables_text.specs.ReadLaws.{read-unformed-exactly, reads-text, text-reads}
-use Rattle.tables_text.specs.WriteLaws.{text-short, text-writes, write-unformed-exactly}
+use Rattle.tables_text.specs.ReadLaws.{read-bad-exactly, read-exactly, read-refused, read-unformed-exactly, reads-text, text-reads}
+use Rattle.tables_text.specs.WriteLaws.{text-short, text-writes, write-refused, write-unformed-exactly}
 use Rattle.model.specs.Request.Refusals as refusal
 
 -- the words that C gets, by their halves
@@ -38,6 +43,36 @@ pub read-tables-halves : {s t r : List ℕ} {a : ℕ} → ReadTablesCall s t a r
 read-tables-halves {s} {t} {r} {a} x =
     let p = exported-read-tables-parts s t a r x in
     rw (p .0, p .1) (x .called)
+
+-- ---- settled
+
+write-tables-settled : (t room : List ℕ) → OneAnswer (WriteTablesCall t room)
+write-tables-settled t room = record {
+  ends = exporting (WritingTables t room) (writeAnswer t (length room)) (writeNumber t)
+      (roomAfter (writeAnswer t (length room)) t room) (record { answer = refl; number = refl; bytes = refl });
+  once = exported-write-tables-unique t room;
+}
+
+read-tables-settled : (s t : List ℕ) → OneAnswer (ReadTablesCall s t)
+read-tables-settled s t = record {
+  ends = exporting (ReadingTables s t) (readAnswer s t) (readNumber s t) (tablesAfter s t)
+      (record { answer = refl; number = refl; words = refl });
+  once = exported-read-tables-unique s t;
+}
+
+pub tablesSettled : TablesSettled
+tablesSettled = record {
+  writeSettled = write-tables-settled;
+  readSettled = read-tables-settled;
+  writeAnswers = λ x. write-tables-answers (write-tables-halves x);
+  numberOfWrite = λ x. write-tables-number (write-tables-halves x);
+  bytesOfWrite = λ {t} x. omega (arith, write-tables-halves x .number, number-longest t);
+  readAnswers = λ x. read-tables-answers (read-tables-halves x);
+  numberOfRead = λ x. read-tables-number (read-tables-halves x);
+  lineOfRead = λ x. read-tables-line (read-tables-halves x);
+  writeUnchanged = λ x. write-refused (write-tables-halves x);
+  readUnchanged = λ x. read-refused (read-tables-halves x);
+}
 
 -- ---- written
 
@@ -80,6 +115,14 @@ read-unformed {s} {v} {w} {a} h x = (there, back)
         let g = tells-reading s (p .0) .1 (p .1) in
         z .1 (p .0, g, λ f. y .1 _ (tells-text g f))
 
+-- a text breaks the line rules, or it is read to its end
+read-breaks : {s v w : List ℕ} {a : ℕ} → length v ≡ wordCount → ReadTablesCall s v a w → (noIn a ≡ refusal.notARequest) ↔ (Whole atFirst s → ⊥)
+read-breaks {s} {v} {w} {a} h x =
+    let z = read-bad-exactly h (read-tables-halves x) in (
+      λ e k. let p = whole-past s k in z .0 e (p .0) (tells-reading s (p .0) .1 (p .1)),
+      λ n. z .1 (λ d g. n (past-whole s d _ (tells-reading s d .0 g))),
+    )
+
 -- ---- all of it
 
 pub tablesAsText : TablesAsText
@@ -90,9 +133,11 @@ tablesAsText = record {
   written = text-written;
   writeLength = λ x. write-tables-length (write-tables-halves x);
   writeRefuses = write-refuses;
+  readAccepts = λ h x. read-exactly h (read-tables-halves x);
   read = λ g h x. let z = text-reads g h (read-tables-halves x) in (z .0, z .2);
   onlyRead = accepted-text;
   readLength = λ x. read-tables-length (read-tables-halves x);
+  readBreaks = read-breaks;
   readRefuses = λ {s} {v} {w} {a} x e. reads-broken (subst (λ (k : ℕ). ReadsTables s v k (numberIn a) w) e (read-tables-halves x)) .0;
   readNames = λ f h x. let z = broken-reads f h (read-tables-halves x) in (z .0, z .1);
   readUnformed = read-unformed;

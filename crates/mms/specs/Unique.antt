@@ -1,7 +1,7 @@
 -- No second answer and no second tables satisfy what a public call promises; and what the step promises is the model's own statement of a
 -- step, which names no code.
 use mathlib.Core.List.{List}
-use mathlib.Core.Path.{_∙_, _≡_, ap, sym}
+use mathlib.Core.Path.{_∙_, _≡_, ap, refl, sym}
 use Prim.Native.Nat.{_%_, _*_, _+_, _/_, _<_, ℕ}
 use native.Mathlib.Omega.{arith}
 use lib.ListN.{length}
@@ -161,3 +161,7 @@ exported-read-tables-unique s t = exports-unique (ReadingTables s t) (read-table
 pub exported-read-tables-parts : (s t : List ℕ) (a : ℕ) (u : List ℕ) (x : Exports (ReadingTables s t) a u)
     → (a / numbers ≡ x .answer .no) × (a % numbers ≡ x .answer .number)
 exported-read-tables-parts s t = exports-parts (ReadingTables s t) (λ a u y. omega (arith, y .number, read-number-most s t))
+
+-- whatever meets a promise does so for C
+pub exporting : (P : Answer → List ℕ → Type 0) (n k : ℕ) (r : List ℕ) → P (record { no = n; number = k }) r → (a : ℕ) × (r : List ℕ) × Exports P a r
+exporting P n k r p = (exported (record { no = n; number = k }), r, record { answer = record { no = n; number = k }; called = p; word = refl })
