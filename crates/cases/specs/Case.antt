@@ -9,6 +9,7 @@ pub mod S1List
 pub mod S1Script
 pub mod S1Text
 pub mod DamagedTexts
+pub mod OtherTexts
 pub mod Condemned
 pub mod CondemnedDrops
 pub mod CondemnedHistories

@@ -8,7 +8,8 @@ use lib.ListN.{drop, getD, length}
 use Rattle.exhibits.specs.Called.{AllConfirmed, AllInOneRun}
 use Rattle.exhibits.specs.Listed.{called-1, called-2, called-2-short, called-unmarked}
 use Rattle.exhibits.specs.S1Exhibit.{S1Exhibit}
-use Rattle.exhibits.specs.TextCalled.{damaged-refused, s1-text-read, s1-text-written}
+use Rattle.exhibits.specs.TextCalled.{damaged-refused, empty-read, empty-written, insecure-checked-called, insecure-written, s1-text-read}
+use Rattle.exhibits.specs.TextCalled.{s1-text-written}
 use Rattle.exhibits.specs.CalledLaws.{both-called, both-run, called-word, cases-called, cases-run}
 use Rattle.mms.specs.Calls.{RunCall, StepCall}
 use Rattle.mms.specs.Contract.{Stepping, checking, exported, numbers}
@@ -114,4 +115,8 @@ s1-exhibit = record {
   textBytes = s1Text-length;
   textRead = s1-text-read;
   damagedRead = damaged-refused;
+  emptyWritten = empty-written;
+  emptyRead = empty-read;
+  insecureChecked = insecure-checked-called;
+  insecureWritten = insecure-written;
 }

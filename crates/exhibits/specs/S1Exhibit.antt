@@ -5,9 +5,10 @@ use mathlib.Core.Path.{_≡_}
 use Prim.Native.Nat.{_*_, _<_, _≤_, ℕ}
 use lib.ListN.{drop, getD, length}
 use Rattle.exhibits.specs.Called.{AllConfirmed, AllInOneRun, AllRefused}
-use Rattle.mms.specs.Calls.{ListCall, Passes, ReadTablesCall, StepCall, TextWritten, WriteTablesCall, noIn}
+use Rattle.mms.specs.Calls.{CheckCall, ListCall, Passes, ReadTablesCall, StepCall, TextWritten, WriteTablesCall, noIn}
 use Rattle.mms.specs.Contract.{exported}
 use Rattle.mms.specs.RoundTrip.{answering}
+use Rattle.cases.specs.Case.OtherTexts.{insecureWords, noWords}
 use Rattle.cases.specs.Case.S1.{starred, unstarred}
 use Rattle.cases.specs.Case.DamagedTexts.{damagedTexts}
 use Rattle.cases.specs.Case.S1List.{s1Unmarked}
@@ -18,6 +19,7 @@ use Rattle.model.specs.List.Listing.{entryWords}
 use Rattle.model.specs.Request.Words.{requestWords}
 use Rattle.model.specs.Script.Runs.{Outputs}
 use Rattle.model.specs.Tables.Layout.{wordCount}
+use Rattle.tables_text.specs.Calls.{textOfTables}
 use Rattle.model.specs.Request.Refusals as refusal
 
 pub record S1Exhibit : Type 0 where
@@ -52,3 +54,9 @@ pub record S1Exhibit : Type 0 where
   pub textRead : {v w : List ℕ} {a : ℕ} → length v ≡ wordCount → ReadTablesCall s1Text v a w → (noIn a ≡ refusal.accepted) × (w ≡ s1Words)
   -- Damaged texts of S1 are refused with 18 and the line that is the first bad one, or with 2, and the words to write to stay.
   pub damagedRead : AllRefused damagedTexts
+  -- The text of no bytes is that of 2,304 zeros, tables with no record: it is written of them, and read as them.
+  pub emptyWritten : {room r : List ℕ} {a : ℕ} → WriteTablesCall noWords room a r → TextWritten [] room a r
+  pub emptyRead : {v w : List ℕ} {a : ℕ} → length v ≡ wordCount → ReadTablesCall [] v a w → (noIn a ≡ refusal.accepted) × (w ≡ noWords)
+  -- S1 with a role that is not authorised is not secure, as the check says, and is written like others.
+  pub insecureChecked : {a : ℕ} → CheckCall insecureWords a → noIn a ≡ refusal.notSecure
+  pub insecureWritten : {room r : List ℕ} {a : ℕ} → WriteTablesCall insecureWords room a r → TextWritten (textOfTables insecureWords) room a r

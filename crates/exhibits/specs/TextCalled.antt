@@ -1,4 +1,4 @@
--- Rule 16: S1's text, and damaged texts of it, as the linked calls write and read them.
+-- Rule 16: S1's text, damaged texts of it, and the texts of other tables, as the linked calls write and read them.
 use mathlib.Core.Bool.{true}
 use mathlib.Core.List.{List, [], _∷_}
 use mathlib.Core.Path.{_∙_, _≡_, sym}
@@ -6,15 +6,17 @@ use Prim.Native.Nat.{ℕ}
 use lib.Dec.{T, eqb, eqb→eq}
 use lib.ListN.{length}
 use Rattle.exhibits.specs.Called.{AllRefused}
-use Rattle.mms.specs.Calls.{ReadTablesCall, TextWritten, WriteTablesCall, noIn, numberIn}
+use Rattle.mms.specs.CallLaws.{check-no}
+use Rattle.mms.specs.Calls.{CheckCall, ReadTablesCall, TextWritten, WriteTablesCall, noIn, numberIn}
 use Rattle.mms.specs.TablesCallLaws.{read-tables-halves, tablesAsText}
 use Rattle.cases.specs.Case.DamagedTexts.{DamagedText, allHold, damagedTexts, damaged-texts-hold, holds}
+use Rattle.cases.specs.Case.OtherTexts.{insecure-checked, insecure-text, insecureWords, no-record-text, noWords}
 use Rattle.cases.specs.Case.S1Text.{s1-text, s1Text}
 use Rattle.cases.specs.Case.S1Words.{s1Words}
 use Rattle.model.specs.Basics.Agree.{agrees-eq, agrees-not}
 use Rattle.model.specs.Basics.TestLaws.{T-l, T-r}
 use Rattle.model.specs.Tables.Layout.{wordCount}
-use Rattle.tables_text.specs.Calls.{answerIn, lineIn, readAnswer, readNumber}
+use Rattle.tables_text.specs.Calls.{answerIn, lineIn, readAnswer, readNumber, textOfTables}
 use Rattle.tables_text.specs.ReadLaws.{read-refused}
 use Rattle.tables_text.specs.Stages.{reading}
 use Rattle.model.specs.Request.Refusals as refusal
@@ -47,3 +49,17 @@ all-called (c ∷ cs) t = (damaged-called c (T-l (holds c) (allHold cs) t), all-
 
 pub damaged-refused : AllRefused damagedTexts
 damaged-refused = all-called damagedTexts damaged-texts-hold
+
+-- tables with no record
+pub empty-written : {room r : List ℕ} {a : ℕ} → WriteTablesCall noWords room a r → TextWritten [] room a r
+empty-written x = tablesAsText .written no-record-text x
+
+pub empty-read : {v w : List ℕ} {a : ℕ} → length v ≡ wordCount → ReadTablesCall [] v a w → (noIn a ≡ refusal.accepted) × (w ≡ noWords)
+empty-read h x = tablesAsText .read no-record-text h x
+
+-- tables that are not secure
+pub insecure-checked-called : {a : ℕ} → CheckCall insecureWords a → noIn a ≡ refusal.notSecure
+insecure-checked-called {a} x = check-no insecureWords a x ∙ insecure-checked
+
+pub insecure-written : {room r : List ℕ} {a : ℕ} → WriteTablesCall insecureWords room a r → TextWritten (textOfTables insecureWords) room a r
+insecure-written x = tablesAsText .written insecure-text x

@@ -73,15 +73,15 @@ pub fn read_tables(text: &[u8], tables: &mut [u32]) -> Parsed
             line: line_at(text, i),
         },
         Progress::Past(_) => {
-            if state::judged(&room) == refusal::NOT_WELL_FORMED {
+            if state::judged(&room) != refusal::NOT_WELL_FORMED {
+                lines::copying::copy_words(tables, &room);
                 return Parsed {
-                    answer: refusal::NOT_WELL_FORMED,
+                    answer: refusal::ACCEPTED,
                     line: 0,
                 };
             }
-            lines::copying::copy_words(tables, &room);
             Parsed {
-                answer: refusal::ACCEPTED,
+                answer: refusal::NOT_WELL_FORMED,
                 line: 0,
             }
         }

@@ -57,6 +57,8 @@ damagedTexts =
     ∷ broken 17 (withLines 17 (numberLine userKey 2 ∷ [])) ∷ broken 17 (withLines 17 (numberLine userKey 17 ∷ []))
     ∷ broken 1 (withLines 1 (numberLine userKey 0 ∷ [])) ∷ broken 68 (withLines 68 (numberLine entityKey 4 ∷ []))
     ∷ broken 68 (withLines 68 (numberLine entityKey 65 ∷ [])) ∷ broken 2 (withLines 1 (numberLine entityKey 1 ∷ numberLine userKey 1 ∷ []))
+    -- the users behind the entities
+    ∷ broken 80 (together (drop 24 s1Lines ++ take 24 s1Lines))
     -- an absent kind; too many places and triples; fewer lines and more lines than are told
     ∷ broken 57 (withLines 57 (numberLine kindKey 0 ∷ [])) ∷ broken 64 (withLines 64 (numberLine placesKey 9 ∷ []))
     ∷ broken 77 (withLines 77 (numberLine triplesKey 9 ∷ []))

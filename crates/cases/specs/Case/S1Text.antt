@@ -285,17 +285,17 @@ words-fit : every wordCount (λ i. leb (getD s1Words i 0) most) ≡ true
 unfolding opened s1Words s1Users s1Entities
 words-fit = refl
 
--- every word fits in 32 bits
-small : (i : ℕ) → getD s1Words i 0 ≤ most
-small i =
+-- where each of 2,304 words is tried, every word fits in 32 bits
+pub fit-small : (w : List ℕ) → length w ≡ wordCount → every wordCount (λ i. leb (getD w i 0) most) ≡ true → (i : ℕ) → getD w i 0 ≤ most
+fit-small w h e i =
     cases (lt-or-le i wordCount)
-    (λ l. agrees-le (getD s1Words i 0) most .to (every-at wordCount (λ j. leb (getD s1Words j 0) most) (is-true _ words-fit) i l))
-    (λ l. omega (arith, List·getD-eq-default s1Words 0 {n = i} (omega (arith, s1Words-length))))
+    (λ l. agrees-le (getD w i 0) most .to (every-at wordCount (λ j. leb (getD w j 0) most) (is-true _ e) i l))
+    (λ l. omega (arith, List·getD-eq-default w 0 {n = i} (omega (arith, h))))
 
 pub s1-text : TextOf s1Text s1Words
 s1-text = record {
   size = s1Words-length;
-  small = small;
+  small = fit-small s1Words s1Words-length words-fit;
   wellFormed = check-agrees s1Words .to (agrees-eq (check s1Words) refusal.accepted .from s1Words-checked) .1 .0;
   is = sym s1Words-text;
 }
