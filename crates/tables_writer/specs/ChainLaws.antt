@@ -17,7 +17,7 @@ use Rattle.tables_text.specs.TextOf.{userText, userWords}
 use Rattle.tables_text.specs.Values.{numberLine, placeLine, tripleLine}
 use Rattle.tables_writer.specs.LengthLaws.{entity-there, user-there}
 use Rattle.tables_writer.specs.LineLaws.{part, place-is, placeRest, triple-is, tripleRest}
-use Rattle.tables_writer.specs.PutsLaws.{puts-both, puts-wrote-front, room-first, room-next}
+use Rattle.lines.specs.PutsLaws.{puts-both, puts-wrote-front, room-first, room-next}
 
 -- ---- the line of a place: its key, a number, a dot and a number, LF
 module _ (d : List ℕ) (at : ℕ) (e s : ℕ) (h : at + length (placeLine (record { entity = e; sum = s })) ≤ length d) where

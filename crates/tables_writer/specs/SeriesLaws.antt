@@ -6,7 +6,7 @@ use native.Mathlib.Omega.{arith}
 use lib.ListN.{length, length-append}
 use Rattle.lines.specs.Onto.{Puts}
 use Rattle.tables_text.specs.TextOf.{series}
-use Rattle.tables_writer.specs.PutsLaws.{puts-none, puts-puts, puts-room}
+use Rattle.lines.specs.PutsLaws.{puts-none, puts-puts, room-after}
 
 -- one text more stands at the end
 pub series-snoc : (k i : ℕ) (g : ℕ → List ℕ) → series (suc k) i g ≡ series k i g ++ g (i + k)
@@ -58,7 +58,7 @@ series-start {d} {at} i g = rw (series-none i g) (puts-none d at)
 -- the next text has room where all of them had
 pub series-room : {d e : List ℕ} {at a m : ℕ} (n k i : ℕ) (g : ℕ → List ℕ) → m ≡ i + k → k < n → at + length (series n i g) ≤ length d
     → Puts (series k i g) d at e a → a + length (g m) ≤ length e
-series-room {d} {e} {at} {a} n k i g q h l p = rw q (puts-room (g (i + k)) p (omega (arith, series-part n k i g h)))
+series-room {d} {e} {at} {a} n k i g q h l p = rw q (room-after (g (i + k)) p (omega (arith, series-part n k i g h)))
 
 -- it is written after those before it
 pub series-puts : {d e f : List ℕ} {at a r m : ℕ} (k i : ℕ) (g : ℕ → List ℕ) → m ≡ i + k → at ≤ length d

@@ -2,7 +2,7 @@ use mathlib.Core.Path.{_∙_, sym}
 use Rattle.model.specs.Tables.Layout.{tablesOf}
 use Rattle.tables_writer.specs.ChainLaws.{entity-puts, entity-room, entity-room2, entity-room3, entity-room4, entity-room5}
 use Rattle.tables_writer.specs.LengthLaws.{entity-absent, triples-few}
-use Rattle.tables_writer.specs.PutsLaws.{puts-none}
+use Rattle.lines.specs.PutsLaws.{puts-none}
 use borrow.Author.Needs.{needs}
 use Rattle.tables_writer.proofs.entities.put_entity.Statement.{statement}
 use Rattle.tables_writer.proofs.entities.put_entity.Tie as tie
