@@ -15,7 +15,6 @@ ghost use lib.ListN.{length};
 ghost use Rattle.lines.specs.Onto.{Puts, Wrote};
 ghost use Rattle.model.specs.Request.Words.{nameCount, requestOf, requestWords};
 ghost use Rattle.model.specs.Text.Lines.{line};
-ghost use Rattle.model.specs.Text.Numbers.{digits};
 ghost use Rattle.model.specs.Text.References.{joined};
 ghost use Rattle.model.specs.Text.Writing.{Writes, hasText, textOfWords};
 ghost use Rattle.request_text.specs.Sixteen.{Sixteen};
