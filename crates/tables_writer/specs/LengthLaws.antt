@@ -17,7 +17,7 @@ use Rattle.tables_text.specs.TextOf.{entityText, entityWords, fieldLines, place
 use Rattle.tables_text.specs.ToldLaws.{entity-absent, entity-present, user-absent, user-present}
 use Rattle.tables_text.specs.Total.{total}
 use Rattle.tables_text.specs.Values.{numberLine, tripleLine}
-use Rattle.tables_writer.specs.FieldAt.{digitsAt, userLineCount}
+use Rattle.tables_writer.specs.FieldAt.{digitsAt, userFieldCount}
 use Rattle.tables_writer.specs.LineLaws.{place-length, triple-length}
 use Rattle.tables_writer.specs.SeriesLaws.{series-most}
 
@@ -38,7 +38,7 @@ entityMarks = length entityKey + 1 + marks entityFields + length triplesKey + 1
 -- how long the text of a user and of an entity is that is there
 module _ (d : Tables) where
   pub user-length : (u : ℕ) → (d .user u present ≡ 0 → ⊥)
-      → length (userText d u) ≡ userMarks + (length (digits u) + length (series userLineCount 1 (digitsAt (userWords d u))))
+      → length (userText d u) ≡ userMarks + (length (digits u) + length (series userFieldCount 1 (digitsAt (userWords d u))))
   unfolding total
   user-length u n =
       rw (user-present d u (omega arith))
@@ -47,7 +47,7 @@ module _ (d : Tables) where
         length-append (numberLine userKey u) (fieldLines userFields 1 (userWords d u)),
         number-length userKey u,
         fields-length userFields 1 (userWords d u),
-        series-length userLineCount 1 (digitsAt (userWords d u)),
+        series-length userFieldCount 1 (digitsAt (userWords d u)),
       ))
 
   pub entity-length : (e : ℕ) → (kinds d e ≡ absentKind → ⊥)
@@ -75,7 +75,7 @@ digits-bound {r} n e = omega (arith, length-most n)
 -- a user with the number and seven words; the lines of a place and of a triple; and an entity with the number, eight words, eight places and eight triples,
 -- where every number has ten digits
 abbrev pub userMost : ℕ
-userMost = userMarks + suc userLineCount * digitCount
+userMost = userMarks + suc userFieldCount * digitCount
 
 abbrev pub placeMost : ℕ
 placeMost = length contentKey + (2 + 2 * digitCount)
@@ -93,7 +93,7 @@ module _ (d : Tables) where
   pub user-most : (u : ℕ) → length (userText d u) ≤ userMost
   user-most u =
       cases (lt-or-le 0 (d .user u present))
-      (λ l. omega (arith, user-length d u (λ q. omega arith), length-most u, values-most userLineCount 1 (userWords d u)))
+      (λ l. omega (arith, user-length d u (λ q. omega arith), length-most u, values-most userFieldCount 1 (userWords d u)))
       (λ l. rw (user-absent d u (omega arith)) (omega arith))
 
   pub place-most : (e i : ℕ) → length (placeAt d e i) ≤ placeMost

@@ -12,7 +12,7 @@ mod users;
 mod values;
 
 // The bytes of the longest text of tables (rule 16.7).
-const TEXT_MOST: usize = 17721;
+const TABLES_TEXT_MOST: usize = 17721;
 
 // The answer, and how many bytes the text has. With a refusal that is not for want of room, `bytes` is 0.
 pub struct Written {
@@ -47,7 +47,7 @@ pub fn write_tables(tables: &[u32], room: &mut [u8]) -> Written
             bytes: 0,
         };
     }
-    if room.len() < TEXT_MOST {
+    if room.len() < TABLES_TEXT_MOST {
         let n = counting::need(tables);
         if room.len() < n {
             return Written {

@@ -3,7 +3,7 @@ use mathlib.Core.Path.{_∙_, refl, sym}
 use Rattle.model.specs.Tables.Layout.{tablesOf}
 use Rattle.tables_text.specs.TextOf.{userWords}
 use Rattle.tables_text.specs.ToldLaws.{user-absent}
-use Rattle.tables_writer.specs.FieldAt.{userLineCount}
+use Rattle.tables_writer.specs.FieldAt.{userFieldCount}
 use Rattle.tables_writer.specs.LengthLaws.{digits-bound, user-length, values-most}
 use borrow.Author.Needs.{needs}
 use Rattle.tables_writer.proofs.counting.user_len.Statement.{statement}
@@ -30,7 +30,7 @@ add-result c =
       arith,
       digits-bound _ (c .before .number-len .ensures),
       c .user-values .ensures,
-      values-most userLineCount 1
+      values-most userFieldCount 1
           (userWords (tablesOf (s5 c .args .tables .now)) (s5 c .args .u .0)),
     )
 
@@ -41,7 +41,7 @@ add-result-2 c =
       arith,
       digits-bound _ (c .before .number-len .ensures),
       c .user-values .ensures,
-      values-most userLineCount 1
+      values-most userFieldCount 1
           (userWords (tablesOf (s5 c .args .tables .now)) (s5 c .args .u .0)),
     )
 
