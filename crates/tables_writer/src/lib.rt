@@ -1,4 +1,6 @@
-// The text of tables, written (rule 16.4): a line for each word of each record that is there, at the front of any room.
+// The text of tables, written at the front of any room (rule 16.4). Each record that is there has a line with its number and one for each single word, but for
+// the word that says that a user is there; an entity also has lines for the places in use, how many triples there are, and those. Spare words and the rest of
+// the rows have none.
 use names::refusal;
 ghost use Prim.Native.Nat.{_≤_};
 ghost use lib.ListN.{length};
