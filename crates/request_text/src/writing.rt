@@ -1,4 +1,5 @@
 // Writes the text of a request (rule 11.3) at the front of the room that is lent. What stands after the text stays.
+use lines::putting::put_part;
 use lines::writing::number_len;
 use lines::writing::put_line;
 use lines::writing::write_bytes;
@@ -8,36 +9,15 @@ use names::refusal;
 use names::size;
 use names::text;
 use names::word;
-ghost use mathlib.Core.List.{_∷_};
 ghost use mathlib.Core.Path.{_≡_};
-ghost use Prim.Native.Nat.{_+_, _<_, _≤_};
+ghost use Prim.Native.Nat.{_+_, _≤_};
 ghost use lib.ListN.{length};
 ghost use Rattle.lines.specs.Onto.{Puts, Wrote};
 ghost use Rattle.model.specs.Request.Words.{nameCount, requestOf, requestWords};
 ghost use Rattle.model.specs.Text.Lines.{line};
-ghost use Rattle.model.specs.Text.Numbers.{digits};
-ghost use Rattle.model.specs.Text.References.{dotByte, joined};
+ghost use Rattle.model.specs.Text.References.{joined};
 ghost use Rattle.model.specs.Text.Writing.{Writes, hasText, textOfWords};
 ghost use Rattle.request_text.specs.Sixteen.{Sixteen};
-
-// Writes a dot and a name.
-fn write_name(out: &mut [u8], v: u32) -> usize
-    requires { ⌜ length (dotByte ∷ digits v) ≤ length (now out) ⌝ }
-    ensures { λ r. ⌜ Wrote (dotByte ∷ digits v) (now (out .entry)) (now (out .exit)) r ⌝ }
-{
-    out[0] = text::DOT;
-    let n = write_number(&mut out[1..], v);
-    1 + n
-}
-
-// Writes a dot and a name at an index of the output, and answers the index after it.
-fn put_name(out: &mut [u8], at: usize, v: u32) -> usize
-    requires { ⌜ at + length (dotByte ∷ digits v) ≤ length (now out) ⌝ }
-    ensures { λ r. ⌜ Puts (dotByte ∷ digits v) (now (out .entry)) at (now (out .exit)) r ⌝ }
-{
-    let n = write_name(&mut out[at..], v);
-    at + n
-}
 
 // Writes names, joined by dots: the first, and each other after a dot.
 fn write_names(out: &mut [u8], names: &[u32]) -> usize
@@ -50,7 +30,7 @@ fn write_names(out: &mut [u8], names: &[u32]) -> usize
     let mut at = write_number(out, names[0]);
     let mut i = 1;
     while i < names.len() {
-        at = put_name(out, at, names[i]);
+        at = put_part(out, at, names[i]);
         i += 1;
     }
     at

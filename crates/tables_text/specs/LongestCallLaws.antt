@@ -20,7 +20,7 @@ use Rattle.tables_text.specs.LongestTables.{longestWords}
 use borrow.Author.Tests.{eq-eqb, le-leb, lt-leb}
 use Rattle.model.specs.Request.Refusals as refusal
 
-formed-longest : (t : List ℕ) → wellFormedTest (tablesOf t) ≡ true → length (textOfTables t) ≤ longestText
+pub formed-longest : (t : List ℕ) → wellFormedTest (tablesOf t) ≡ true → length (textOfTables t) ≤ longestText
 formed-longest t h = text-longest (tablesOf t) (wellFormed-agrees (tablesOf t) (bounded t) .to (is-true (wellFormedTest (tablesOf t)) h))
 
 -- the bytes written or needed are never more,

@@ -27,7 +27,7 @@ longest-is : allUsers + allEntities + userCount * moreOn ≡ longestText + place
 unfolding total
 longest-is = refl
 
-text-length : (d : Tables) → length (tablesText d) ≡ total userCount 1 (λ u. length (userText d u)) + total entityCount 1 (λ e. length (entityText d e))
+pub text-length : (d : Tables) → length (tablesText d) ≡ total userCount 1 (λ u. length (userText d u)) + total entityCount 1 (λ e. length (entityText d e))
 unfolding tablesText
 text-length d =
     length-append (series userCount 1 (userText d)) (series entityCount 1 (entityText d))

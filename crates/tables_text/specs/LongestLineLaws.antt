@@ -54,11 +54,11 @@ pub number-length : (key : List ℕ) (n : ℕ) → length (numberLine key n) ≡
 number-length key n = length-line key (digits n)
 
 -- the bytes of the lines of some fields
-abbrev sizes : List Field → ℕ → (ℕ → ℕ) → ℕ
+abbrev pub sizes : List Field → ℕ → (ℕ → ℕ) → ℕ
 sizes [] j w = 0
 sizes (f ∷ fs) j w = lineSize (f .key) (size (w j)) + sizes fs (suc j) w
 
-fields-length : (fs : List Field) (j : ℕ) (w : ℕ → ℕ) → length (fieldLines fs j w) ≡ sizes fs j w
+pub fields-length : (fs : List Field) (j : ℕ) (w : ℕ → ℕ) → length (fieldLines fs j w) ≡ sizes fs j w
 unfolding fieldLines
 fields-length [] j w = refl
 fields-length (f ∷ fs) j w =

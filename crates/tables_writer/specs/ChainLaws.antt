@@ -5,6 +5,7 @@ use Prim.Native.Nat.{_+_, _<_, _≤_, ℕ}
 use native.Mathlib.Omega.{arith}
 use lib.ListN.{length}
 use Rattle.lines.specs.Onto.{Puts, Wrote}
+use Rattle.lines.specs.PutsLaws.{puts-both, puts-wrote-front, room-first, room-next}
 use Rattle.model.specs.Tables.Layout.{tablesOf}
 use Rattle.model.specs.Tables.Words.{Tables, absentKind, entityCount, kinds, operationIn, positionOf, present, usedPlaces, userCount, whoOf}
 use Rattle.model.specs.Text.Lines.{lineEnd}
@@ -12,12 +13,10 @@ use Rattle.model.specs.Text.Numbers.{digits}
 use Rattle.model.specs.Text.Wording.{userKey}
 use Rattle.tables_text.specs.Calls.{textOfTables}
 use Rattle.tables_text.specs.Keys.{contentKey, entityFields, entityKey, tripleKey, triplesKey, userFields}
-use Rattle.tables_text.specs.TextOf.{entityLines, entityText, entityWords, fieldLines, placeAt, series, tablesText, tripleAt, tripleCount, userLines}
-use Rattle.tables_text.specs.TextOf.{userText, userWords}
+use Rattle.tables_text.specs.TextOf.{entityText, entityWords, fieldLines, placeAt, series, tablesText, tripleAt, tripleCount, userText, userWords}
+use Rattle.tables_text.specs.ToldLaws.{entity-present, user-present}
 use Rattle.tables_text.specs.Values.{numberLine, placeLine, tripleLine}
-use Rattle.tables_writer.specs.LengthLaws.{entity-there, user-there}
 use Rattle.tables_writer.specs.LineLaws.{part, place-is, placeRest, triple-is, tripleRest}
-use Rattle.tables_writer.specs.PutsLaws.{puts-both, puts-wrote-front, room-first, room-next}
 
 -- ---- the line of a place: its key, a number, a dot and a number, LF
 module _ (d : List ℕ) (at : ℕ) (e s : ℕ) (h : at + length (placeLine (record { entity = e; sum = s })) ≤ length d) where
@@ -87,8 +86,7 @@ module _ (d : List ℕ) (at : ℕ) (t : ℕ) (h : at + length (tripleLine t) ≤
 
 -- ---- a user who is there: the number, and the fields
 user-is : (m : Tables) (u : ℕ) → (m .user u present ≡ 0 → ⊥) → userText m u ≡ numberLine userKey u ++ fieldLines userFields 1 (userWords m u)
-unfolding userLines
-user-is m u n = user-there m u n
+user-is m u n = user-present m u (omega arith)
 
 module _ (m : Tables) (u : ℕ) (d : List ℕ) (at : ℕ) (n : m .user u present ≡ 0 → ⊥) (h : at + length (userText m u) ≤ length d) where
   user-all : at + length (numberLine userKey u ++ fieldLines userFields 1 (userWords m u)) ≤ length d
@@ -120,8 +118,7 @@ module _ (m : Tables) (e : ℕ) where
   last2 = fieldLines entityFields 0 (entityWords m e) ++ last3
 
   entity-is : (kinds m e ≡ absentKind → ⊥) → entityText m e ≡ numberLine entityKey e ++ last2
-  unfolding entityLines
-  entity-is n = entity-there m e n
+  entity-is n = entity-present m e (omega arith)
 
   module _ (d : List ℕ) (at : ℕ) (n : kinds m e ≡ absentKind → ⊥) (h : at + length (entityText m e) ≤ length d) where
     entity-all : at + length (numberLine entityKey e ++ last2) ≤ length d

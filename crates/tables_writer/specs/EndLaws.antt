@@ -16,8 +16,6 @@ use Rattle.model.specs.State.WellFormed.{WellFormed}
 use Rattle.model.specs.Tables.Layout.{tablesOf, wordCount}
 use Rattle.model.specs.Tables.LayoutLaws.{bounded}
 use Rattle.tables_text.specs.Calls.{WritesTables, textOfTables, writeAnswer, writeNumber}
-use Rattle.tables_text.specs.Longest.{longestText}
-use Rattle.tables_text.specs.LongestLaws.{text-longest}
 use Rattle.tables_writer.specs.Writable.{Writable}
 use Rattle.model.specs.Request.Refusals as refusal
 
@@ -72,13 +70,9 @@ module _ (t : List ℕ) (f : Formed t) where
   well : WellFormed (tablesOf t)
   well = wellFormed-agrees (tablesOf t) (bounded t) .to (is-true (wellFormedTest (tablesOf t)) (f .1))
 
-  -- and then the writer can go through them,
+  -- and then the writer can go through them
   pub writable : Writable t
   writable = record { long = eqb-true (length t) wordCount (f .0); room = λ e. well .entities e .filled .packed .room }
-
-  -- and rule 16.7: their text is no longer than the longest
-  pub formed-longest : length (textOfTables t) ≤ longestText
-  formed-longest = text-longest (tablesOf t) well
 
   module _ (room : List ℕ) where
     -- the room is too short for the text

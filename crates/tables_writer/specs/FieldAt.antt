@@ -1,8 +1,10 @@
 -- Rules 16.1 and 16.2: the line of a word by the word's place in its record.
 use mathlib.Core.List.{List, [], _∷_}
 use Prim.Native.Nat.{_-_, suc, zero, ℕ}
+use lib.ListN.{length}
 use Rattle.model.specs.Tables.Words.{Tables}
 use Rattle.model.specs.Text.Numbers.{digits}
+use Rattle.tables.specs.Singles.{singleCount}
 use Rattle.tables_text.specs.Keys.{Field, entityFields, userFields}
 use Rattle.tables_text.specs.TextOf.{entityWords, userWords}
 use Rattle.tables_text.specs.Values.{numberLine}
@@ -22,8 +24,12 @@ abbrev pub userLineAt : Tables → ℕ → ℕ → List ℕ
 userLineAt d u j = userLine j (userWords d u j)
 
 -- so many words of a user have a line
-abbrev pub userLineCount : ℕ
-userLineCount = 7
+abbrev pub userFieldCount : ℕ
+userFieldCount = length userFields
+
+-- the last of the words that stand alone, of a user and of an entity
+abbrev pub lastSingle : ℕ
+lastSingle = singleCount - 1
 
 -- the line of word j of an entity
 unfoldable pub entityLine : ℕ → ℕ → List ℕ

@@ -12,11 +12,11 @@ use Rattle.tables.specs.Singles.{singleCount}
 use Rattle.tables_text.specs.Keys.{contentKey, entityFields, tripleKey, userFields}
 use Rattle.tables_text.specs.TextOf.{entityWords, fieldLines, series, userWords}
 use Rattle.tables_text.specs.Values.{placeLine, tripleLine}
-use Rattle.tables_writer.specs.FieldAt.{entityLine, entityLineAt, userLine, userLineAt, userLineCount}
+use Rattle.tables_writer.specs.FieldAt.{entityLine, entityLineAt, lastSingle, userFieldCount, userLine, userLineAt}
 
 -- ---- the lines of fields, word by word
 
-pub user-fields : (d : Tables) (u : ℕ) → fieldLines userFields 1 (userWords d u) ≡ series userLineCount 1 (userLineAt d u)
+pub user-fields : (d : Tables) (u : ℕ) → fieldLines userFields 1 (userWords d u) ≡ series userFieldCount 1 (userLineAt d u)
 unfolding fieldLines series userLine
 user-fields d u = refl
 
@@ -28,11 +28,11 @@ entity-fields d e = refl
 past-three : (j : ℕ) → (j ≡ 0 → ⊥) → (j ≡ 1 → ⊥) → (j ≡ 2 → ⊥) → (j ≡ 3 → ⊥) → 4 ≤ j
 past-three j a b c d = omega arith
 
-last-four : (j : ℕ) → 4 ≤ j → j < singleCount → (j ≡ 4 → ⊥) → (j ≡ 5 → ⊥) → (j ≡ 6 → ⊥) → j ≡ 7
+last-four : (j : ℕ) → 4 ≤ j → j < singleCount → (j ≡ 4 → ⊥) → (j ≡ 5 → ⊥) → (j ≡ 6 → ⊥) → j ≡ lastSingle
 last-four j h l a b c = omega arith
 
 pub last-single : (j : ℕ) → j < singleCount
-    → (j ≡ 0 → ⊥) → (j ≡ 1 → ⊥) → (j ≡ 2 → ⊥) → (j ≡ 3 → ⊥) → (j ≡ 4 → ⊥) → (j ≡ 5 → ⊥) → (j ≡ 6 → ⊥) → j ≡ 7
+    → (j ≡ 0 → ⊥) → (j ≡ 1 → ⊥) → (j ≡ 2 → ⊥) → (j ≡ 3 → ⊥) → (j ≡ 4 → ⊥) → (j ≡ 5 → ⊥) → (j ≡ 6 → ⊥) → j ≡ lastSingle
 last-single j l a b c d e f g = last-four j (past-three j a b c d) l e f g
 
 -- ---- a place and a triple, piece by piece

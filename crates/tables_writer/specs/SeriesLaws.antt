@@ -5,8 +5,10 @@ use Prim.Native.Nat.{_*_, _+_, _<_, _≤_, suc, zero, ℕ}
 use native.Mathlib.Omega.{arith}
 use lib.ListN.{length, length-append}
 use Rattle.lines.specs.Onto.{Puts}
+use Rattle.lines.specs.PutsLaws.{puts-none, puts-puts, room-after}
+use Rattle.tables_text.specs.LongestLineLaws.{series-length}
 use Rattle.tables_text.specs.TextOf.{series}
-use Rattle.tables_writer.specs.PutsLaws.{puts-none, puts-puts, puts-room}
+use Rattle.tables_text.specs.TotalLaws.{total-const, total-le}
 
 -- one text more stands at the end
 pub series-snoc : (k i : ℕ) (g : ℕ → List ℕ) → series (suc k) i g ≡ series k i g ++ g (i + k)
@@ -30,11 +32,8 @@ series-part (suc n) (suc k) i g h =
 
 -- as many texts, none longer than m, are no longer than so many times m
 pub series-most : (k i m : ℕ) (g : ℕ → List ℕ) → ((j : ℕ) → length (g j) ≤ m) → length (series k i g) ≤ k * m
-unfolding series
-series-most zero i m g h = omega arith
-series-most (suc k) i m g h =
-    let e : suc k * m ≡ m + k * m = omega arith in
-    rw e (omega (arith, length-append (g i) (series k (suc i) g), h i, series-most k (suc i) m g h))
+series-most k i m g h =
+    omega (arith, series-length k i g, total-le k i (λ j. length (g j)) (λ j. m) (λ j a b. h j), total-const k i m)
 
 -- no text yet
 pub series-none : (i : ℕ) (g : ℕ → List ℕ) → series 0 i g ≡ []
@@ -58,7 +57,7 @@ series-start {d} {at} i g = rw (series-none i g) (puts-none d at)
 -- the next text has room where all of them had
 pub series-room : {d e : List ℕ} {at a m : ℕ} (n k i : ℕ) (g : ℕ → List ℕ) → m ≡ i + k → k < n → at + length (series n i g) ≤ length d
     → Puts (series k i g) d at e a → a + length (g m) ≤ length e
-series-room {d} {e} {at} {a} n k i g q h l p = rw q (puts-room (g (i + k)) p (omega (arith, series-part n k i g h)))
+series-room {d} {e} {at} {a} n k i g q h l p = rw q (room-after (g (i + k)) p (omega (arith, series-part n k i g h)))
 
 -- it is written after those before it
 pub series-puts : {d e f : List ℕ} {at a r m : ℕ} (k i : ℕ) (g : ℕ → List ℕ) → m ≡ i + k → at ≤ length d

@@ -15,7 +15,7 @@ ghost use Rattle.tables.specs.Singles.{EntityIn, UserIn, singleCount};
 ghost use Rattle.tables_text.specs.Calls.{textOfTables};
 ghost use Rattle.tables_text.specs.TextOf.{entityText, entityWords, placeAt, series, tripleAt, userText, userWords};
 ghost use Rattle.tables_text.specs.Values.{tripleLine};
-ghost use Rattle.tables_writer.specs.FieldAt.{digitsAt, userLineCount};
+ghost use Rattle.tables_writer.specs.FieldAt.{digitsAt, userFieldCount};
 ghost use Rattle.tables_writer.specs.Writable.{Writable};
 
 // The keys and line ends of a user's record, and of an entity's.
@@ -31,7 +31,7 @@ const TRIPLE_MARKS: usize = 10;
 // How many digits the words of user u have.
 fn user_values(tables: &[u32], u: User) -> usize
     requires { ⌜ UserIn (now tables) (u .0) ⌝ }
-    ensures { λ r. ⌜ r ≡ length (series userLineCount 1 (digitsAt (userWords (tablesOf (now (tables .entry))) (u .0)))) ⌝ }
+    ensures { λ r. ⌜ r ≡ length (series userFieldCount 1 (digitsAt (userWords (tablesOf (now (tables .entry))) (u .0)))) ⌝ }
 {
     let mut n = 0;
     let mut j = word::CLEARANCE;

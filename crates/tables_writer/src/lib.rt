@@ -1,4 +1,6 @@
-// The text of tables, written (rule 16.4): a line for each word of each record that is there, at the front of any room.
+// The text of tables, written at the front of any room (rule 16.4). Each record that is there has a line with its number and one for each single word, but for
+// the word that says that a user is there; an entity also has lines for the places in use, how many triples there are, and those. Spare words and the rest of
+// the rows have none.
 use names::refusal;
 ghost use Prim.Native.Nat.{_≤_};
 ghost use lib.ListN.{length};
@@ -12,7 +14,7 @@ mod users;
 mod values;
 
 // The bytes of the longest text of tables (rule 16.7).
-const TEXT_MOST: usize = 17721;
+const TABLES_TEXT_MOST: usize = 17721;
 
 // The answer, and how many bytes the text has. With a refusal that is not for want of room, `bytes` is 0.
 pub struct Written {
@@ -47,7 +49,7 @@ pub fn write_tables(tables: &[u32], room: &mut [u8]) -> Written
             bytes: 0,
         };
     }
-    if room.len() < TEXT_MOST {
+    if room.len() < TABLES_TEXT_MOST {
         let n = counting::need(tables);
         if room.len() < n {
             return Written {

@@ -4,7 +4,8 @@ use lib.ListN.{length}
 use borrow.Author.Needs.{needs}
 use Rattle.model.specs.Basics.Cases.{cases}
 use Rattle.tables_text.specs.Calls.{textOfTables}
-use Rattle.tables_writer.specs.EndLaws.{Formed, end-short, end-size, end-unformed, end-written, formed, formed-longest, writable}
+use Rattle.tables_text.specs.LongestCallLaws.{formed-longest}
+use Rattle.tables_writer.specs.EndLaws.{Formed, end-short, end-size, end-unformed, end-written, formed, writable}
 use Rattle.tables_writer.proofs.write_tables.Statement.{statement}
 use Rattle.tables_writer.proofs.write_tables.Tie as tie
 
@@ -25,7 +26,7 @@ need-requires : tie.Need-need-requires
 need-requires c κs = writable _ (good (c .before))
 
 cast-t10 : tie.Need-cast-t10
-cast-t10 c = omega (arith, c .before .need .ensures, formed-longest _ (good (c .before .before .before)))
+cast-t10 c = omega (arith, c .before .need .ensures, formed-longest _ (good (c .before .before .before) .1))
 
 returns-3 : tie.Need-returns-3
 returns-3 c = end-short _ (good (c .before .before .before)) _ (c .before .need .ensures) (c .if4 .taken)
@@ -34,7 +35,7 @@ returns-3 c = end-short _ (good (c .before .before .before)) _ (c .before .need 
 enough : (c : tie.Joined3) → length (textOfTables (c .before .before .before .before .before .before .args .tables .now)) ≤ length
     (c .before .before .before .before .before .before .args .room .now)
 enough c =
-    cases (c .if3 .came) (λ w. omega (arith, w .1 .ensures, w .2 .left)) (λ w. omega (arith, w .left, formed-longest _ (good (c .before))))
+    cases (c .if3 .came) (λ w. omega (arith, w .1 .ensures, w .2 .left)) (λ w. omega (arith, w .left, formed-longest _ (good (c .before) .1)))
 
 write-text-requires : tie.Need-write-text-requires
 write-text-requires c κs = (writable _ (good (c .before .before)), enough (c .before))
@@ -42,7 +43,7 @@ write-text-requires c κs = (writable _ (good (c .before .before)), enough (c .b
 cast-t13 : tie.Need-cast-t13
 cast-t13 c =
     let s5 : _ → _ = λ _. c .before .before .before .before .before in
-    omega (arith, c .before .before .write-text .ensures .many, formed-longest _ (good (s5 c)))
+    omega (arith, c .before .before .write-text .ensures .many, formed-longest _ (good (s5 c) .1))
 
 same-length : tie.Need-same-length
 same-length c = search needs

@@ -38,14 +38,14 @@ loop-holds c =
     let s8 : _ → _ = λ _. s5 c .before .before .before in
     (refl, omega arith, λ d w. rw (joined-first (s8 c .args .names .now) (omega (arith, s5 c .if1 .left))) w)
 
-mul-put-name : tie.Need-mul-put-name Inv-loop μ-loop
-mul-put-name c = search needs
+mul-put-part : tie.Need-mul-put-part Inv-loop μ-loop
+mul-put-part c = search needs
 
-shared-slice-read-put-name : tie.Need-shared-slice-read-put-name Inv-loop μ-loop
-shared-slice-read-put-name c = search needs
+shared-slice-read-put-part : tie.Need-shared-slice-read-put-part Inv-loop μ-loop
+shared-slice-read-put-part c = search needs
 
-put-name-requires : tie.Need-put-name-requires Inv-loop μ-loop
-put-name-requires c κs =
+put-part-requires : tie.Need-put-part-requires Inv-loop μ-loop
+put-part-requires c κs =
     let s6 : _ → _ = λ _. c .before .before .before .before .before .before in
     let s12 : _ → _ = λ _. s6 c .before .before .before .before .before .before in
     puts-room (dotByte ∷ digits (getD (s12 c .args .names .now) (c .before .before .before .loop .i) 0))
@@ -68,11 +68,11 @@ loop-again c =
     let s5 : _ → _ = λ _. c .before .before .before .before .before in
     let s6 : _ → _ = λ _. s5 c .before in
     let s15 : _ → _ = λ _. s6 c .before .before .before .before .before .before .before .before .before in (
-      c .before .before .put-name .kept .0 ∙ s6 c .loop .inv .0,
+      c .before .before .put-part .kept .0 ∙ s6 c .loop .inv .0,
       omega arith,
       λ d w. rw
           (joined-next (s15 c .args .names .now) (s6 c .loop .i) (s6 c .loop .inv .1) (s5 c .loop-test .taken))
-          (wrote-puts (s6 c .loop .inv .2 d w) (c .before .before .put-name .ensures)),
+          (wrote-puts (s6 c .loop .inv .2 d w) (c .before .before .put-part .ensures)),
     )
 
 same-length : tie.Need-same-length Inv-loop μ-loop
@@ -95,9 +95,9 @@ write-names-spec =
     shared-slice-read-write-number
     write-number-requires
     loop-holds
-    mul-put-name
-    shared-slice-read-put-name
-    put-name-requires
+    mul-put-part
+    shared-slice-read-put-part
+    put-part-requires
     add-i
     loop-less
     loop-again

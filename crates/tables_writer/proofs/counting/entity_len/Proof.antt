@@ -1,10 +1,12 @@
 use native.Mathlib.Omega.{arith}
 use mathlib.Core.Path.{_∙_, refl, sym}
 use Rattle.model.specs.Tables.Layout.{tablesOf}
+use Rattle.model.specs.Tables.Words.{triples}
 use Rattle.tables.specs.Singles.{singleCount}
+use Rattle.tables_text.specs.EntityLaws.{count-most}
 use Rattle.tables_text.specs.TextOf.{entityWords}
-use Rattle.tables_writer.specs.LengthLaws.{digits-bound, entity-absent, entity-length, entity-there, places-most, triples-few, triples-most}
-use Rattle.tables_writer.specs.LengthLaws.{values-most}
+use Rattle.tables_text.specs.ToldLaws.{entity-absent}
+use Rattle.tables_writer.specs.LengthLaws.{digits-bound, entity-length, places-most, triples-most, values-most}
 use borrow.Author.Needs.{needs}
 use Rattle.tables_writer.proofs.counting.entity_len.Statement.{statement}
 use Rattle.tables_writer.proofs.counting.entity_len.Tie as tie
@@ -49,7 +51,7 @@ number-len-requires-2 c κs = search needs
 triples-len-requires : tie.Need-triples-len-requires
 triples-len-requires c κs =
     let s9 = c .before .before .before .before .before .before .before .before .before in
-    (s9 .pre .0, rw (c .before .triple-place .ensures) (triples-few (tablesOf (s9 .args .tables .now)) (s9 .args .e .0)))
+    (s9 .pre .0, rw (c .before .triple-place .ensures) (count-most (triples (tablesOf (s9 .args .tables .now)) (s9 .args .e .0))))
 
 add-triples : tie.Need-add-triples
 add-triples c =
@@ -59,8 +61,7 @@ add-triples c =
       digits-bound _ (c .before .number-len2 .ensures),
       c .triples-len .ensures,
       c .before .before .triple-place .ensures,
-      triples-few
-          (tablesOf (s10 c .args .tables .now)) (s10 c .args .e .0),
+      count-most (triples (tablesOf (s10 c .args .tables .now)) (s10 c .args .e .0)),
       triples-most (tablesOf (s10 c .args .tables .now)) (s10 c .args .e .0)
           (c .before .before .triple-place .result),
     )
@@ -74,8 +75,7 @@ add-result c =
       digits-bound _ (c .before .number-len2 .ensures),
       c .triples-len .ensures,
       c .before .before .triple-place .ensures,
-      triples-few
-          (tablesOf (s10 c .args .tables .now)) (s10 c .args .e .0),
+      count-most (triples (tablesOf (s10 c .args .tables .now)) (s10 c .args .e .0)),
       triples-most (tablesOf (s10 c .args .tables .now)) (s10 c .args .e .0)
           (c .before .before .triple-place .result),
       c .before .before .before .places-len .ensures,
@@ -96,8 +96,7 @@ add-result-2 c =
       digits-bound _ (c .before .number-len2 .ensures),
       c .triples-len .ensures,
       c .before .before .triple-place .ensures,
-      triples-few
-          (tablesOf (s10 c .args .tables .now)) (s10 c .args .e .0),
+      count-most (triples (tablesOf (s10 c .args .tables .now)) (s10 c .args .e .0)),
       triples-most (tablesOf (s10 c .args .tables .now)) (s10 c .args .e .0)
           (c .before .before .triple-place .result),
       c .before .before .before .places-len .ensures,
@@ -122,8 +121,7 @@ add-result-3 c =
       digits-bound _ (c .before .number-len2 .ensures),
       c .triples-len .ensures,
       c .before .before .triple-place .ensures,
-      triples-few
-          (tablesOf (s10 c .args .tables .now)) (s10 c .args .e .0),
+      count-most (triples (tablesOf (s10 c .args .tables .now)) (s10 c .args .e .0)),
       triples-most (tablesOf (s10 c .args .tables .now)) (s10 c .args .e .0)
           (c .before .before .triple-place .result),
       c .before .before .before .places-len .ensures,
@@ -145,8 +143,7 @@ returns-2 c =
     let s7 : _ → _ = λ _. s6 c .before in
     let s8 : _ → _ = λ _. s7 c .before in
     let s10 : _ → _ = λ _. s8 c .before .before in
-    rw (entity-there (tablesOf (s10 c .args .tables .now)) (s10 c .args .e .0) (λ q. s7 c .if1 .left (s8 c .kind .ensures ∙ q)))
-    (omega (
+    omega (
       arith,
       s6 c .number-len .ensures,
       s5 c .entity-values .ensures,
@@ -155,8 +152,8 @@ returns-2 c =
       rw (c .before .before .triple-place .ensures) at (c .before .number-len2 .ensures),
       rw
           (c .before .before .triple-place .ensures) at (c .triples-len .ensures),
-      entity-length (tablesOf (s10 c .args .tables .now)) (s10 c .args .e .0),
-    ))
+      entity-length (tablesOf (s10 c .args .tables .now)) (s10 c .args .e .0) (λ q. s7 c .if1 .left (s8 c .kind .ensures ∙ q)),
+    )
 
 pub entity-len-spec : {M : Type 1} → statement M
 entity-len-spec =

@@ -2,8 +2,9 @@ use native.Mathlib.Omega.{arith}
 use mathlib.Core.Path.{_∙_, refl, sym}
 use Rattle.model.specs.Tables.Layout.{tablesOf}
 use Rattle.tables_text.specs.TextOf.{userWords}
-use Rattle.tables_writer.specs.FieldAt.{userLineCount}
-use Rattle.tables_writer.specs.LengthLaws.{digits-bound, user-absent, user-length, user-there, values-most}
+use Rattle.tables_text.specs.ToldLaws.{user-absent}
+use Rattle.tables_writer.specs.FieldAt.{userFieldCount}
+use Rattle.tables_writer.specs.LengthLaws.{digits-bound, user-length, values-most}
 use borrow.Author.Needs.{needs}
 use Rattle.tables_writer.proofs.counting.user_len.Statement.{statement}
 use Rattle.tables_writer.proofs.counting.user_len.Tie as tie
@@ -29,7 +30,7 @@ add-result c =
       arith,
       digits-bound _ (c .before .number-len .ensures),
       c .user-values .ensures,
-      values-most userLineCount 1
+      values-most userFieldCount 1
           (userWords (tablesOf (s5 c .args .tables .now)) (s5 c .args .u .0)),
     )
 
@@ -40,21 +41,20 @@ add-result-2 c =
       arith,
       digits-bound _ (c .before .number-len .ensures),
       c .user-values .ensures,
-      values-most userLineCount 1
+      values-most userFieldCount 1
           (userWords (tablesOf (s5 c .args .tables .now)) (s5 c .args .u .0)),
     )
 
 returns-2 : tie.Need-returns-2
 returns-2 c =
     let s5 : _ → _ = λ _. c .before .before .before .before .before in
-    rw (user-there (tablesOf (s5 c .args .tables .now)) (s5 c .args .u .0) (λ q. c .before .before .if1 .left
-    (c .before .before .before .present .ensures ∙ q))) (omega (
+    omega (
       arith,
       c .before .number-len .ensures,
       c .user-values .ensures,
-      user-length
-          (tablesOf (s5 c .args .tables .now)) (s5 c .args .u .0),
-    ))
+      user-length (tablesOf (s5 c .args .tables .now)) (s5 c .args .u .0) (λ q. c .before .before .if1 .left
+          (c .before .before .before .present .ensures ∙ q)),
+    )
 
 pub user-len-spec : {M : Type 1} → statement M
 user-len-spec =

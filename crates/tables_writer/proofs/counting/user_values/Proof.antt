@@ -8,7 +8,7 @@ use Prim.Native.Nat.{_+_}
 use borrow.Author.Needs.{needs}
 use Rattle.tables.specs.Singles.{singleCount}
 use Rattle.tables_text.specs.TextOf.{series, userWords}
-use Rattle.tables_writer.specs.FieldAt.{digitsAt, userLineCount}
+use Rattle.tables_writer.specs.FieldAt.{digitsAt, userFieldCount}
 use Rattle.tables_writer.specs.LengthLaws.{digits-bound, values-most}
 use Rattle.tables_writer.proofs.counting.user_values.Statement.{statement}
 use Rattle.tables_writer.proofs.counting.user_values.Tie as tie
@@ -57,7 +57,7 @@ loop-again c =
     )
 
 returns : tie.Need-returns Inv-loop μ-loop
-returns c = let e : c .before .loop .j - 1 ≡ userLineCount = omega arith in rw e at (c .before .loop .inv .2)
+returns c = let e : c .before .loop .j - 1 ≡ userFieldCount = omega arith in rw e at (c .before .loop .inv .2)
 
 pub user-values-spec : {M : Type 1} → statement M
 user-values-spec =

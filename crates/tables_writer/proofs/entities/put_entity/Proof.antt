@@ -1,8 +1,10 @@
 use mathlib.Core.Path.{_∙_, sym}
 use Rattle.model.specs.Tables.Layout.{tablesOf}
 use Rattle.tables_writer.specs.ChainLaws.{entity-puts, entity-room, entity-room2, entity-room3, entity-room4, entity-room5}
-use Rattle.tables_writer.specs.LengthLaws.{entity-absent, triples-few}
-use Rattle.tables_writer.specs.PutsLaws.{puts-none}
+use Rattle.model.specs.Tables.Words.{triples}
+use Rattle.tables_text.specs.EntityLaws.{count-most}
+use Rattle.tables_text.specs.ToldLaws.{entity-absent}
+use Rattle.lines.specs.PutsLaws.{puts-none}
 use borrow.Author.Needs.{needs}
 use Rattle.tables_writer.proofs.entities.put_entity.Statement.{statement}
 use Rattle.tables_writer.proofs.entities.put_entity.Tie as tie
@@ -82,7 +84,7 @@ put-triples-requires c κs =
     let s22 = s21 .before in
     let s25 = s22 .before .before .before in (
       s25 .pre .0,
-      rw (s6 .triple-place .ensures) (triples-few (tablesOf (s25 .args .tables .now)) (s25 .args .e .0)),
+      rw (s6 .triple-place .ensures) (count-most (triples (tablesOf (s25 .args .tables .now)) (s25 .args .e .0))),
       rw (s6 .triple-place .ensures)
           (entity-room5 (tablesOf (s25 .args .tables .now)) (s25 .args .e .0) (s25 .args .out .now) (s25 .args .at)
           (λ q. s21 .if1 .left (s22 .kind .ensures ∙ q)) (s25 .pre .2) (s18 .put-line .ensures) (s14 .put-entity-lines .ensures)

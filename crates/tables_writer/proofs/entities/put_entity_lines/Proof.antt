@@ -3,7 +3,7 @@ use mathlib.Core.Path.{_≡_}
 use Prim.Native.Nat.{_-_, _≤_}
 use Rattle.lines.specs.Onto.{Puts}
 use Rattle.model.specs.Tables.Layout.{tablesOf}
-use Rattle.tables_writer.specs.PutsLaws.{puts-length}
+use Rattle.lines.specs.PutsLaws.{puts-length}
 use Rattle.tables_writer.specs.SeriesLaws.{series-puts, series-room, series-start}
 use Rattle.tables.specs.Singles.{singleCount}
 use Rattle.tables_text.specs.TextOf.{series}

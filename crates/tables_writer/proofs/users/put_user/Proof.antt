@@ -1,8 +1,8 @@
 use mathlib.Core.Path.{_∙_, sym}
 use Rattle.model.specs.Tables.Layout.{tablesOf}
 use Rattle.tables_writer.specs.ChainLaws.{user-puts, user-room, user-room2}
-use Rattle.tables_writer.specs.LengthLaws.{user-absent}
-use Rattle.tables_writer.specs.PutsLaws.{puts-none}
+use Rattle.tables_text.specs.ToldLaws.{user-absent}
+use Rattle.lines.specs.PutsLaws.{puts-none}
 use borrow.Author.Needs.{needs}
 use Rattle.tables_writer.proofs.users.put_user.Statement.{statement}
 use Rattle.tables_writer.proofs.users.put_user.Tie as tie

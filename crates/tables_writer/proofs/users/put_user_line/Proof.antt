@@ -1,6 +1,6 @@
 use native.Mathlib.Omega.{arith}
 use mathlib.Core.Path.{_≡_}
-use Rattle.tables_writer.specs.FieldAt.{userLine}
+use Rattle.tables_writer.specs.FieldAt.{lastSingle, userLine}
 use borrow.Author.Needs.{needs}
 use Rattle.tables_writer.proofs.users.put_user_line.Statement.{statement}
 use Rattle.tables_writer.proofs.users.put_user_line.Tie as tie
@@ -106,7 +106,7 @@ put-line-requires-7 c κs =
     let s6 : _ → _ = λ _. s5 c .before in
     let s7 : _ → _ = λ _. s6 c .before in
     let s9 : _ → _ = λ _. s7 c .before .before in
-    let e : s9 c .args .j ≡ 7 = omega (
+    let e : s9 c .args .j ≡ lastSingle = omega (
       arith,
       s9 c .pre .0,
       s9 c .pre .1,
@@ -132,7 +132,7 @@ returns-7 c =
     let s9 : _ → _ = λ _. s8 c .before in
     let s10 : _ → _ = λ _. s9 c .before in
     let s12 : _ → _ = λ _. s10 c .before .before in
-    let e : s12 c .args .j ≡ 7 = omega (
+    let e : s12 c .args .j ≡ lastSingle = omega (
       arith,
       s12 c .pre .0,
       s12 c .pre .1,

@@ -3,11 +3,11 @@ use mathlib.Core.Path.{_≡_}
 use Prim.Native.Nat.{_+_, _-_, _≤_}
 use Rattle.lines.specs.Onto.{Puts}
 use Rattle.model.specs.Tables.Layout.{tablesOf}
-use Rattle.tables_writer.specs.PutsLaws.{puts-length}
+use Rattle.lines.specs.PutsLaws.{puts-length}
 use Rattle.tables_writer.specs.SeriesLaws.{series-puts, series-room, series-start}
 use Rattle.tables.specs.Singles.{singleCount}
 use Rattle.tables_text.specs.TextOf.{series}
-use Rattle.tables_writer.specs.FieldAt.{userLineAt, userLineCount}
+use Rattle.tables_writer.specs.FieldAt.{userFieldCount, userLineAt}
 use Rattle.tables_writer.specs.LineLaws.{user-fields}
 use Rattle.tables_writer.proofs.users.put_user_lines.Statement.{statement}
 use Rattle.tables_writer.proofs.users.put_user_lines.Tie as tie
@@ -30,7 +30,7 @@ put-user-line-requires c κs =
       c .before .before .before .loop .inv .0,
       c .before .before .loop-test .taken,
       rw (c .user-at .ensures)
-          (series-room userLineCount (c .before .before .before .loop .j - 1) 1 (userLineAt (tablesOf (s6 c .args .tables .now)) (s6 c .args .u .0))
+          (series-room userFieldCount (c .before .before .before .loop .j - 1) 1 (userLineAt (tablesOf (s6 c .args .tables .now)) (s6 c .args .u .0))
           (omega arith) (omega arith) (rw (user-fields (tablesOf (s6 c .args .tables .now)) (s6 c .args .u .0)) at (s6 c .pre .1))
           (c .before .before .before .loop .inv .2)),
     )
@@ -56,13 +56,13 @@ loop-again c =
 same-length : tie.Need-same-length Inv-loop μ-loop
 same-length c =
     let s4 : _ → _ = λ _. c .before .before .before .before in
-    let e : c .before .loop .j - 1 ≡ userLineCount = omega arith in
+    let e : c .before .loop .j - 1 ≡ userFieldCount = omega arith in
     puts-length (rw e at (c .before .loop .inv .2)) (rw (user-fields (tablesOf (s4 c .args .tables .now)) (s4 c .args .u .0)) at (s4 c .pre .1))
 
 returns : tie.Need-returns Inv-loop μ-loop
 returns c =
     let s4 : _ → _ = λ _. c .before .before .before .before in
-    let e : c .before .loop .j - 1 ≡ userLineCount = omega arith in
+    let e : c .before .loop .j - 1 ≡ userFieldCount = omega arith in
     rw (user-fields (tablesOf (s4 c .args .tables .now)) (s4 c .args .u .0)) (rw e at (c .before .loop .inv .2))
 
 pub put-user-lines-spec : {M : Type 1} → statement M

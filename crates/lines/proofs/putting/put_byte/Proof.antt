@@ -1,7 +1,7 @@
-use Rattle.tables_writer.specs.PutsLaws.{puts-byte}
+use Rattle.lines.specs.PutsLaws.{puts-byte}
 use borrow.Author.Needs.{needs}
-use Rattle.tables_writer.proofs.values.put_byte.Statement.{statement}
-use Rattle.tables_writer.proofs.values.put_byte.Tie as tie
+use Rattle.lines.proofs.putting.put_byte.Statement.{statement}
+use Rattle.lines.proofs.putting.put_byte.Tie as tie
 
 slice-write-out : tie.Need-slice-write-out
 slice-write-out c = search needs

@@ -1,7 +1,7 @@
 use Rattle.lines.specs.OntoLaws.{puts}
 use borrow.Author.Needs.{needs}
-use Rattle.tables_writer.proofs.values.put_bytes.Statement.{statement}
-use Rattle.tables_writer.proofs.values.put_bytes.Tie as tie
+use Rattle.lines.proofs.putting.put_bytes.Statement.{statement}
+use Rattle.lines.proofs.putting.put_bytes.Tie as tie
 
 sub-write-bytes : tie.Need-sub-write-bytes
 sub-write-bytes c = search needs

@@ -1,8 +1,8 @@
 use native.Mathlib.Omega.{arith}
-use Rattle.tables_writer.specs.PutsLaws.{puts-puts}
+use Rattle.lines.specs.PutsLaws.{puts-puts}
 use borrow.Author.Needs.{needs}
-use Rattle.tables_writer.proofs.values.put_part.Statement.{statement}
-use Rattle.tables_writer.proofs.values.put_part.Tie as tie
+use Rattle.lines.proofs.putting.put_part.Statement.{statement}
+use Rattle.lines.proofs.putting.put_part.Tie as tie
 
 put-byte-requires : tie.Need-put-byte-requires
 put-byte-requires c κs = search needs

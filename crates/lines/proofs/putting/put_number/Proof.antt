@@ -1,7 +1,7 @@
 use Rattle.lines.specs.OntoLaws.{puts}
 use borrow.Author.Needs.{needs}
-use Rattle.tables_writer.proofs.values.put_number.Statement.{statement}
-use Rattle.tables_writer.proofs.values.put_number.Tie as tie
+use Rattle.lines.proofs.putting.put_number.Statement.{statement}
+use Rattle.lines.proofs.putting.put_number.Tie as tie
 
 sub-write-number : tie.Need-sub-write-number
 sub-write-number c = search needs

@@ -45,8 +45,8 @@ pub puts-length : {s d e : List ℕ} {at r : ℕ} → Puts s d at e r → at + l
 puts-length p h = wrote-length (puts-wrote (omega arith) p) (omega (arith, p .many))
 
 -- there is room for t after s where there was enough for both
-pub puts-room : {s d e : List ℕ} {at a : ℕ} (t : List ℕ) → Puts s d at e a → at + (length s + length t) ≤ length d → a + length t ≤ length e
-puts-room t p h = omega (arith, p .many, puts-length p (omega arith))
+pub room-after : {s d e : List ℕ} {at a : ℕ} (t : List ℕ) → Puts s d at e a → at + (length s + length t) ≤ length d → a + length t ≤ length e
+room-after t p h = omega (arith, p .many, puts-length p (omega arith))
 
 -- ---- s ++ t is to be written, and there is room for it: then there is room for s,
 pub room-first : (s t : List ℕ) (at : ℕ) {n : ℕ} → at + length (s ++ t) ≤ n → at + length s ≤ n
@@ -54,7 +54,7 @@ room-first s t at h = omega (arith, length-append s t)
 
 -- after s there is room for t,
 pub room-next : {s d e : List ℕ} {at a : ℕ} (t : List ℕ) → at + length (s ++ t) ≤ length d → Puts s d at e a → a + length t ≤ length e
-room-next {s} t h p = puts-room t p (omega (arith, length-append s t))
+room-next {s} t h p = room-after t p (omega (arith, length-append s t))
 
 -- and after t all is written
 pub puts-both : {s t d e f : List ℕ} {at a r : ℕ} → at + length (s ++ t) ≤ length d → Puts s d at e a → Puts t e a f r → Puts (s ++ t) d at f r
