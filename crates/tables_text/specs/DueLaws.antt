@@ -103,7 +103,7 @@ user-must : {u : ℕ} {l s : List ℕ} {ρ : Due} (x : List ℕ) → behind (num
     → Follows (users (suc u)) l ρ
 user-must {u} {s = s} x e (user {v = v} a b) q =
     cases (lt-or-le (suc u) v)
-    (λ h. user h b)
+    (λ h. user {u = suc u} (omega arith) b)
     (λ h. let i : v ≡ suc u = omega arith in head-not (numberLine userKey (suc u)) s x e (q ∙ ap (λ (n : ℕ). numberLine userKey n ++ x) i))
 user-must x e (first a b) q = first a b
 
