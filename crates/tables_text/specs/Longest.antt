@@ -4,11 +4,12 @@ use Prim.Native.Nat.{_*_, _+_, ℕ}
 use lib.Dec.{ltb}
 use lib.ListN.{length}
 use Rattle.model.specs.Basics.Choice.{pick}
+use Rattle.model.specs.Script.Reports.{heldKey, missedKey}
 use Rattle.model.specs.Tables.Words.{placeCount}
 use Rattle.model.specs.Text.Numbers.{base, digitCount, digits}
 use Rattle.model.specs.Text.Wording.{userKey}
-use Rattle.tables_text.specs.Keys.{authorisedKey, clearanceKey, contentKey, currentKey, deviceKey, entityKey, heldKey, kindKey, levelKey}
-use Rattle.tables_text.specs.Keys.{markKey, maximumKey, missedKey, operationKey, placesKey, releaserKey, tripleKey, triplesKey, typeKey, valueKey}
+use Rattle.tables_text.specs.Keys.{authorisedKey, clearanceKey, contentKey, currentKey, deviceKey, entityKey, kindKey, levelKey}
+use Rattle.tables_text.specs.Keys.{markKey, maximumKey, operationKey, placesKey, releaserKey, tripleKey, triplesKey, typeKey, valueKey}
 
 -- Rule 16.7: the bytes of the longest text. Every user and every entity is present and has eight triples; sixteen entities are devices with a user each,
 -- and each shows eight entities; the others are containers that are marked and released, with values of ten digits, and all but one are in another:

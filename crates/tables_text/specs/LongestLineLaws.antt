@@ -6,6 +6,7 @@ use native.Mathlib.Nat.{pow-suc}
 use native.Mathlib.Omega.{arith}
 use lib.ListN.{length, length-append}
 use Rattle.model.specs.Basics.Cases.{cases, lt-or-le}
+use Rattle.model.specs.Script.Reports.{heldKey, missedKey}
 use Rattle.model.specs.State.WellFormed.{Access, GoodTriple, WellFormed}
 use Rattle.model.specs.Tables.RowLaws.{first-zero}
 use Rattle.model.specs.Tables.WordAt.{entityWordAt, entityWordOf, userWordAt, userWordOf}
@@ -17,8 +18,8 @@ use Rattle.model.specs.Text.NumberLaws.{length-small, length-step}
 use Rattle.model.specs.Text.Numbers.{base, digits, digitsEnd}
 use Rattle.model.specs.Text.References.{dotByte, joined}
 use Rattle.model.specs.Text.Wording.{userKey}
-use Rattle.tables_text.specs.Keys.{Field, authorisedKey, clearanceKey, contentKey, currentKey, deviceKey, entityFields, entityKey, heldKey}
-use Rattle.tables_text.specs.Keys.{maximumKey, missedKey, operationKey, releaserKey, tripleKey, triplesKey, userFields, valueKey}
+use Rattle.tables_text.specs.Keys.{Field, authorisedKey, clearanceKey, contentKey, currentKey, deviceKey, entityFields, entityKey}
+use Rattle.tables_text.specs.Keys.{maximumKey, operationKey, releaserKey, tripleKey, triplesKey, userFields, valueKey}
 use Rattle.tables_text.specs.Longest.{heldDigits, levelDigits, lineSize, missedDigits, operationDigits, placeSize, plainSize, roleDigits, second}
 use Rattle.tables_text.specs.Longest.{size, tripleBytes, triplesSize}
 use Rattle.tables_text.specs.TextOf.{entityLines, entityWords, fieldLines, placeAt, series, tripleAt, tripleCount, userLines, userWords}

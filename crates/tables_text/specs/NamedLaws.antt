@@ -2,12 +2,13 @@
 use mathlib.Core.List.{_++_, append-assoc, append-nil}
 use mathlib.Core.Path.{_≡_}
 use Prim.Native.Nat.{ℕ}
+use Rattle.model.specs.Script.Reports.{heldKey, missedKey}
 use Rattle.model.specs.Tables.WordAt.{entityWordAt, entityWordOf, userWordAt, userWordOf}
 use Rattle.model.specs.Tables.Words.{Tables, authorised, clearance, current, device, held, heldOp, kind, level, mark, maximum, missed, releaser, type, used}
 use Rattle.model.specs.Tables.Words.{value}
 use Rattle.model.specs.Text.Wording.{userKey}
-use Rattle.tables_text.specs.Keys.{authorisedKey, clearanceKey, currentKey, deviceKey, entityKey, heldKey, kindKey, levelKey, markKey}
-use Rattle.tables_text.specs.Keys.{maximumKey, missedKey, operationKey, placesKey, releaserKey, triplesKey, typeKey, valueKey}
+use Rattle.tables_text.specs.Keys.{authorisedKey, clearanceKey, currentKey, deviceKey, entityKey, kindKey, levelKey, markKey}
+use Rattle.tables_text.specs.Keys.{maximumKey, operationKey, placesKey, releaserKey, triplesKey, typeKey, valueKey}
 use Rattle.tables_text.specs.TextOf.{entityLines, fieldLines, placeAt, series, tripleAt, tripleCount, userLines}
 use Rattle.tables_text.specs.Values.{numberLine}
 
