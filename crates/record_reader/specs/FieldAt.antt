@@ -22,4 +22,4 @@ entityField j = getD singleFields j (anyNumber [])
 
 -- as many words of an entity's record come before the number of its places
 abbrev pub lastSingle : ℕ
-lastSingle = 7
+lastSingle = length singleFields

@@ -10,7 +10,7 @@ use Rattle.model.specs.Tables.Layout.{tablesOf}
 use Rattle.model.specs.Tables.WordAt.{entityWordAt, entityWordOf, userWordAt, userWordOf}
 use Rattle.model.specs.Tables.Words.{Tables, used, usedPlaces}
 use Rattle.model.specs.Text.Numbers.{Read, bad, got}
-use Rattle.record_reader.specs.FieldAt.{FieldAt}
+use Rattle.record_reader.specs.FieldAt.{FieldAt, lastSingle}
 use Rattle.record_reader.specs.Rest.{accessRest, placesRest}
 use Rattle.record_reader.specs.StageAt.{StageAt}
 use Rattle.record_reader.specs.declared.records.Progress.{Progress}
@@ -83,7 +83,7 @@ fields-last e (a ∷ fs) f j m d s h = go (readField a s) (λ v x. fields-last e
 rows : ℕ → Tables → List ℕ → Stage
 rows e d s = onward (placesStage e (usedPlaces d e) 0 d s) (accessRest e)
 
-places-last : (e : ℕ) (d : Tables) (s : List ℕ) → onward (lastField e placesField 7 d s) (rows e) ≡ placesRest e d s
+places-last : (e : ℕ) (d : Tables) (s : List ℕ) → onward (lastField e placesField lastSingle d s) (rows e) ≡ placesRest e d s
 unfolding lastField rows placesRest entityWordAt entityWordOf
 places-last e d s =
     orStuck-onward s (readField placesField s) _ (rows e)
@@ -96,8 +96,8 @@ whole e d s = refl
 pub entity-record : (e : ℕ) (d : Tables) (s : List ℕ) → entityRecord e d s ≡ onward (entityStage e singleFields 0 d s) (placesRest e)
 entity-record e d s =
     whole e d s
-    ∙ ap (λ (g : Stage). onward g (rows e)) (fields-last e singleFields placesField 0 7 d s refl)
-    ∙ onward-twice (entityStage e singleFields 0 d s) (lastField e placesField 7) (rows e)
+    ∙ ap (λ (g : Stage). onward g (rows e)) (fields-last e singleFields placesField 0 lastSingle d s refl)
+    ∙ onward-twice (entityStage e singleFields 0 d s) (lastField e placesField lastSingle) (rows e)
     ∙ onward-same (entityStage e singleFields 0 d s) _ (placesRest e) (λ x y. places-last e x y)
 
 -- ---- the rows of an entity

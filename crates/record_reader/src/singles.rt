@@ -1,6 +1,7 @@
 // Reads one line of a record that has one number. The lines of a record are told apart by the place of their word in it.
 use lines::reading::Number;
 use lines::reading::read_line;
+use names::kind;
 use names::size;
 use names::word;
 ghost use Prim.Native.Nat.{_<_, _≤_};
@@ -43,7 +44,7 @@ fn kind_line(s: &[u8], at: usize) -> Number
     match read_line(s, at, b"kind=") {
         Number::Bad => Number::Bad,
         Number::Value { v, next } => {
-            if v == names::kind::ABSENT {
+            if v == kind::ABSENT {
                 return Number::Bad;
             }
             Number::Value { v, next }

@@ -8,6 +8,7 @@ use Rattle.model.specs.Basics.Cases.{cases, lt-or-le}
 use Rattle.model.specs.Tables.Layout.{Bounded}
 use Rattle.model.specs.Tables.WordAt.{userWordAt}
 use Rattle.model.specs.Tables.Words.{EntityWord, Tables, UserWord, entityCount, kind, present, userCount}
+use Rattle.model.specs.Text.LineLaws.{behind-back}
 use Rattle.model.specs.Text.Lines.{behind}
 use Rattle.model.specs.Text.Wording.{userKey}
 use Rattle.tables_text.specs.EntityLaws.{entity-record-back, entityRest, rest-same}
@@ -18,7 +19,6 @@ use Rattle.tables_text.specs.TextOf.{entityText, fieldLines, series, tab
 use Rattle.tables_text.specs.Told.{Blank, EntityTold, SmallTables, TablesTold, UserTold}
 use Rattle.tables_text.specs.ToldLaws.{entity-absent, entity-present, told-bounded, told-kind, told-small, user-absent, user-present}
 use Rattle.tables_text.specs.UserLaws.{user-record-back}
-use Rattle.tables_text.specs.ValueLaws.{head-back}
 use Rattle.tables_text.specs.Values.{numberLine}
 
 -- k users from u on were read: those before are as they were, those after k are blank, and these have these lines
@@ -79,7 +79,7 @@ users-back (suc k) u d s d′ x z e =
     let b = user-record-back u d y c t (z u (omega arith)) p in
     let i : UsersRead k (suc u) c t d′ x =
     users-back k (suc u) c t d′ x (λ v a. subst Blank (sym (b .1 v (λ h. omega arith))) (z v (omega arith))) q in
-    user-told k u d s d′ x c y t (head-back (numberLine userKey u) s y ey) (b .0) (b .1) (b .2) (b .3) i)
+    user-told k u d s d′ x c y t (behind-back (numberLine userKey u) s y ey) (b .0) (b .1) (b .2) (b .3) i)
     (λ n e₁. user-none k u d s d′ x (z u (omega arith)) (users-back k (suc u) d s d′ x (λ v a. z v (omega arith)) e₁))
 
 -- the same of entities
@@ -137,7 +137,7 @@ entities-back (suc k) e d s d′ x z h =
     let b = entity-record-back e d y c t (z e (omega arith)) p in
     let i : EntitiesRead k (suc e) c t d′ x =
     entities-back k (suc e) c t d′ x (λ v a. subst Blank (sym (b .1 v (λ h. omega arith))) (z v (omega arith))) q in
-    entity-told k e d s d′ x c y t (head-back (numberLine entityKey e) s y ey) (b .0) (b .1) (b .2) (b .3) i)
+    entity-told k e d s d′ x c y t (behind-back (numberLine entityKey e) s y ey) (b .0) (b .1) (b .2) (b .3) i)
     (λ n e₁. entity-none k e d s d′ x (z e (omega arith)) (entities-back k (suc e) d s d′ x (λ v a. z v (omega arith)) e₁))
 
 -- ---- a whole text

@@ -47,7 +47,8 @@ pub data Follows : Due → List ℕ → Due → Type 0 where
   -- entities are told behind them, in rising order too
   first : {u e : ℕ} → 1 ≤ e → e ≤ entityCount → Follows (users u) (numberLine entityKey e) (fieldsDue singleFields (placed e))
   later : {e v : ℕ} → e < v → v ≤ entityCount → Follows (entities e) (numberLine entityKey v) (fieldsDue singleFields (placed v))
-  -- a record's lines have its keys in their order, each with a number of 32 bits that the field may have
+  -- a record's lines have its keys in their order, each with a number that the field may have; that numbers are of 32 bits is a rule of its own, and is
+  -- said although no field of a record may have a greater one
   value : {f : Field} {fs : List Field} {τ : Due} {n : ℕ} → f .least ≤ n → n ≤ f .greatest → n ≤ most
       → Follows (field f fs τ) (numberLine (f .key) n) (fieldsDue fs τ)
   -- so many places, at most eight, are followed by so many lines,

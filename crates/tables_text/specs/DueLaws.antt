@@ -11,6 +11,7 @@ use Rattle.model.specs.Tables.Edits.{onEntity, onUser, userWord, word}
 use Rattle.model.specs.Tables.WordAt.{entityWordAt, entityWordOf, userWordAt}
 use Rattle.model.specs.Tables.Words.{Tables, entityCount, present, usedPlaces, userCount}
 use Rattle.model.specs.Tables.Words as tables
+use Rattle.model.specs.Text.LineLaws.{behind-back, behind-there}
 use Rattle.model.specs.Text.Lines.{behind}
 use Rattle.model.specs.Text.Numbers.{Read, bad, got}
 use Rattle.model.specs.Text.Unfinished.{ends}
@@ -24,7 +25,6 @@ use Rattle.tables_text.specs.PassedLaws.{tells-onward, weaker-passed}
 use Rattle.tables_text.specs.RuledLaws.{access-ruled, field-ruled, number-ends, place-ruled, placed-ruled, tells-line, triple-ruled}
 use Rattle.tables_text.specs.Stages.{Stage, atEnd, either, entitiesStage, entityRecord, entityStage, noTables, onward, past, placesStage}
 use Rattle.tables_text.specs.Stages.{putPlace, reading, stuck, triplesStage, userRecord, userStage, usersStage}
-use Rattle.tables_text.specs.ValueLaws.{head-back, head-there}
 use Rattle.tables_text.specs.Values.{numberLine}
 use borrow.Author.Tests.{eq-eqb}
 
@@ -86,13 +86,13 @@ tells-either : {σ τ : Due} {T : Tables → Due} (l s : List ℕ) (f : List ℕ
 tells-either {σ} {τ} {T} l s f t h one rest none = go (behind l s) refl
   where
     go : (r : Read (Unit {0})) → behind l s ≡ r → Tells σ T s (either r (λ _ x. f x) t)
-    go (got _ x) e = tells-behind (line-passed h one (head-back l s x e)) (rest x)
+    go (got _ x) e = tells-behind (line-passed h one (behind-back l s x e)) (rest x)
     go bad e = none e
 
 -- a line that is not found does not stand there
 pub head-not : {C : Type 0} (l s x : List ℕ) → behind l s ≡ bad → s ≡ l ++ x → C
 head-not l s x e q =
-    let z : bad ≡ got tt x = sym e ∙ ap (behind l) q ∙ head-there l x in let y : _≡_ {A = ℕ} 0 1 = cc in absurd (omega arith)
+    let z : bad ≡ got tt x = sym e ∙ ap (behind l) q ∙ behind-there l x in let y : _≡_ {A = ℕ} 0 1 = cc in absurd (omega arith)
 
 -- Where the line of user u + 1 is not the next, that user may be passed over,
 user-may : {u : ℕ} {l : List ℕ} {ρ : Due} → Follows (users (suc u)) l ρ → Follows (users u) l ρ
@@ -103,7 +103,7 @@ user-must : {u : ℕ} {l s : List ℕ} {ρ : Due} (x : List ℕ) → behind (num
     → Follows (users (suc u)) l ρ
 user-must {u} {s = s} x e (user {v = v} a b) q =
     cases (lt-or-le (suc u) v)
-    (λ h. user h b)
+    (λ h. user {u = suc u} (omega arith) b)
     (λ h. let i : v ≡ suc u = omega arith in head-not (numberLine userKey (suc u)) s x e (q ∙ ap (λ (n : ℕ). numberLine userKey n ++ x) i))
 user-must x e (first a b) q = first a b
 
@@ -212,16 +212,12 @@ stuck-stopped s x e = go (subst (Tells atFirst (λ _. entities entityCount) s) e
     go : Tells atFirst (λ _. entities entityCount) s (stuck x) → Stopped atFirst s x
     go (stops p) = p
 
--- where the reading stops, the text goes on,
-pub stuck-part : (s x : List ℕ) → reading s ≡ stuck x → (p : List ℕ) × (s ≡ p ++ x)
-stuck-part s x e = let t : Stopped atFirst s x = stuck-stopped s x e in (t .lines, t .is)
-
 line-of : (s p x : List ℕ) → s ≡ p ++ x → lineOf s x ≡ suc (ends p)
 line-of s p x e =
     let n : length p ≡ length s - length x = omega (arith, ap length e, length-append p x) in
     ap (λ (l : List ℕ). suc (ends l)) (ap (take (length s - length x)) e ∙ take-at p x (length s - length x) n)
 
--- and the line there is the first that is bad or missing.
+-- and where a reading stops, the line there is the first that is bad or missing.
 pub stuck-first : (s x : List ℕ) → reading s ≡ stuck x → FirstBad atFirst s (lineOf s x)
 stuck-first s x e =
     let t : Stopped atFirst s x = stuck-stopped s x e in

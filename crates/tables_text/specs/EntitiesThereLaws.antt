@@ -8,6 +8,7 @@ use lib.Dec.{eqb}
 use Rattle.model.specs.Basics.Cases.{cases, lt-or-le}
 use Rattle.model.specs.Basics.Choice.{pick}
 use Rattle.model.specs.Tables.Words.{Tables, kind}
+use Rattle.model.specs.Text.LineLaws.{behind-there}
 use Rattle.model.specs.Text.Lines.{behind}
 use Rattle.model.specs.Text.Numbers.{bad, most}
 use Rattle.tables_text.specs.EntityLaws.{entityRest, rest-same}
@@ -19,7 +20,6 @@ use Rattle.tables_text.specs.Stages.{entitiesStage, entityRecord, past}
 use Rattle.tables_text.specs.TextOf.{entityText, series}
 use Rattle.tables_text.specs.Told.{Blank, EntityTold}
 use Rattle.tables_text.specs.ToldLaws.{entity-absent, entity-present, told-kind}
-use Rattle.tables_text.specs.ValueLaws.{head-there}
 use Rattle.tables_text.specs.Values.{numberLine}
 use borrow.Author.Tests.{eq-eqb, ne-eqb}
 
@@ -90,7 +90,7 @@ module _ (d′ : Tables) (x : List ℕ) (told : (v : ℕ) → Blank (d′ .entit
         (entities-there k (suc e) d (due-none k e d h b)))
         (λ w. ap (λ y. entitiesStage (suc k) e d ((y ++ t) ++ x)) (entity-present d′ e (told-kind (d′ .entity e) w))
         ∙ ap (entitiesStage (suc k) e d) (head-first head f t x)
-        ∙ either-got (behind head (head ++ (f ++ (t ++ x)))) _ _ (f ++ (t ++ x)) (past d′ x) (head-there head (f ++ (t ++ x)))
+        ∙ either-got (behind head (head ++ (f ++ (t ++ x)))) _ _ (f ++ (t ++ x)) (past d′ x) (behind-there head (f ++ (t ++ x)))
         (onward-there (entityRecord e d (f ++ (t ++ x))) _ c (t ++ x) (past d′ x) (one-entity k e d h w (t ++ x))
         (entities-there k (suc e) c (due-told k e d h))))
       where

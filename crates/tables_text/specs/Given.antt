@@ -1,4 +1,5 @@
--- Document 02, M-103; rule 16.6: which words a text is the text of, and which tables a text tells, said without the writer and the reader.
+-- Document 02, M-103; rule 16.6: that s is the text of the words t, and that s tells the tables d. Both go by what is written of tables, and not by how a
+-- text is read or by what the calls answer.
 use mathlib.Core.List.{List}
 use mathlib.Core.Path.{_≡_}
 use Prim.Native.Nat.{ℕ}

@@ -1,10 +1,12 @@
 -- Document 02, M-103; rules 16.1 to 16.3: the keys of the tables' text, each with its equals sign, and the lines that every record has.
 use mathlib.Core.List.{List, [], _++_, _∷_}
 use Prim.Native.Nat.{ℕ}
+use Rattle.model.specs.Script.Reports.{heldKey, missedKey}
 use Rattle.model.specs.Tables.Words.{placeCount}
 use Rattle.model.specs.Text.Numbers.{most}
 
--- Rule 16.1: a user's keys behind `user`, which is also a key of requests: clearance, authorised, current, device, held, operation, missed.
+-- Rule 16.1: a user's keys are user, clearance, authorised, current, device, held, operation, missed. Of these `user` is also a key of requests
+-- (rule 11.1), and `held` and `missed` are keys of reports (rule 12.3); they stand there.
 abbrev pub clearanceKey : List ℕ
 clearanceKey = 99 ∷ 108 ∷ 101 ∷ 97 ∷ 114 ∷ 97 ∷ 110 ∷ 99 ∷ 101 ∷ 61 ∷ []
 
@@ -17,14 +19,8 @@ currentKey = 99 ∷ 117 ∷ 114 ∷ 114 ∷ 101 ∷ 110 ∷ 116 ∷ 61 ∷ []
 abbrev pub deviceKey : List ℕ
 deviceKey = 100 ∷ 101 ∷ 118 ∷ 105 ∷ 99 ∷ 101 ∷ 61 ∷ []
 
-abbrev pub heldKey : List ℕ
-heldKey = 104 ∷ 101 ∷ 108 ∷ 100 ∷ 61 ∷ []
-
 abbrev pub operationKey : List ℕ
 operationKey = 111 ∷ 112 ∷ 101 ∷ 114 ∷ 97 ∷ 116 ∷ 105 ∷ 111 ∷ 110 ∷ 61 ∷ []
-
-abbrev pub missedKey : List ℕ
-missedKey = 109 ∷ 105 ∷ 115 ∷ 115 ∷ 101 ∷ 100 ∷ 61 ∷ []
 
 -- Rule 16.2: an entity's keys: entity, kind, type, level, mark, value, releaser, maximum, places; content; triples; triple.
 abbrev pub entityKey : List ℕ

@@ -4,6 +4,7 @@ pub mod Values
 pub mod ValueLaws
 pub mod OnlyLaws
 pub mod TextOf
+pub mod NamedLaws
 pub mod Stages
 pub mod StageLaws
 pub mod Told

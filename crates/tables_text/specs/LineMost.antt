@@ -1,4 +1,5 @@
--- Document 02, M-103; rules 16.1 to 16.3: how many lines a text can have.
+-- Document 02, M-103; rules 16.1 to 16.3 and 16.7: how many lines a record can have, and the last line that can be bad or missing, which is one more than
+-- the lines that a text can have.
 use Prim.Native.Nat.{_*_, _+_, suc, ℕ}
 use lib.ListN.{length}
 use Rattle.model.specs.Tables.Words.{entityCount, placeCount, userCount}

@@ -4,14 +4,16 @@ use Prim.Native.Nat.{_*_, _+_, ℕ}
 use lib.Dec.{ltb}
 use lib.ListN.{length}
 use Rattle.model.specs.Basics.Choice.{pick}
+use Rattle.model.specs.Script.Reports.{heldKey, missedKey}
 use Rattle.model.specs.Tables.Words.{placeCount}
 use Rattle.model.specs.Text.Numbers.{base, digitCount, digits}
 use Rattle.model.specs.Text.Wording.{userKey}
-use Rattle.tables_text.specs.Keys.{authorisedKey, clearanceKey, contentKey, currentKey, deviceKey, entityKey, heldKey, kindKey, levelKey}
-use Rattle.tables_text.specs.Keys.{markKey, maximumKey, missedKey, operationKey, placesKey, releaserKey, tripleKey, triplesKey, typeKey, valueKey}
+use Rattle.tables_text.specs.Keys.{authorisedKey, clearanceKey, contentKey, currentKey, deviceKey, entityKey, kindKey, levelKey}
+use Rattle.tables_text.specs.Keys.{markKey, maximumKey, operationKey, placesKey, releaserKey, tripleKey, triplesKey, typeKey, valueKey}
 
--- Rule 16.7: the bytes of the longest text. Every user and every entity is present and has eight triples; sixteen entities are devices with a user each,
--- and each shows eight entities; the others are containers that are marked and released, with values of ten digits, and all but one are in another:
+-- Rule 16.7: the bytes of the longest text. Every user and every entity is present, and every entity has eight triples; sixteen entities are devices with
+-- a user each, and each shows eight entities; the others are containers that are marked and released, with values of ten digits, and all but one are in
+-- another:
 --     1,495 = 16 × 93 + 7             users 10 to 16 have a second digit
 --     5,072 = 16 × (213 + 8 × 13)     devices with two digits, and what they show
 --    10,551 = 48 × 220 - 9            containers, of which 1 to 9 have one digit

@@ -6,6 +6,7 @@ use native.Mathlib.Nat.{pow-suc}
 use native.Mathlib.Omega.{arith}
 use lib.ListN.{length, length-append}
 use Rattle.model.specs.Basics.Cases.{cases, lt-or-le}
+use Rattle.model.specs.Script.Reports.{heldKey, missedKey}
 use Rattle.model.specs.State.WellFormed.{Access, GoodTriple, WellFormed}
 use Rattle.model.specs.Tables.RowLaws.{first-zero}
 use Rattle.model.specs.Tables.WordAt.{entityWordAt, entityWordOf, userWordAt, userWordOf}
@@ -17,8 +18,8 @@ use Rattle.model.specs.Text.NumberLaws.{length-small, length-step}
 use Rattle.model.specs.Text.Numbers.{base, digits, digitsEnd}
 use Rattle.model.specs.Text.References.{dotByte, joined}
 use Rattle.model.specs.Text.Wording.{userKey}
-use Rattle.tables_text.specs.Keys.{Field, authorisedKey, clearanceKey, contentKey, currentKey, deviceKey, entityFields, entityKey, heldKey}
-use Rattle.tables_text.specs.Keys.{maximumKey, missedKey, operationKey, releaserKey, tripleKey, triplesKey, userFields, valueKey}
+use Rattle.tables_text.specs.Keys.{Field, authorisedKey, clearanceKey, contentKey, currentKey, deviceKey, entityFields, entityKey}
+use Rattle.tables_text.specs.Keys.{maximumKey, operationKey, releaserKey, tripleKey, triplesKey, userFields, valueKey}
 use Rattle.tables_text.specs.Longest.{heldDigits, levelDigits, lineSize, missedDigits, operationDigits, placeSize, plainSize, roleDigits, second}
 use Rattle.tables_text.specs.Longest.{size, tripleBytes, triplesSize}
 use Rattle.tables_text.specs.TextOf.{entityLines, entityWords, fieldLines, placeAt, series, tripleAt, tripleCount, userLines, userWords}
@@ -29,21 +30,25 @@ use borrow.Author.Tests.{le-ltb, lt-ltb}
 
 -- ---- numbers
 
--- a number below 10 ^ k has at most k
-pub digits-fit : (k n : ℕ) → n < base ^ suc k → n < digitsEnd → size n ≤ suc k
-digits-fit zero n h l = let s : n < base = h in omega (arith, length-small n s)
-digits-fit (suc k) n h l =
+-- a number below 10 ^ k has at most k digits, where k is not 0: the number 0 has one digit
+below-power : (k n : ℕ) → n < base ^ suc k → n < digitsEnd → size n ≤ suc k
+below-power zero n h l = let s : n < base = h in omega (arith, length-small n s)
+below-power (suc k) n h l =
     let h′ : n < base ^ suc k * base = rw (pow-suc base (suc k)) at h in
     cases (lt-or-le n base)
     (λ s. omega (arith, length-small n s))
-    (λ s. omega (arith, length-step n s l, digits-fit k (n / base) (omega arith) (omega arith)))
+    (λ s. omega (arith, length-step n s l, below-power k (n / base) (omega arith) (omega arith)))
+
+pub digits-fit : (k n : ℕ) → 1 ≤ k → n < base ^ k → n < digitsEnd → size n ≤ k
+digits-fit zero n p h l = absurd (omega arith)
+digits-fit (suc k) n p h l = below-power k n h l
 
 -- so one below 100 has one and, maybe, a second
 pub second-fits : (n : ℕ) → n < base * base → size n ≤ 1 + second n
 second-fits n h =
     cases (lt-or-le n base)
     (λ l. rw (lt-ltb n base l) (omega (arith, length-small n l)))
-    (λ l. rw (le-ltb n base l) (digits-fit 1 n h (omega arith)))
+    (λ l. rw (le-ltb n base l) (digits-fit 2 n (omega arith) h (omega arith)))
 
 pub second-most : (n : ℕ) → second n ≤ 1
 second-most n = cases (lt-or-le n base) (λ l. rw (lt-ltb n base l) (omega arith)) (λ l. rw (le-ltb n base l) (omega arith))
@@ -83,9 +88,9 @@ triple-length t g =
       arith,
       length-line tripleKey (joined (whoOf t ∷ operationIn t ∷ positionOf t ∷ [])),
       three-length (whoOf t) (operationIn t) (positionOf t),
-      digits-fit 1 (whoOf t) (omega (arith, g .who)) (omega (arith, g .who)),
-      digits-fit 1 (operationIn t) (omega (arith, g .operation)) (omega (arith, g .operation)),
-      digits-fit 0 (positionOf t) (omega (arith, g .position)) (omega (arith, g .position)),
+      digits-fit 2 (whoOf t) (omega arith) (omega (arith, g .who)) (omega (arith, g .who)),
+      digits-fit operationDigits (operationIn t) (omega arith) (omega (arith, g .operation)) (omega (arith, g .operation)),
+      digits-fit 1 (positionOf t) (omega arith) (omega (arith, g .position)) (omega (arith, g .position)),
     )
 
 module _ (d : Tables) (w : WellFormed d) where
@@ -93,8 +98,8 @@ module _ (d : Tables) (w : WellFormed d) where
 
   held-fits : (u : ℕ) → size (d .user u held) ≤ heldDigits
   held-fits u = cases (w .users u .notice .heldIn)
-      (λ e. digits-fit 1 (d .user u held) (omega arith) (omega arith))
-      (λ h. digits-fit 1 (d .user u held) (omega (arith, h .1)) (omega (arith, h .1)))
+      (λ e. digits-fit heldDigits (d .user u held) (omega arith) (omega arith) (omega arith))
+      (λ h. digits-fit heldDigits (d .user u held) (omega arith) (omega (arith, h .1)) (omega (arith, h .1)))
 
   -- the lines of a user whose current roles and device have so many digits
   pub user-lines : (u : ℕ) → u ≤ userCount → (c v : ℕ) → size (d .user u current) ≤ c → size (d .user u device) ≤ v
@@ -110,11 +115,11 @@ module _ (d : Tables) (w : WellFormed d) where
         number-length userKey u,
         fields-length userFields 1 (userWords d u),
         second-fits u (omega arith),
-        digits-fit 3 (d .user u clearance) (omega (arith, k .clearanceIn)) (omega (arith, k .clearanceIn)),
-        digits-fit 2 (d .user u authorised) (omega (arith, k .authorisedIn)) (omega (arith, k .authorisedIn)),
+        digits-fit levelDigits (d .user u clearance) (omega arith) (omega (arith, k .clearanceIn)) (omega (arith, k .clearanceIn)),
+        digits-fit roleDigits (d .user u authorised) (omega arith) (omega (arith, k .authorisedIn)) (omega (arith, k .authorisedIn)),
         held-fits u,
-        digits-fit 1 (d .user u heldOp) (omega (arith, k .notice .operationIn)) (omega (arith, k .notice .operationIn)),
-        digits-fit 4 (d .user u missed) (omega (arith, k .notice .missedIn)) (omega (arith, k .notice .missedIn)),
+        digits-fit operationDigits (d .user u heldOp) (omega arith) (omega (arith, k .notice .operationIn)) (omega (arith, k .notice .operationIn)),
+        digits-fit missedDigits (d .user u missed) (omega arith) (omega (arith, k .notice .missedIn)) (omega (arith, k .notice .missedIn)),
       )
 
   -- ---- entities
@@ -137,7 +142,7 @@ module _ (d : Tables) (w : WellFormed d) where
         length-line contentKey (joined (places d e i ∷ sums d e i ∷ [])),
         two-length (places d e i) (sums d e i),
         second-fits (places d e i) (omega (arith, place-range e i h .1)),
-        digits-fit 0 (sums d e i) (omega (arith, sum-fits e i h)) (omega (arith, sum-fits e i h)),
+        digits-fit 1 (sums d e i) (omega arith) (omega (arith, sum-fits e i h)) (omega (arith, sum-fits e i h)),
       )
 
   triples-length : (e : ℕ) → length (numberLine triplesKey (tripleCount d e)) + length (series (tripleCount d e) 0 (tripleAt d e)) ≤ triplesSize
@@ -153,7 +158,7 @@ module _ (d : Tables) (w : WellFormed d) where
         number-length triplesKey n,
         series-length n 0 (tripleAt d e),
         total-const n 0 (lineSize tripleKey tripleBytes),
-        digits-fit 0 n (omega arith) (omega arith),
+        digits-fit 1 n (omega arith) (omega arith) (omega arith),
       ))
 
   -- the lines of an entity whose value, releaser and maximum have so many digits, but for the places
@@ -178,9 +183,9 @@ module _ (d : Tables) (w : WellFormed d) where
         number-length entityKey e,
         fields-length entityFields 0 (entityWords d e),
         second-fits e (omega arith),
-        digits-fit 0 (d .entity e kind) (omega (arith, s .kindIn)) (omega (arith, s .kindIn)),
-        digits-fit 0 (d .entity e type) (omega (arith, s .typeIn)) (omega (arith, s .typeIn)),
-        digits-fit 3 (d .entity e level) (omega (arith, s .levelIn)) (omega (arith, s .levelIn)),
-        digits-fit 0 (d .entity e mark) (omega (arith, s .markIn)) (omega (arith, s .markIn)),
-        digits-fit 0 (d .entity e used) (omega (arith, w .entities e .filled .packed .room)) (omega (arith, w .entities e .filled .packed .room)),
+        digits-fit 1 (d .entity e kind) (omega arith) (omega (arith, s .kindIn)) (omega (arith, s .kindIn)),
+        digits-fit 1 (d .entity e type) (omega arith) (omega (arith, s .typeIn)) (omega (arith, s .typeIn)),
+        digits-fit levelDigits (d .entity e level) (omega arith) (omega (arith, s .levelIn)) (omega (arith, s .levelIn)),
+        digits-fit 1 (d .entity e mark) (omega arith) (omega (arith, s .markIn)) (omega (arith, s .markIn)),
+        digits-fit 1 (d .entity e used) (omega arith) (omega (arith, w .entities e .filled .packed .room)) (omega (arith, w .entities e .filled .packed .room)),
       )

@@ -29,8 +29,8 @@ module _ (d : Tables) (w : WellFormed d) where
   user-off u h o =
       omega (
         arith,
-        user-lines d w u h 1 1 (digits-fit 0 (d .user u current) (omega (arith, w .users u .off o)) (omega (arith, w .users u .off o)))
-            (digits-fit 0 (devices d u) (omega arith) (omega arith)),
+        user-lines d w u h 1 1 (digits-fit 1 (d .user u current) (omega arith) (omega (arith, w .users u .off o)) (omega (arith, w .users u .off o)))
+            (digits-fit 1 (devices d u) (omega arith) (omega arith) (omega arith)),
       )
 
   user-on : (u : ℕ) → u ≤ userCount → (devices d u ≡ 0 → ⊥) → length (userLines d u) ≤ userSize + second u + onBytes (devices d u)
@@ -38,7 +38,7 @@ module _ (d : Tables) (w : WellFormed d) where
       omega (
         arith,
         user-lines d w u h roleDigits (1 + second (devices d u))
-            (digits-fit 2 (d .user u current) (omega (arith, w .users u .currentIn)) (omega (arith, w .users u .currentIn)))
+            (digits-fit roleDigits (d .user u current) (omega arith) (omega (arith, w .users u .currentIn)) (omega (arith, w .users u .currentIn)))
             (second-fits (devices d u) (omega (arith, device-range d w u o .1))),
       )
 
@@ -82,9 +82,9 @@ module _ (d : Tables) (w : WellFormed d) where
         arith,
         shown-length e,
         entity-lines d w e h 1 1 levelDigits
-            (digits-fit 0 (d .entity e value) (omega (arith, s .deviceValue k)) (omega (arith, s .deviceValue k)))
-            (digits-fit 0 (d .entity e releaser) (omega (arith, plain-device e k)) (omega (arith, plain-device e k)))
-            (digits-fit 3 (d .entity e maximum) (omega (arith, s .maximumIn)) (omega (arith, s .maximumIn))),
+            (digits-fit 1 (d .entity e value) (omega arith) (omega (arith, s .deviceValue k)) (omega (arith, s .deviceValue k)))
+            (digits-fit 1 (d .entity e releaser) (omega arith) (omega (arith, plain-device e k)) (omega (arith, plain-device e k)))
+            (digits-fit levelDigits (d .entity e maximum) (omega arith) (omega (arith, s .maximumIn)) (omega (arith, s .maximumIn))),
       )
 
   -- and a thing no maximum
@@ -93,8 +93,9 @@ module _ (d : Tables) (w : WellFormed d) where
       let s = w .entities e .shape in
       cases (true-or-false (eqb (d .entity e type) releasedType))
       (λ t. let r = s .releaserOn (eqb-true (d .entity e type) releasedType t) in
-      digits-fit 1 (d .entity e releaser) (omega (arith, r .1)) (omega (arith, r .1)))
-      (λ t. let r = s .releaserOff (eqb-false (d .entity e type) releasedType t) in digits-fit 1 (d .entity e releaser) (omega arith) (omega arith))
+      digits-fit releaserDigits (d .entity e releaser) (omega arith) (omega (arith, r .1)) (omega (arith, r .1)))
+      (λ t. let r = s .releaserOff (eqb-false (d .entity e type) releasedType t) in
+      digits-fit releaserDigits (d .entity e releaser) (omega arith) (omega arith) (omega arith))
 
   thing-lines : (e : ℕ) → e ≤ entityCount → (kinds d e ≡ deviceKind → ⊥)
       → length (entityLines d e) ≤ thingSize + second e + total (usedPlaces d e) 0 (λ i. length (placeAt d e i))
@@ -103,7 +104,7 @@ module _ (d : Tables) (w : WellFormed d) where
       omega (
         arith,
         entity-lines d w e h digitCount releaserDigits 1 (length-most (d .entity e value)) (releaser-fits e)
-            (digits-fit 0 (d .entity e maximum) (omega arith) (omega arith)),
+            (digits-fit 1 (d .entity e maximum) (omega arith) (omega arith) (omega arith)),
       )
 
   object-empty : (e : ℕ) → (kinds d e ≡ absentKind → ⊥) → (kinds d e ≡ containerKind → ⊥) → (kinds d e ≡ deviceKind → ⊥)

@@ -31,7 +31,7 @@ fullUser u (spare i) = 0
 abbrev pub fullTriple : ℕ → ℕ
 fullTriple i = tripleOf (base + i) base 1
 
--- the first container holds 2 to 9, the second 10 to 17, and so on as far as there are containers: it alone is in none
+-- container 1 holds 2 to 9, container 2 holds 10 to 17, and so on as far as there are containers; so container 1 alone is in none
 abbrev pub fullUsed : ℕ → ℕ
 fullUsed e = min placeCount (thingCount - 1 - (e - 1) * placeCount)
 

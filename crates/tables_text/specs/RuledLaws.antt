@@ -7,7 +7,6 @@ use Rattle.model.specs.Basics.Cases.{cases, lt-or-le}
 use Rattle.model.specs.Tables.Words.{Tables, operationIn, placeCount, positionOf, whoOf}
 use Rattle.model.specs.Text.Lines.{line, readLine}
 use Rattle.model.specs.Text.Numbers.{Read, bad, digits, got, most}
-use Rattle.model.specs.Text.References.{joined}
 use Rattle.model.specs.Text.Unfinished.{ends}
 use Rattle.tables_text.specs.Due.{Due, Follows, MayEnd, access, afterEntities, afterUsers, content, entities, field, fieldsDue, parts, place}
 use Rattle.tables_text.specs.Due.{placed, places, placesDue, triple, triples, triplesDue, users, value}
@@ -15,7 +14,7 @@ use Rattle.tables_text.specs.EndsLaws.{ends-digits, ends-joined, ends-li
 use Rattle.tables_text.specs.Keys.{Field, contentKey, placesField, tripleKey, triplesField}
 use Rattle.tables_text.specs.PassedLaws.{Passed, Tells, line-passed, none-stopped, stops, tells-behind}
 use Rattle.tables_text.specs.Stages.{Stage, orStuck}
-use Rattle.tables_text.specs.ValueLaws.{Fits, field-back, field-there, parts-fit, parts-word, partsOf, partsText, place-back, place-there, triple-back}
+use Rattle.tables_text.specs.ValueLaws.{Fits, field-back, field-there, parts-fit, partsOf, partsText, place-back, place-there, triple-back, triple-same}
 use Rattle.tables_text.specs.ValueLaws.{triple-there, word-small}
 use Rattle.tables_text.specs.Values.{Parts, Place, numberLine, placeLine, placeText, readField, readPlace, readTriple, tripleLine, tripleText}
 use Rattle.tables_text.specs.Values.{wordOf}
@@ -123,19 +122,10 @@ access-ruled e = record { inside = λ m. between m; there = λ l ρ h. triples-r
         let b : (0 ≤ n) × (n ≤ placeCount) × (n ≤ most) × (s ≡ numberLine (triplesField .key) n ++ x) = field-back triplesField s n x q in
         line-passed (triples (b .1)) (number-ends (triplesField .key) n refl) (b .3)
 
--- the line of parts that fit is that of their word
-word-line : (p : Parts) → Fits p → tripleLine (wordOf p) ≡ line tripleKey (partsText p)
-word-line p f =
-    let w : (whoOf (wordOf p) ≡ p .who) × (operationIn (wordOf p) ≡ p .operation) × (positionOf (wordOf p) ≡ p .position) = parts-word p f in
-    ap (λ (v : List ℕ). line tripleKey v) (same (w .0) (w .1) (w .2))
-  where
-    same : {a b c i j k : ℕ} → a ≡ i → b ≡ j → c ≡ k → joined (a ∷ b ∷ c ∷ []) ≡ joined (i ∷ j ∷ k ∷ [])
-    same q r t = rw (q, r, t)
-
 parts-read : (p : Parts) → Fits p → (x : List ℕ) → readLine tripleKey readTriple (line tripleKey (partsText p) ++ x) ≡ got (wordOf p) x
 parts-read p f x =
     let b : (1 ≤ wordOf p) × (wordOf p ≤ most) = word-small p f in
-    ap (λ (l : List ℕ). readLine tripleKey readTriple (l ++ x)) (sym (word-line p f)) ∙ triple-there (wordOf p) x (b .0) (b .1)
+    ap (λ (v : List ℕ). readLine tripleKey readTriple (line tripleKey v ++ x)) (sym (triple-same p f)) ∙ triple-there (wordOf p) x (b .0) (b .1)
 
 some-part : (w o p : ℕ) → (w ≡ 0 → o ≡ 0 → p ≡ 0 → ⊥) → 1 ≤ w + o + p
 some-part w o p n =

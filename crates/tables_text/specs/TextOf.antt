@@ -20,7 +20,7 @@ unfoldable pub fieldLines : List Field → ℕ → (ℕ → ℕ) → List ℕ
 fieldLines [] j w = []
 fieldLines (f ∷ fs) j w = numberLine (f .key) (w j) ++ fieldLines fs (suc j) w
 
--- the words of a record by their places in it
+-- the words of a record by their offsets in it
 abbrev pub userWords : Tables → ℕ → ℕ → ℕ
 userWords d u j = d .user u (userWordAt j)
 

@@ -9,6 +9,7 @@ use Rattle.model.specs.Basics.Cases.{cases, lt-or-le}
 use Rattle.model.specs.Basics.Choice.{pick}
 use Rattle.model.specs.Tables.WordAt.{userWordAt}
 use Rattle.model.specs.Tables.Words.{Tables, UserWord, present}
+use Rattle.model.specs.Text.LineLaws.{behind-there}
 use Rattle.model.specs.Text.Lines.{behind}
 use Rattle.model.specs.Text.Numbers.{bad, most}
 use Rattle.model.specs.Text.Wording.{userKey}
@@ -20,7 +21,6 @@ use Rattle.tables_text.specs.TextOf.{fieldLines, series, userText, userW
 use Rattle.tables_text.specs.Told.{Blank, UserTold}
 use Rattle.tables_text.specs.ToldLaws.{user-absent, user-present}
 use Rattle.tables_text.specs.UserLaws.{user-record-there}
-use Rattle.tables_text.specs.ValueLaws.{head-there}
 use Rattle.tables_text.specs.Values.{numberLine}
 use borrow.Author.Tests.{eq-eqb, ne-eqb}
 
@@ -91,7 +91,7 @@ module _ (d′ : Tables) (x : List ℕ) (told : (v : ℕ) → Blank (d′ .user 
         (users-there k (suc u) d (due-none k u d h b)))
         (λ w. ap (λ y. usersStage (suc k) u d ((y ++ t) ++ x)) (user-present d′ u (omega (arith, w .present)))
         ∙ ap (usersStage (suc k) u d) (head-first head f t x)
-        ∙ either-got (behind head (head ++ (f ++ (t ++ x)))) _ _ (f ++ (t ++ x)) (past d′ x) (head-there head (f ++ (t ++ x)))
+        ∙ either-got (behind head (head ++ (f ++ (t ++ x)))) _ _ (f ++ (t ++ x)) (past d′ x) (behind-there head (f ++ (t ++ x)))
         (onward-there (userRecord u d (f ++ (t ++ x))) _ c (t ++ x) (past d′ x) (one-user k u d h w (t ++ x)) (users-there k (suc u) c (due-told k u d h))))
       where
         one-user : (k u : ℕ) (d : Tables) → UsersDue (suc k) u d → UserTold (d′ .user u) → (y : List ℕ)

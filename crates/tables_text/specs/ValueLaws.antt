@@ -8,7 +8,7 @@ use native.Mathlib.Omega.{arith}
 use lib.Dec.{eqb, leb, ltb}
 use Rattle.model.specs.Basics.Cases.{cases, true-or-false}
 use Rattle.model.specs.Tables.Words.{operationIn, operationWeight, positionOf, whoOf, whoWeight}
-use Rattle.model.specs.Text.LineLaws.{Form, behind-back, behind-there, line-back, line-there, next-back, numbers}
+use Rattle.model.specs.Text.LineLaws.{Form, behind-back, line-back, line-there, next-back, numbers}
 use Rattle.model.specs.Text.Lines.{behind, line, lineEnd, next, readLine}
 use Rattle.model.specs.Text.NumberLaws.{Back, Stops, number-back, number-there}
 use Rattle.model.specs.Text.Numbers.{Read, bad, digits, got, most, number}
@@ -203,7 +203,8 @@ read-triple-there t x ok =
     ∙ ap (λ (r : Read Parts). next r (λ p y. got (wordOf p) y)) g
     ∙ ap (λ (n : ℕ). got n (lineEnd ∷ x)) (word-parts t)
 
-triple-same : (p : Parts) → Fits p → tripleText (wordOf p) ≡ partsText p
+-- the text of parts that fit is that of their word
+pub triple-same : (p : Parts) → Fits p → tripleText (wordOf p) ≡ partsText p
 triple-same p f =
     let e : (whoOf (wordOf p) ≡ p .who) × (operationIn (wordOf p) ≡ p .operation) × (positionOf (wordOf p) ≡ p .position) = parts-word p f in
     ap (λ (n : ℕ). joined (n ∷ operationIn (wordOf p) ∷ positionOf (wordOf p) ∷ [])) (e .0)
@@ -235,15 +236,8 @@ triple-back s t x e = let b : TripleFits t × (s ≡ tripleLine t ++ x) = line-b
 
 -- ---- the first line of a record
 
--- a line that stands there is found, and one that was found stands there
-pub head-there : (l x : List ℕ) → behind l (l ++ x) ≡ got tt x
-head-there = behind-there
-
-pub head-back : (l s x : List ℕ) → behind l s ≡ got tt x → s ≡ l ++ x
-head-back = behind-back
-
--- one that does not stand there is not found
-pub head-none : (l s : List ℕ) → ((x : List ℕ) → s ≡ l ++ x → ⊥) → behind l s ≡ bad
+-- a line that does not stand there is not found
+head-none : (l s : List ℕ) → ((x : List ℕ) → s ≡ l ++ x → ⊥) → behind l s ≡ bad
 head-none l s n = go (behind l s) refl
   where
     go : (r : Read (Unit {0})) → behind l s ≡ r → r ≡ bad

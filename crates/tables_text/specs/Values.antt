@@ -1,4 +1,4 @@
--- Document 02, M-103; rule 16.3: what stands behind the equals sign of a line: a number between two others, a place, or a triple.
+-- Document 02, M-103; rule 16.3: what stands behind the equals sign of a line: a number within bounds, a place, or a triple.
 use mathlib.Core.Bool.{Bool, _&&_, not}
 use mathlib.Core.List.{List, [], _∷_}
 use Prim.Native.Nat.{_+_, ℕ}
@@ -15,7 +15,7 @@ abbrev pub passing : {A : Type 0} → (A → Bool) → Read A → Read A
 passing test (got a x) = pick (test a) (got a x) bad
 passing test bad = bad
 
--- a number of 32 bits that a field may have
+-- whether a number is within the bounds of a field; that it is of 32 bits, its reading sees to
 abbrev pub within : Field → ℕ → Bool
 within f n = leb (f .least) n && leb n (f .greatest)
 
