@@ -16,7 +16,7 @@ use Rattle.model.specs.State.WellFormed.{WellFormed}
 use Rattle.model.specs.Tables.Layout.{tablesOf, wordCount}
 use Rattle.model.specs.Tables.LayoutLaws.{bounded}
 use Rattle.tables_text.specs.Calls.{WritesTables, textOfTables, writeAnswer, writeNumber}
-use Rattle.tables_writer.specs.Writable.{Writable}
+use Rattle.record_writer.specs.Writable.{Writable}
 use Rattle.model.specs.Request.Refusals as refusal
 
 -- what the check answers: of words that are too many or too few, that are no tables, that are not secure, and of others

@@ -17,9 +17,9 @@ use Rattle.tables_text.specs.TextOf.{entityText, entityWords, fieldLines, place
 use Rattle.tables_text.specs.ToldLaws.{entity-absent, entity-present, user-absent, user-present}
 use Rattle.tables_text.specs.Total.{total}
 use Rattle.tables_text.specs.Values.{numberLine, tripleLine}
-use Rattle.tables_writer.specs.FieldAt.{digitsAt, userFieldCount}
-use Rattle.tables_writer.specs.LineLaws.{place-length, triple-length}
-use Rattle.tables_writer.specs.SeriesLaws.{series-most}
+use Rattle.record_writer.specs.FieldAt.{digitsAt, userFieldCount}
+use Rattle.record_writer.specs.LineLaws.{place-length, triple-length}
+use Rattle.record_writer.specs.SeriesLaws.{series-most}
 
 -- ---- how long a record is
 

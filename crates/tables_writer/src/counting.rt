@@ -15,8 +15,8 @@ ghost use Rattle.tables.specs.Singles.{EntityIn, UserIn, singleCount};
 ghost use Rattle.tables_text.specs.Calls.{textOfTables};
 ghost use Rattle.tables_text.specs.TextOf.{entityText, entityWords, placeAt, series, tripleAt, userText, userWords};
 ghost use Rattle.tables_text.specs.Values.{tripleLine};
-ghost use Rattle.tables_writer.specs.FieldAt.{digitsAt, userFieldCount};
-ghost use Rattle.tables_writer.specs.Writable.{Writable};
+ghost use Rattle.record_writer.specs.FieldAt.{digitsAt, userFieldCount};
+ghost use Rattle.record_writer.specs.Writable.{Writable};
 
 // The keys and line ends of a user's record, and of an entity's.
 const USER_MARKS: usize = 71;

@@ -6,12 +6,9 @@ ghost use Prim.Native.Nat.{_≤_};
 ghost use lib.ListN.{length};
 ghost use Rattle.lines.specs.Onto.{Wrote};
 ghost use Rattle.tables_text.specs.Calls.{WritesTables, textOfTables};
-ghost use Rattle.tables_writer.specs.Writable.{Writable};
+ghost use Rattle.record_writer.specs.Writable.{Writable};
 
 mod counting;
-mod entities;
-mod users;
-mod values;
 
 // The bytes of the longest text of tables (rule 16.7).
 const TABLES_TEXT_MOST: usize = 17721;
@@ -27,8 +24,8 @@ fn write_text(out: &mut [u8], tables: &[u32]) -> usize
     requires { ⌜ Writable (now tables) × (length (textOfTables (now tables)) ≤ length (now out)) ⌝ }
     ensures { λ r. ⌜ Wrote (textOfTables (now (tables .entry))) (now (out .entry)) (now (out .exit)) r ⌝ }
 {
-    let n = users::put_users(out, 0, tables);
-    entities::put_entities(out, n, tables)
+    let n = record_writer::users::put_users(out, 0, tables);
+    record_writer::entities::put_entities(out, n, tables)
 }
 
 // Writes the text of any words at the front of any room, or refuses and writes nothing. Tables that are not secure are written like others. A room for the

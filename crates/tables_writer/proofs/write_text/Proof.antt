@@ -1,4 +1,4 @@
-use Rattle.tables_writer.specs.ChainLaws.{text-room, text-room2, text-wrote}
+use Rattle.record_writer.specs.ChainLaws.{text-room, text-room2, text-wrote}
 use borrow.Author.Needs.{needs}
 use Rattle.tables_writer.proofs.write_text.Statement.{statement}
 use Rattle.tables_writer.proofs.write_text.Tie as tie

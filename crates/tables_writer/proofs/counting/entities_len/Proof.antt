@@ -3,7 +3,7 @@ use mathlib.Core.Path.{_≡_}
 use Prim.Native.Nat.{_-_, _≤_}
 use lib.ListN.{length}
 use Rattle.model.specs.Tables.Layout.{tablesOf}
-use Rattle.tables_writer.specs.SeriesLaws.{series-more, series-zero}
+use Rattle.record_writer.specs.SeriesLaws.{series-more, series-zero}
 use Prim.Native.Nat.{_+_}
 use Rattle.model.specs.Tables.Words.{entityCount}
 use Rattle.tables_text.specs.TextOf.{entityText, series}

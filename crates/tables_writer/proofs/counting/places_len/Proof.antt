@@ -3,12 +3,12 @@ use mathlib.Core.Path.{_≡_}
 use Prim.Native.Nat.{_-_, _≤_}
 use lib.ListN.{length}
 use Rattle.model.specs.Tables.Layout.{tablesOf}
-use Rattle.tables_writer.specs.SeriesLaws.{series-more, series-zero}
+use Rattle.record_writer.specs.SeriesLaws.{series-more, series-zero}
 use borrow.Author.Needs.{needs}
 use Rattle.model.specs.Tables.Words.{places, sums}
 use Rattle.tables_text.specs.TextOf.{placeAt, series}
 use Rattle.tables_writer.specs.LengthLaws.{digits-bound, places-most}
-use Rattle.tables_writer.specs.LineLaws.{place-length}
+use Rattle.record_writer.specs.LineLaws.{place-length}
 use Rattle.tables_writer.proofs.counting.places_len.Statement.{statement}
 use Rattle.tables_writer.proofs.counting.places_len.Tie as tie
 

@@ -1,6 +1,6 @@
 use native.Mathlib.Omega.{arith}
 use Rattle.tables_writer.specs.LengthLaws.{digits-bound}
-use Rattle.tables_writer.specs.LineLaws.{triple-length}
+use Rattle.record_writer.specs.LineLaws.{triple-length}
 use borrow.Author.Needs.{needs}
 use Rattle.tables_writer.proofs.counting.triple_len.Statement.{statement}
 use Rattle.tables_writer.proofs.counting.triple_len.Tie as tie

@@ -3,7 +3,7 @@ use mathlib.Core.Path.{_∙_, refl, sym}
 use Rattle.model.specs.Tables.Layout.{tablesOf}
 use Rattle.tables_text.specs.TextOf.{userWords}
 use Rattle.tables_text.specs.ToldLaws.{user-absent}
-use Rattle.tables_writer.specs.FieldAt.{userFieldCount}
+use Rattle.record_writer.specs.FieldAt.{userFieldCount}
 use Rattle.tables_writer.specs.LengthLaws.{digits-bound, user-length, values-most}
 use borrow.Author.Needs.{needs}
 use Rattle.tables_writer.proofs.counting.user_len.Statement.{statement}

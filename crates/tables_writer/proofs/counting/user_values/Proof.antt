@@ -3,12 +3,12 @@ use mathlib.Core.Path.{_≡_}
 use Prim.Native.Nat.{_-_, _≤_}
 use lib.ListN.{length}
 use Rattle.model.specs.Tables.Layout.{tablesOf}
-use Rattle.tables_writer.specs.SeriesLaws.{series-more, series-zero}
+use Rattle.record_writer.specs.SeriesLaws.{series-more, series-zero}
 use Prim.Native.Nat.{_+_}
 use borrow.Author.Needs.{needs}
 use Rattle.tables.specs.Singles.{singleCount}
 use Rattle.tables_text.specs.TextOf.{series, userWords}
-use Rattle.tables_writer.specs.FieldAt.{digitsAt, userFieldCount}
+use Rattle.record_writer.specs.FieldAt.{digitsAt, userFieldCount}
 use Rattle.tables_writer.specs.LengthLaws.{digits-bound, values-most}
 use Rattle.tables_writer.proofs.counting.user_values.Statement.{statement}
 use Rattle.tables_writer.proofs.counting.user_values.Tie as tie
