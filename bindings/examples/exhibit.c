@@ -27,18 +27,18 @@ static bool load(const char *name, uint32_t *tables)
     return loaded;
 }
 
-/* Prints the tables' text; gives its length, or 0 where there is none. */
-static size_t print_text(const uint32_t *tables, uint8_t text[MMS_TABLES_TEXT_MOST])
+/* Prints the tables' text, and tells its length; false where there is none. Tables with no record have a text of no bytes. */
+static bool print_text(const uint32_t *tables, uint8_t text[MMS_TABLES_TEXT_MOST], size_t *length)
 {
     uint64_t written = mms_write_tables(tables, MMS_TABLE_WORDS, text, MMS_TABLES_TEXT_MOST);
-    size_t length = mms_number(written);
 
     if (mms_answer(written) != MMS_ACCEPTED) {
         fprintf(stderr, "the tables have no text: answer %" PRIu32 "\n", mms_answer(written));
-        return 0;
+        return false;
     }
-    fwrite(text, 1, length, stdout);
-    return length;
+    *length = mms_number(written);
+    fwrite(text, 1, *length, stdout);
+    return true;
 }
 
 /* Reads a text; prints the answer, and whether these are its tables or which line is bad. */
@@ -68,10 +68,10 @@ int main(int count, char **arguments)
         fprintf(stderr, "%s is no state file\n", name);
         return EXIT_FAILURE;
     }
-    length = print_text(tables, text);
-    if (length == 0)
+    if (!print_text(tables, text, &length))
         return EXIT_FAILURE;
-    read_again("without its last byte", text, length - 1, tables);
+    if (length > 0)
+        read_again("without its last byte", text, length - 1, tables);
     same = read_again("whole", text, length, tables);
     return same ? EXIT_SUCCESS : EXIT_FAILURE;
 }

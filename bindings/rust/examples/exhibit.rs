@@ -22,7 +22,9 @@ fn main() -> Result<(), Box<dyn Error>> {
     let tables = Tables::from_bytes(&fs::read(name)?)?;
     let text = tables.to_text()?;
     print!("{}", text);
-    read_again("without its last byte", &text[..text.len() - 1], &tables);
+    if !text.is_empty() {
+        read_again("without its last byte", &text[..text.len() - 1], &tables);
+    }
     read_again("whole", &text, &tables);
     Ok(())
 }
