@@ -52,7 +52,7 @@ pub fn list(tables: &[u32], user: u32, room: &mut [u32]) -> Answer
 pub fn read(text: &[u8], request: &mut [u32]) -> Answer
     ensures { λ r. ⌜ Reading (now (text .entry)) (now (request .entry)) r (now (request .exit)) ⌝ }
 {
-    let p = request_text::reading::read(text, request);
+    let p = request_reader::read(text, request);
     Answer {
         no: p.answer,
         number: p.line,
@@ -64,7 +64,7 @@ pub fn read(text: &[u8], request: &mut [u32]) -> Answer
 pub fn write(request: &[u32], room: &mut [u8]) -> Answer
     ensures { λ r. ⌜ Writing (now (request .entry)) (now (room .entry)) r (now (room .exit)) ⌝ }
 {
-    let w = request_text::writing::write(request, room);
+    let w = request_writer::write(request, room);
     Answer {
         no: w.answer,
         number: w.bytes,

@@ -19,7 +19,7 @@ use Rattle.model.specs.Script.Windows.{broken, waiting, preceded, ran, reportBy
 use Rattle.model.specs.Text.NearLaws.{read-bad}
 use Rattle.model.specs.Text.Unfinished.{unfinished}
 use Rattle.model.specs.Text.Wording.{Lines, Wording, badLine, lines, readSeven, sixteen}
-use Rattle.request_text.specs.SevenLaws.{seven-further, seven-rest}
+use Rattle.request_reader.specs.SevenLaws.{seven-further, seven-rest}
 use Rattle.script.specs.Going.{Going, after}
 use Rattle.script.specs.Reported.{fromCode}
 use Rattle.script.specs.RunLaws.{waiting-end, waiting-full, waiting-go, output-more, ran-bad, ran-waiting, ran-turn}

@@ -8,8 +8,8 @@ use Rattle.model.specs.Request.Step.{afterOf}
 use Rattle.model.specs.Script.Reports.{report, unread}
 use Rattle.model.specs.Text.Reading.{wordsIn}
 use Rattle.model.specs.Text.Wording.{Lines, badLine, lines, readSeven}
-use Rattle.request_text.specs.Seven.{SevenAt, sevenOf}
-use Rattle.request_text.specs.declared.reading.Seven.the-variants.{BadLine, Next}
+use Rattle.request_reader.specs.Seven.{SevenAt, sevenOf}
+use Rattle.request_reader.specs.declared.Seven.the-variants.{BadLine, Next}
 use Rattle.script.specs.Reported.{inCode}
 use Rattle.script.specs.Turn.{SettledTo, Turns, leftBy, turnedBy}
 use Rattle.script.specs.declared.turns.Place.{Place}

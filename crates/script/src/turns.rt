@@ -4,7 +4,7 @@
 use crate::reports::Report;
 use names::refusal;
 use names::size;
-use request_text::reading::Seven;
+use request_reader::Seven;
 ghost use mathlib.Core.Path.{_≡_};
 ghost use Rattle.model.specs.Script.Reports.{unread};
 ghost use Rattle.script.specs.Reported.{inCode};
@@ -53,7 +53,7 @@ pub fn turn_at(tables: &mut [u32], script: &[u8], p: Place, c: u32) -> Turned
 {
     let at = p.at;
     let mut words = [0u32; size::REQUEST_WORDS];
-    match request_text::reading::read_seven(script, at, &mut words) {
+    match request_reader::read_seven(script, at, &mut words) {
         Seven::BadLine(k) => stuck(at, k),
         Seven::Next(next) => settled(tables, &words, next, c),
     }
