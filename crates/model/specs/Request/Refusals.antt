@@ -74,6 +74,6 @@ notAcknowledged = 16
 abbrev pub tooShort : ℕ
 tooShort = 17
 
--- 7.18: the text is no request
+-- 7.18: the text is no request, or no text of tables
 abbrev pub notARequest : ℕ
 notARequest = 18
