@@ -5,13 +5,12 @@ use mathlib.Core.List.{List, [], _∷_}
 use mathlib.Core.Path.{_∙_, _≡_, ap, refl, subst, sym}
 use Prim.Native.Nat.{ℕ}
 use native.Mathlib.Omega.{arith}
-use lib.Dec.{leb}
-use lib.ListN.{getD, length, length-set, replicate, set}
+use lib.Dec.{T}
+use lib.ListN.{length, length-set, replicate, set}
 use Rattle.cases.specs.Case.Opened.{opened}
 use Rattle.cases.specs.Case.S1.{s1, s1Sheet}
-use Rattle.cases.specs.Case.S1Text.{fit-small, no-text}
+use Rattle.cases.specs.Case.S1Text.{allFit, fit-small, no-text}
 use Rattle.cases.specs.Case.S1Words.{s1Entities, s1Users, s1Words, s1Words-length, s1Words-tables}
-use Rattle.model.specs.Basics.Tests.{every}
 use Rattle.model.specs.Basics.Together.{together}
 use Rattle.model.specs.State.Check.{check, judge, wellFormedTest}
 use Rattle.model.specs.State.WellFormed.{WellFormed}
@@ -23,7 +22,7 @@ use Rattle.model.specs.Tables.Words.{current}
 use Rattle.model.specs.Tables.WordsOf.{firstValues, wordAtIndex, wordsOf}
 use Rattle.model.specs.Tables.WordsOfLaws.{tablesOf-wordsOf, wordsOf-length}
 use Rattle.model.specs.Text.Lines.{line}
-use Rattle.model.specs.Text.Numbers.{digits, most}
+use Rattle.model.specs.Text.Numbers.{digits}
 use Rattle.tables_text.specs.Calls.{textOfTables}
 use Rattle.tables_text.specs.Given.{TextOf}
 use Rattle.tables_text.specs.GivenLaws.{formed}
@@ -212,15 +211,15 @@ no-words-test = refl
 no-words-length : length noWords ≡ wordCount
 no-words-length = ap length (sym no-words-are) ∙ wordsOf-length noTables
 
-no-words-fit : every wordCount (λ i. leb (getD noWords i 0) most) ≡ true
-unfolding opened noWords
-no-words-fit = refl
+no-words-fit : T (allFit noWords)
+unfolding allFit noWords
+no-words-fit = tt
 
 -- They are well-formed, and have the text of no bytes.
 pub no-record-text : TextOf [] noWords
 no-record-text = record {
   size = no-words-length;
-  small = fit-small noWords no-words-length no-words-fit;
+  small = fit-small noWords no-words-fit;
   wellFormed = subst WellFormed (sym no-words-tables) (formed noTables no-bounded no-words-test);
   is = sym (ap tablesText no-words-tables ∙ no-text);
 }
@@ -252,15 +251,15 @@ insecure-formed : wellFormedTest (onUser 2 (userWord current 1) s1) ≡ true
 unfolding opened s1 s1Sheet
 insecure-formed = refl
 
-insecure-fit : every wordCount (λ i. leb (getD insecureWords i 0) most) ≡ true
-unfolding opened insecureWords s1Words s1Users s1Entities
-insecure-fit = refl
+insecure-fit : T (allFit insecureWords)
+unfolding allFit insecureWords s1Words s1Users s1Entities
+insecure-fit = tt
 
 -- and they have a text all the same.
 pub insecure-text : TextOf (textOfTables insecureWords) insecureWords
 insecure-text = record {
   size = insecure-length;
-  small = fit-small insecureWords insecure-length insecure-fit;
+  small = fit-small insecureWords insecure-fit;
   wellFormed = formed (tablesOf insecureWords) (bounded insecureWords) (ap wellFormedTest insecure-tables ∙ insecure-formed);
   is = refl;
 }

@@ -1,22 +1,19 @@
 -- Document 02, M-103; rules 13, 16.1 and 16.2: the text of case state S1, byte for byte, a line to a line.
-use mathlib.Core.Bool.{true}
+use mathlib.Core.Bool.{Bool, _&&_, true}
 use mathlib.Core.List.{List, [], _∷_}
 use mathlib.Core.Path.{_∙_, _≡_, ap, refl, sym}
-use Prim.Native.Nat.{_≤_, ℕ}
-use native.Mathlib.Omega.{arith}
-use lib.Dec.{leb}
-use lib.ListN.{List·getD-eq-default, getD, length}
+use Prim.Native.Nat.{_≤_, suc, zero, zero-le, ℕ}
+use lib.Dec.{T, leb}
+use lib.ListN.{getD, length}
 use Rattle.cases.specs.Case.Opened.{opened}
 use Rattle.cases.specs.Case.S1.{s1, s1Sheet}
 use Rattle.cases.specs.Case.S1Words.{s1Entities, s1Users, s1Words, s1Words-checked, s1Words-length, s1Words-tables}
-use Rattle.model.specs.Basics.Agree.{agrees-eq, agrees-le, every-at}
-use Rattle.model.specs.Basics.Cases.{cases, lt-or-le}
-use Rattle.model.specs.Basics.TestLaws.{is-true}
-use Rattle.model.specs.Basics.Tests.{every}
+use Rattle.model.specs.Basics.Agree.{agrees-eq, agrees-le}
+use Rattle.model.specs.Basics.TestLaws.{T-l, T-r}
 use Rattle.model.specs.Basics.Together.{together}
 use Rattle.model.specs.State.AgreeSecure.{check-agrees}
 use Rattle.model.specs.State.Check.{check}
-use Rattle.model.specs.Tables.Layout.{tablesOf, wordCount}
+use Rattle.model.specs.Tables.Layout.{tablesOf}
 use Rattle.model.specs.Tables.WordAt.{entityWordAt, entityWordOf, userWordAt, userWordOf}
 use Rattle.model.specs.Tables.WordsOf.{firstValues, wordAtIndex, wordsOf}
 use Rattle.model.specs.Text.Lines.{line, readLine}
@@ -281,21 +278,26 @@ s1Text-read = refl
 
 -- ---- S1's words have this text
 
-words-fit : every wordCount (λ i. leb (getD s1Words i 0) most) ≡ true
-unfolding opened s1Words s1Users s1Entities
-words-fit = refl
+-- each word of a list is tried, one after another,
+unfoldable pub allFit : List ℕ → Bool
+allFit [] = true
+allFit (x ∷ w) = leb x most && allFit w
 
--- where each of 2,304 words is tried, every word fits in 32 bits
-pub fit-small : (w : List ℕ) → length w ≡ wordCount → every wordCount (λ i. leb (getD w i 0) most) ≡ true → (i : ℕ) → getD w i 0 ≤ most
-fit-small w h e i =
-    cases (lt-or-le i wordCount)
-    (λ l. agrees-le (getD w i 0) most .to (every-at wordCount (λ j. leb (getD w j 0) most) (is-true _ e) i l))
-    (λ l. omega (arith, List·getD-eq-default w 0 {n = i} (omega (arith, h))))
+-- and then every word fits in 32 bits
+pub fit-small : (w : List ℕ) → T (allFit w) → (i : ℕ) → getD w i 0 ≤ most
+unfolding allFit
+fit-small [] t i = zero-le
+fit-small (x ∷ w) t zero = agrees-le x most .to (T-l (leb x most) (allFit w) t)
+fit-small (x ∷ w) t (suc i) = fit-small w (T-r (leb x most) (allFit w) t) i
+
+words-fit : T (allFit s1Words)
+unfolding allFit s1Words s1Users s1Entities
+words-fit = tt
 
 pub s1-text : TextOf s1Text s1Words
 s1-text = record {
   size = s1Words-length;
-  small = fit-small s1Words s1Words-length words-fit;
+  small = fit-small s1Words words-fit;
   wellFormed = check-agrees s1Words .to (agrees-eq (check s1Words) refusal.accepted .from s1Words-checked) .1 .0;
   is = sym s1Words-text;
 }

@@ -3,12 +3,6 @@ use Rattle.tables_reader.specs.WholeLaws.{blank-is, line-small, reads-fo
 use borrow.Author.Needs.{needs}
 use Rattle.tables_reader.proofs.read_tables.Statement.{statement}
 use Rattle.tables_reader.proofs.read_tables.Tie as tie
-use Rattle.tables_reader.proofs.read_tables.Reads as reads
-use Rattle.tables_reader.proofs.read_tables.Lts as lts
-use Rattle.lines.proofs.copying.copy_words.Reads as copy-words-reads
-use Rattle.state.proofs.judged.Reads as judged-reads
-use Rattle.tables_reader.proofs.fill.Reads as fill-reads
-use Rattle.tables_reader.proofs.line_at.Reads as line-at-reads
 
 -- src/lib.rt:64:9
 returns : tie.Need-returns
