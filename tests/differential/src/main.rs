@@ -2,6 +2,7 @@
 mod difference;
 mod guarded;
 mod outcome;
+mod rounds;
 mod runs;
 mod script;
 mod side;
@@ -12,6 +13,7 @@ mod wrong;
 
 use ordinary::{Calls, Right, Wrong, WRONG};
 use outcome::{Out, Outcome};
+use rounds::Comparison;
 use side::ByHand;
 use std::process::exit;
 use wrong::Effort;
@@ -137,32 +139,27 @@ fn run_texts(seed: &str, rounds: &str, rest: &[&str]) -> Result<Outcome, Unclear
     Ok(texts::run(&what, Out::LOUD))
 }
 
-/// Compares runs of requests.
-fn run_runs(seed: &str, rounds: &str, rest: &[&str]) -> Result<Outcome, Unclear> {
-    let options = options(rest, Calls::Runs)?;
-    let what = runs::Comparison {
+/// A comparison by rounds, of these calls.
+fn by_rounds(seed: &str, rounds: &str, rest: &[&str], calls: Calls) -> Result<Comparison<'static>, Unclear> {
+    let options = options(rest, calls)?;
+    Ok(Comparison {
         seed: number(seed)?,
         rounds: number(rounds)?,
         only: options.only,
         desk: options.desk(),
         options: options.words(),
         most_differences: DIFFERENCES_MOST,
-    };
-    Ok(runs::run(&what, Out::LOUD))
+    })
+}
+
+/// Compares runs of requests.
+fn run_runs(seed: &str, rounds: &str, rest: &[&str]) -> Result<Outcome, Unclear> {
+    Ok(runs::run(&by_rounds(seed, rounds, rest, Calls::Runs)?, Out::LOUD))
 }
 
 /// Compares the writer and the reader of tables.
 fn run_tables_text(seed: &str, rounds: &str, rest: &[&str]) -> Result<Outcome, Unclear> {
-    let options = options(rest, Calls::TablesText)?;
-    let what = tables_text::Comparison {
-        seed: number(seed)?,
-        rounds: number(rounds)?,
-        only: options.only,
-        desk: options.desk(),
-        options: options.words(),
-        most_differences: DIFFERENCES_MOST,
-    };
-    Ok(tables_text::run(&what, Out::LOUD))
+    Ok(tables_text::run(&by_rounds(seed, rounds, rest, Calls::TablesText)?, Out::LOUD))
 }
 
 /// What is said of S1, in single requests and in runs.

@@ -1,5 +1,6 @@
 //! Every wrong desk must be found out, and by a difference: what a wrong desk fails to reach is no proof against it.
 use crate::outcome::{Out, Outcome};
+use crate::rounds::Comparison;
 use crate::side::ByHand;
 use crate::{runs, tables, tables_text, texts};
 use ordinary::{Calls, Right, Wrong, WRONG};
@@ -30,14 +31,14 @@ impl Effort {
     fn of_runs(&self, desk: ByHand) -> Option<String> {
         let Effort { seed, rounds, .. } = *self;
         let (only, options) = (None, String::new());
-        runs::run(&runs::Comparison { seed, rounds, only, desk, options, most_differences: 1 }, Out::QUIET).first
+        runs::run(&Comparison { seed, rounds, only, desk, options, most_differences: 1 }, Out::QUIET).first
     }
 
     /// The first difference of a desk's writer and reader of tables with the proved ones.
     fn of_tables_text(&self, desk: ByHand) -> Option<String> {
         let Effort { seed, rounds, .. } = *self;
         let (only, options) = (None, String::new());
-        let what = tables_text::Comparison { seed, rounds, only, desk, options, most_differences: 1 };
+        let what = Comparison { seed, rounds, only, desk, options, most_differences: 1 };
         tables_text::run(&what, Out::QUIET).first
     }
 

@@ -10,7 +10,7 @@ mod tally;
 use crate::difference::Difference;
 use crate::guarded;
 use crate::outcome::{again, Out, Outcome};
-use crate::side::ByHand;
+use crate::rounds::Comparison;
 use crate::tables::call::Calls;
 use call::{Asked, RunCalls};
 use generate::layout::TABLE_WORDS;
@@ -35,35 +35,14 @@ const DAMAGED: u32 = 8;
 /// Spare places.
 const SPARE_MOST: u32 = 9;
 
-/// What is asked for.
-pub struct Comparison<'a> {
-    pub seed: u64,
-    pub rounds: u64,
-    /// One round alone, to replay it.
-    pub only: Option<u64>,
-    /// Who runs, against the proved desk.
-    pub desk: ByHand<'a>,
-    /// What to give besides to run it again.
-    pub options: String,
-    /// It is given up after so many differences.
-    pub most_differences: u64,
-}
-
 /// Compares so many rounds, and says what was reached and what differed.
 pub fn run(what: &Comparison, out: Out) -> Outcome {
     let mut rounds = Rounds::new(what);
     let mut outcome = Outcome::default();
-    out.line(format_args!("runs: seed {}, {} rounds{}", what.seed, what.rounds, what.options));
-    if let Some(number) = what.only {
-        rounds.go_through(number, &mut outcome, out);
-        out.line(format_args!("round {} alone: {} differences", number, outcome.differences));
-        return outcome;
-    }
-    let mut done = 0;
-    while done < what.rounds && outcome.differences < what.most_differences {
-        done += 1;
-        rounds.go_through(done, &mut outcome, out);
-    }
+    let done = match what.go("runs", &mut outcome, out, |number, outcome| rounds.go_through(number, outcome, out)) {
+        Some(done) => done,
+        None => return outcome,
+    };
     rounds.tally.print(out);
     outcome.amiss += rounds.tally.name_unreached(out);
     out.line(format_args!(

@@ -6,7 +6,8 @@ mod tally;
 
 use crate::guarded;
 use crate::outcome::{again, Out, Outcome};
-use crate::side::{ByHand, Side};
+use crate::rounds::Comparison;
+use crate::side::Side;
 use crate::texts::call::{Difference, Reading, Sort, Writing};
 use generate::layout::{refusal, TABLE_WORDS};
 use generate::longest::{longest_text, TABLES_TEXT_MOST};
@@ -61,35 +62,14 @@ fn due_to(read: &Result<Vec<u32>, Bad>, count: usize) -> Result<Vec<u32>, Reply>
     }
 }
 
-/// What is asked for.
-pub struct Comparison<'a> {
-    pub seed: u64,
-    pub rounds: u64,
-    /// One round alone, to replay it.
-    pub only: Option<u64>,
-    /// Who writes and reads, against the proved desk.
-    pub desk: ByHand<'a>,
-    /// What to give besides to run it again.
-    pub options: String,
-    /// It is given up after so many differences.
-    pub most_differences: u64,
-}
-
 /// Compares so many rounds, and says what was reached and what differed.
 pub fn run(what: &Comparison, out: Out) -> Outcome {
     let mut rounds = Rounds::new(what);
     let mut outcome = Outcome::default();
-    out.line(format_args!("tables_text: seed {}, {} rounds{}", what.seed, what.rounds, what.options));
-    if let Some(number) = what.only {
-        rounds.go_through(number, &mut outcome, out);
-        out.line(format_args!("round {} alone: {} differences", number, outcome.differences));
-        return outcome;
-    }
-    let mut done = 0;
-    while done < what.rounds && outcome.differences < what.most_differences {
-        done += 1;
-        rounds.go_through(done, &mut outcome, out);
-    }
+    let done = match what.go("tables_text", &mut outcome, out, |number, outcome| rounds.go_through(number, outcome, out)) {
+        Some(done) => done,
+        None => return outcome,
+    };
     rounds.tally.print(out);
     outcome.amiss += rounds.tally.name_amiss(out);
     out.line(format_args!(
