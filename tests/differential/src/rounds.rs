@@ -19,7 +19,13 @@ pub struct Comparison<'a> {
 
 impl Comparison<'_> {
     /// Goes through the rounds. Gives how many there were, or none where one was replayed alone and all is said.
-    pub fn go(&self, name: &str, outcome: &mut Outcome, out: Out, mut round: impl FnMut(u64, &mut Outcome)) -> Option<u64> {
+    pub fn go(
+        &self,
+        name: &str,
+        outcome: &mut Outcome,
+        out: Out,
+        mut round: impl FnMut(u64, &mut Outcome),
+    ) -> Option<u64> {
         out.line(format_args!("{}: seed {}, {} rounds{}", name, self.seed, self.rounds, self.options));
         if let Some(number) = self.only {
             round(number, outcome);

@@ -66,10 +66,11 @@ fn due_to(read: &Result<Vec<u32>, Bad>, count: usize) -> Result<Vec<u32>, Reply>
 pub fn run(what: &Comparison, out: Out) -> Outcome {
     let mut rounds = Rounds::new(what);
     let mut outcome = Outcome::default();
-    let done = match what.go("tables_text", &mut outcome, out, |number, outcome| rounds.go_through(number, outcome, out)) {
-        Some(done) => done,
-        None => return outcome,
-    };
+    let done =
+        match what.go("tables_text", &mut outcome, out, |number, outcome| rounds.go_through(number, outcome, out)) {
+            Some(done) => done,
+            None => return outcome,
+        };
     rounds.tally.print(out);
     outcome.amiss += rounds.tally.name_amiss(out);
     out.line(format_args!(
