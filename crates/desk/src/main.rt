@@ -1,5 +1,6 @@
 // The desk as a program. The tables come from the file state.words, the requests from standard input, and the reports go to standard output.
 // The functions of `script` decide all that is decided; here bytes are moved.
+#![tactic(auto)]
 ghost use Rattle.std.specs.Prelude.{true, ◌≡◌, ◌<◌, ◌≤◌, length, take};
 ghost use Rattle.desk.specs.Serving.{ServeReady};
 

@@ -1,6 +1,6 @@
 -- Demand 2, one step and many: the effect, and what any calls one after another keep.
 use Rattle.std.specs.Prelude.{List, ◌≡◌, refl, ◌<◌, ◌≤◌, ℕ, suc, zero, length}
-use Rattle.std.proofs.Math.Logic.{Iff·rfl, Iff·trans}
+use mathlib.Core.Logic.Iff as Iff
 use Rattle.std.proofs.Common.{◌∙◌, ap, subst, sym, arith}
 use Rattle.mms.specs.CallLaws.{answered_size, check_passes, check_sound_lem, passes_check, step_left, step_no, step_sequence}
 use Rattle.mms.specs.Calls.{Passes, Sound, StepCall, StepCalls, no_in}
@@ -90,7 +90,7 @@ module _ (m : ℕ) (tables requests : ℕ → List ℕ) (answers : ℕ → ℕ) 
   calls_fixed_lem p = (
     over_steps SameUsers (λ t e u. refl) (λ d e f a b u. b u ∙ a u) words_users_stay tables requests (λ i. no_in (answers i)) m steps
         (passes_check (tables 0) p),
-    over_steps SameDevices (λ t e x. Iff·rfl) (λ d e f a b x. Iff·trans (b x) (a x)) words_devices_stay tables requests (λ i. no_in (answers i)) m steps
+    over_steps SameDevices (λ t e x. Iff.rfl) (λ d e f a b x. Iff.trans (b x) (a x)) words_devices_stay tables requests (λ i. no_in (answers i)) m steps
         (passes_check (tables 0) p),
   )
 

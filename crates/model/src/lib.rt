@@ -1,1 +1,2 @@
 // The model has no code: document 01 as definitions, and what is proved of them, stand in specs/.
+#![tactic(auto)]

@@ -104,7 +104,7 @@ pub through_pieces : {t u : List ℕ} (ps : List (List (List ℕ))) {ns : List �
 through_pieces [] end = no_piece
 through_pieces {t} {u} (qs ∷ ps) {ns} x =
     let h = through_cut qs x in
-    subst (λ (l : List ℕ). Pieces t (qs ∷ ps) l u) (sym h.answers) (piece h.before (through_pieces ps h.behind))
+    subst (λ (l : List ℕ). Pieces t (qs ∷ ps) l u) (sym h.answers) (piece h.before (through_pieces {t = h.between} ps h.behind))
 
 -- ---- tables that fail the check
 

@@ -98,6 +98,7 @@ first_unique extra extra = refl
 pub whole_first : {ks : List Sort} {s : List ℕ} {n : ℕ} → Whole ks s → FirstBad ks s n → ⊥
 whole_first (onward {x = x} b w) (here out) = out x b
 whole_first (onward {ks = ks} b w) (later {n = n} c g) = whole_first w (subst (λ (z : List ℕ). FirstBad ks z n) (begins_one c b) g)
+whole_first {n = n} end x4 = elim x4 [ ]
 
 -- and it is counted from 1.
 pub first_some : {ks : List Sort} {s : List ℕ} {n : ℕ} → FirstBad ks s n → 1 ≤ n

@@ -1,7 +1,7 @@
 -- Nothing becomes released but by a release of that very draft, nothing released is deleted or undone, and users and devices are those of the start;
 -- of any request and any answer, on tables, on words, and over any list of requests.
 use Rattle.std.specs.Prelude.{Bool, false, true, List, [], ◌∷◌, ◌≢◌, ◌⊎◌, ◌≡◌, refl, ℕ, eqb}
-use Rattle.std.proofs.Math.Logic.{Iff·rfl, Iff·trans}
+use mathlib.Core.Logic.Iff as Iff
 use Rattle.std.proofs.Common.{inl, inr, ◌∙◌, ap, subst, sym, arith}
 use Rattle.model.specs.Basics.Agree.{agrees_eq}
 use Rattle.model.specs.Basics.Choice.{Same, it, other, same}
@@ -204,7 +204,7 @@ pub words_users_stay : (t q : List ℕ) → check t ≡ refusal.accepted → Sam
 words_users_stay = on_words (λ d q d'. SameUsers d d') (λ d w q u. refl) users_stay
 
 pub words_devices_stay : (t q : List ℕ) → check t ≡ refusal.accepted → SameDevices (tables_of t) (tables_of (after_of t q))
-words_devices_stay = on_words (λ d q d'. SameDevices d d') (λ d w q x. Iff·rfl) devices_stay
+words_devices_stay = on_words (λ d q d'. SameDevices d d') (λ d w q x. Iff.rfl) devices_stay
 
 -- Over any list of requests: once released, released for ever, with the same releaser.
 pub released_forever : (t : List ℕ) (qs : List (List ℕ)) → check t ≡ refusal.accepted → ReleasedStays (tables_of t) (tables_of (after_words t qs))
@@ -216,4 +216,4 @@ users_forever = over_words SameUsers (λ d w u. refl) (λ d e f a b u. b u ∙ a
 
 -- The devices are those of the start.
 pub devices_forever : (t : List ℕ) (qs : List (List ℕ)) → check t ≡ refusal.accepted → SameDevices (tables_of t) (tables_of (after_words t qs))
-devices_forever = over_words SameDevices (λ d w x. Iff·rfl) (λ d e f a b x. Iff·trans (b x) (a x)) words_devices_stay
+devices_forever = over_words SameDevices (λ d w x. Iff.rfl) (λ d e f a b x. Iff.trans (b x) (a x)) words_devices_stay

@@ -1,5 +1,5 @@
 -- What no accepted operation changes: who the users are, which entities are devices, and, but for acknowledge, the notices.
-use Rattle.std.proofs.Math.Logic.{Iff·rfl}
+use mathlib.Core.Logic.Iff as Iff
 use Rattle.std.specs.Prelude.{◌↔◌, ◌≢◌, ◌≡◌, refl, ℕ}
 use Rattle.std.proofs.Common.{ap, arith}
 use Rattle.model.specs.Effect.Places.{sort_kind, vacant}
@@ -43,28 +43,28 @@ pub devices_fixed : (o : Op) (d : Tables) → WellFormed d → (s : Asked) → A
     → (kinds ((row_of o).effect s d) x ≡ device_kind) ↔ (kinds d x ≡ device_kind)
 devices_fixed to_create d w s a x = case (λ (k : ℕ). (k ≡ device_kind) ↔ (kinds d x ≡ device_kind)) x (vacant d) (sort_kind s.a) (kinds d x)
     (λ q. (λ h. absurd (omega (arith, h, sort_kind_lem s.a)), λ h. absurd (omega (arith, h, ap (kinds d) q, vacant_absent d a.number))))
-    (λ q. Iff·rfl)
+    (λ q. Iff.rfl)
 devices_fixed to_delete d w s a x = case (λ (k : ℕ). (k ≡ device_kind) ↔ (kinds d x ≡ device_kind)) x s.first 0 (kinds d x)
     (λ q. (λ h. absurd (omega (arith, h)), λ h. absurd (omega (arith, h, ap (kinds d) q, a.thing))))
-    (λ q. Iff·rfl)
-devices_fixed to_move d w s a x = Iff·rfl
-devices_fixed to_edit d w s a x = Iff·rfl
-devices_fixed to_copy d w s a x = Iff·rfl
-devices_fixed to_level d w s a x = Iff·rfl
-devices_fixed to_mark d w s a x = Iff·rfl
-devices_fixed to_grant d w s a x = Iff·rfl
-devices_fixed to_revoke d w s a x = Iff·rfl
-devices_fixed to_show d w s a x = Iff·rfl
-devices_fixed to_clear d w s a x = Iff·rfl
-devices_fixed to_login d w s a x = Iff·rfl
-devices_fixed to_logout d w s a x = Iff·rfl
-devices_fixed to_current d w s a x = Iff·rfl
-devices_fixed to_clearance d w s a x = Iff·rfl
-devices_fixed to_authorised d w s a x = Iff·rfl
-devices_fixed to_maximum d w s a x = Iff·rfl
-devices_fixed to_device_level d w s a x = Iff·rfl
-devices_fixed to_release d w s a x = Iff·rfl
-devices_fixed to_acknowledge d w s a x = Iff·rfl
+    (λ q. Iff.rfl)
+devices_fixed to_move d w s a x = Iff.rfl
+devices_fixed to_edit d w s a x = Iff.rfl
+devices_fixed to_copy d w s a x = Iff.rfl
+devices_fixed to_level d w s a x = Iff.rfl
+devices_fixed to_mark d w s a x = Iff.rfl
+devices_fixed to_grant d w s a x = Iff.rfl
+devices_fixed to_revoke d w s a x = Iff.rfl
+devices_fixed to_show d w s a x = Iff.rfl
+devices_fixed to_clear d w s a x = Iff.rfl
+devices_fixed to_login d w s a x = Iff.rfl
+devices_fixed to_logout d w s a x = Iff.rfl
+devices_fixed to_current d w s a x = Iff.rfl
+devices_fixed to_clearance d w s a x = Iff.rfl
+devices_fixed to_authorised d w s a x = Iff.rfl
+devices_fixed to_maximum d w s a x = Iff.rfl
+devices_fixed to_device_level d w s a x = Iff.rfl
+devices_fixed to_release d w s a x = Iff.rfl
+devices_fixed to_acknowledge d w s a x = Iff.rfl
 
 -- Rule 8.3: every operation but acknowledge leaves the notice of every user.
 pub notices_left : (o : Op) (d : Tables) → WellFormed d → (s : Asked) → Allowed o s d → o ≢ to_acknowledge → (u : ℕ)
