@@ -13,7 +13,7 @@ mod tally;
 mod walk;
 
 // The answer, and how many entries there are: none with a refusal, but for that for want of room.
-#[derive(Drop)]
+#[derive(Clone, Copy)]
 pub struct Listed {
     pub answer: u32,
     pub entries: u32,

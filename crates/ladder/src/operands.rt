@@ -10,14 +10,14 @@ use reference::Found;
 use tables::{Entity, User};
 
 // The operand of a request that takes one, or the refusal.
-#[derive(Drop)]
+#[derive(Clone, Copy)]
 pub enum Operand {
     No(u32),
     Fine(Entity),
 }
 
 // The operands of a request that takes two, or the refusal.
-#[derive(Drop)]
+#[derive(Clone, Copy)]
 pub enum Pair {
     Neither(u32),
     Both(Entity, Entity),

@@ -6,7 +6,7 @@ ghost use Rattle.model.specs.Level.{at_most, bit, compartment_count, role_count,
 use names::size;
 
 // A level: a rank and a set of compartments in one number.
-#[derive(Drop)]
+#[derive(Clone, Copy)]
 pub struct Level(pub u32);
 
 // Whether bit i is in n.

@@ -10,14 +10,14 @@ use names::text;
 
 // A number and the index after it, or that there is none. In these enums the case that ends a reading comes first: the compiler then takes
 // the other for the usual one, and a short text is read faster.
-#[derive(Drop)]
+#[derive(Clone, Copy)]
 pub enum Number {
     Bad,
     Value { v: u32, next: usize },
 }
 
 // The index after a key, or that the key is not there.
-#[derive(Drop)]
+#[derive(Clone, Copy)]
 pub enum Found {
     Nothing,
     At(usize),

@@ -7,7 +7,7 @@ ghost use Rattle.mms.specs.Contract.{Exports, Listing, Reading, ReadingTables, R
 use names::text;
 
 // A call's answer: document 01's number, and what goes with it.
-#[derive(Drop)]
+#[derive(Clone, Copy)]
 pub struct Answer {
     pub no: u32,
     pub number: u32,

@@ -15,7 +15,7 @@ use names::{size, word};
 use tables::{Entity, User};
 
 // How far a reading has come: the index of the first line that is bad or missing, or the index after the lines that were asked for.
-#[derive(Drop)]
+#[derive(Clone, Copy)]
 pub enum Progress {
     Stuck(usize),
     Past(usize),

@@ -13,7 +13,7 @@ use names::{text, weight};
 use tables::Entity;
 
 // What the line of a place says and the index after it, or that it is bad.
-#[derive(Drop)]
+#[derive(Clone, Copy)]
 pub enum Placed {
     NoPlace,
     Has { entity: u32, sum: u32, next: usize },

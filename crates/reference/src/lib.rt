@@ -13,7 +13,7 @@ use names::{range, size, weight};
 use tables::{Entity, User, triples};
 
 // Where a reference leads, and whether every marked container on the way may be passed; or that it leads nowhere.
-#[derive(Drop)]
+#[derive(Clone, Copy)]
 pub enum Found {
     At(Entity, bool),
     Nowhere,

@@ -15,21 +15,21 @@ use lines::reading::{Found, Number};
 use names::{refusal, size, text, word};
 
 // How many names there are and the index after them, or that one of them is bad.
-#[derive(Drop)]
+#[derive(Clone, Copy)]
 pub enum Names {
     Wrong,
     Are { n: usize, end: usize },
 }
 
 // The index after seven lines, or the first of them that is bad or missing.
-#[derive(Drop)]
+#[derive(Clone, Copy)]
 pub enum Seven {
     BadLine(u32),
     Next(usize),
 }
 
 // The answer. Where the text is no request, `line` is the first line that is bad or missing.
-#[derive(Drop)]
+#[derive(Clone, Copy)]
 pub struct Parsed {
     pub answer: u32,
     pub line: u32,

@@ -105,7 +105,7 @@ fn has_text(words: &[u32]) -> bool
 }
 
 // The answer, and how many bytes the text has. With a refusal that is not for want of room, `bytes` is 0.
-#[derive(Drop)]
+#[derive(Clone, Copy)]
 pub struct Written {
     pub answer: u32,
     pub bytes: u32,

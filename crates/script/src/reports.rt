@@ -11,7 +11,7 @@ use names::{range, refusal};
 use tables::User;
 
 // What is told of a request: its answer, the refusal that its requester holds, and how many were missed.
-#[derive(Drop)]
+#[derive(Clone, Copy)]
 pub struct Report {
     pub answer: u32,
     pub held: u32,

@@ -14,7 +14,7 @@ use crate::turns::{Place, Turned};
 use names::text;
 
 // What a run gives: how far it came, and how many bytes of reports there are.
-#[derive(Drop)]
+#[derive(Clone, Copy)]
 pub struct Ran {
     pub place: Place,
     pub bytes: usize,

@@ -12,14 +12,14 @@ use names::{refusal, size};
 use request_reader::Seven;
 
 // How far a script has been read: the index of its next byte, and the line at which a request could not be read, 0 while all could.
-#[derive(Drop)]
+#[derive(Clone, Copy)]
 pub struct Place {
     pub at: usize,
     pub line: u32,
 }
 
 // What a turn gives: the place after the request, and the report of it.
-#[derive(Drop)]
+#[derive(Clone, Copy)]
 pub struct Turned {
     pub place: Place,
     pub report: Report,

@@ -7,11 +7,11 @@ pub mod triples;
 mod users;
 
 // A user's number.
-#[derive(Drop)]
+#[derive(Clone, Copy)]
 pub struct User(pub u32);
 
 // An entity's number.
-#[derive(Drop)]
+#[derive(Clone, Copy)]
 pub struct Entity(pub u32);
 
 pub use entities::{

@@ -13,7 +13,7 @@ use names::{refusal, size, text};
 use record_reader::records::Progress;
 
 // The answer. Where the text breaks a line rule, `line` is the first line that is bad or missing.
-#[derive(Drop)]
+#[derive(Clone, Copy)]
 pub struct Parsed {
     pub answer: u32,
     pub line: u32,

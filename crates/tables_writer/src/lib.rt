@@ -15,7 +15,7 @@ mod counting;
 const TABLES_TEXT_MOST: usize = 17721;
 
 // The answer, and how many bytes the text has. With a refusal that is not for want of room, `bytes` is 0.
-#[derive(Drop)]
+#[derive(Clone, Copy)]
 pub struct Written {
     pub answer: u32,
     pub bytes: u32,

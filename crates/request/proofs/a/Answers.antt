@@ -1,0 +1,7 @@
+use Rattle.std.proofs.Common.{refl}
+use Rattle.model.specs.Request.Words.{request_of}
+use Rattle.request.proofs.a.Goals as goal
+
+pub returns : goal.returns
+unfolding request_of
+returns c = refl
