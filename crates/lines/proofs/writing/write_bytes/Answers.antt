@@ -1,0 +1,25 @@
+use Rattle.std.proofs.Common.{◌-◌, ap, arith, get_or, length, length-set, refl, set, take, ◌∙◌, ◌≡◌}
+use lib.Seq.{take-length}
+use Rattle.lines.specs.Onto.{onto}
+use Rattle.lines.specs.OntoLaws.{onto_turn}
+use Rattle.lines.proofs.writing.write_bytes.Goals as goal
+
+pub loop-i-init : goal.loop-i-init
+loop-i-init c = (omega arith, refl, refl)
+
+pub loop-i-preserved : goal.loop-i-preserved
+loop-i-preserved c =
+    let a = c.args in
+    let l = c.loop-i in (
+      omega arith,
+      simp length-set l.invariant.1,
+      ap (λ d. set d l.i (get_or a.src.now l.i 0)) l.invariant.2 ∙ onto_turn a.src.now
+          a.out.now l.i c.loop-i-test.true c.requires,
+    )
+
+pub returns : goal.returns
+returns c =
+    let a = c.args in
+    let l = c.loop-i in
+    let e : l.i ≡ length a.src.now = omega arith in
+    record { many = e; now-is = l.invariant.2 ∙ ap (λ n. onto (take n a.src.now) a.out.now) e ∙ rw take-length }
