@@ -7,11 +7,9 @@ loop-i-init c = (omega arith, refl, refl)
 
 pub loop-i-preserved : goal.loop-i-preserved
 loop-i-preserved c =
-    let test = c.loop-i-test in
-    let l = c.loop-i in
     let a = c.args in
     let pre = c.requires in
-    (omega arith, simp length-set l.invariant.1, ap (λ d. set d l.i (get_or a.src.now l.i 0)) l.invariant.2 ∙ copied_turn _ _ _ (pre) test.true)
+    (omega arith, simp length-set c.loop-i.invariant.1, ap (λ d. set d c.loop-i.i (get_or a.src.now c.loop-i.i 0)) c.loop-i.invariant.2 ∙ copied_turn _ _ _ (pre) c.loop-i-test.true)
 
 pub returns : goal.returns
 returns c = c.loop-i.invariant.2 ∙ copied_all _ _ _ c.requires c.loop-i-test.false

@@ -1,5 +1,4 @@
 use Rattle.std.proofs.Common.{◌-◌, arith, ◌∙◌}
-use borrow.Author.Tests.{not-false, not-true}
 use Rattle.lines.specs.LineAtLaws.{key_at_lem, key_end, key_nothing, key_short, key_start, key_turn}
 use Rattle.lines.proofs.reading.read_key.Goals as goal
 
@@ -11,24 +10,15 @@ loop-i-init c = (omega arith, key_start c.args.s.now c.args.key.now c.args.at)
 
 pub loop-i-preserved : goal.loop-i-preserved
 loop-i-preserved c =
-    let test = c.loop-i-test in
-    let l = c.loop-i in
     let a = c.args in
-    (omega arith, l.invariant.1 ∙ key_turn a.s.now a.key.now a.at l.i l.same test.true (omega arith))
+    (omega arith, c.loop-i.invariant.1 ∙ key_turn a.s.now a.key.now a.at c.loop-i.i c.loop-i.same c.loop-i-test.true (omega arith))
 
 pub returns-then-not-same : goal.returns-then-not-same
 returns-then-not-same c =
-    let l = c.loop-i in
-    key_nothing (l.invariant.1 ∙ rw (not-true l.same c.if-not-same.true))
+    key_nothing (c.loop-i.invariant.1 ∙ rw c.if-not-same.true)
 
 pub returns : goal.returns
 returns c =
-    let if2 = c.if-not-same in
-    let test = c.loop-i-test in
-    let l = c.loop-i in
     let a = c.args in
-    let test = test in
-    let l = l in
-    let a = a in
-    let all = key_end a.s.now a.key.now a.at l.i l.same test.false in
-    key_at_lem (omega arith) (l.invariant.1 ∙ all ∙ rw (not-false l.same if2.false))
+    let all = key_end a.s.now a.key.now a.at c.loop-i.i c.loop-i.same c.loop-i-test.false in
+    key_at_lem (omega arith) (c.loop-i.invariant.1 ∙ all ∙ rw c.if-not-same.false)

@@ -14,68 +14,39 @@ returns-then-first-gt-DIGIT_9 c = number_bad (number_other _ _ c.if-s-at.false (
 
 pub returns-then-first-eq-DIGIT_0 : goal.returns-then-first-eq-DIGIT_0
 returns-then-first-eq-DIGIT_0 c =
-    let value = c.value in
-    let if4 = c.if-first-eq-DIGIT_0 in
-    let if1 = c.if-s-at in
-    number_got value.ensures (omega arith) (number_zero _ _ if1.left if4.true)
+    number_got c.value.ensures (omega arith) (number_zero _ _ c.if-s-at.false c.if-first-eq-DIGIT_0.true)
 
 pub loop-i-init : goal.loop-i-init
 loop-i-init c =
-    let digit = c.digit-v in
-    let if4 = c.if-first-eq-DIGIT_0 in
-    let if3 = c.if-first-gt-DIGIT_9 in
-    let if2 = c.if-first-lt-DIGIT_0 in
-    let if1 = c.if-s-at in
-    (omega arith, omega (arith, digit.ensures, if3.false), rw digit.ensures (number_first _ _ if1.left if2.false if3.false if4.false))
+    (omega arith, omega (arith, c.digit-v.ensures, c.if-first-gt-DIGIT_9.false), rw c.digit-v.ensures (number_first _ _ c.if-s-at.false c.if-first-lt-DIGIT_0.false c.if-first-gt-DIGIT_9.false c.if-first-eq-DIGIT_0.false))
 
 pub returns-then-b : goal.returns-then-b
 returns-then-b c =
-    let value2 = c.value-then-b in
-    let if5 = c.if-b in
-    let test = c.loop-i-test in
-    let l = c.loop-i in
     let a = c.args in
-    number_got value2.ensures l.invariant.0 (l.invariant.2 ∙ more_other _ _ _ test.true (other (byte a.s.now l.i) if5.true))
+    number_got c.value-then-b.ensures c.loop-i.invariant.0 (c.loop-i.invariant.2 ∙ more_other _ _ _ c.loop-i-test.true (other (byte a.s.now c.loop-i.i) c.if-b.true))
 
 pub digit-requires : goal.digit-requires
 digit-requires c =
-    let l = c.loop-i in
     let a = c.args in
-    (range (byte a.s.now l.i) c.if-b.false).0
+    (range (byte a.s.now c.loop-i.i) c.if-b.false).0
 
 pub overflow_add-v : goal.overflow_add-v
 overflow_add-v c =
-    let digit2 = c.digit in
-    let if5 = c.if-b in
-    let l = c.loop-i in
     let a = c.args in
-    omega (arith, digit2.ensures, (range (byte a.s.now l.i) if5.false).1, l.inv.1)
+    omega (arith, c.digit.ensures, (range (byte a.s.now c.loop-i.i) c.if-b.false).1, c.loop-i.invariant.1)
 
 pub returns-then-v-gt-NUMBER_MOST : goal.returns-then-v-gt-NUMBER_MOST
 returns-then-v-gt-NUMBER_MOST c =
-    let if6 = c.if-v-gt-NUMBER_MOST in
-    let digit2 = c.digit in
-    let if5 = c.if-b in
-    let test = c.loop-i-test in
-    let l = c.loop-i in
     let a = c.args in
-    let r = range (byte a.s.now l.i) if5.false in
-    number_bad (l.invariant.2 ∙ more_over _ _ _ test.true r.0 r.1 (rw digit2.ensures at if6.true))
+    let r = range (byte a.s.now c.loop-i.i) c.if-b.false in
+    number_bad (c.loop-i.invariant.2 ∙ more_over _ _ _ c.loop-i-test.true r.0 r.1 (rw c.digit.ensures at c.if-v-gt-NUMBER_MOST.true))
 
 pub loop-i-preserved : goal.loop-i-preserved
 loop-i-preserved c =
-    let if6 = c.if-v-gt-NUMBER_MOST in
-    let digit2 = c.digit in
-    let if5 = c.if-b in
-    let test = c.loop-i-test in
-    let l = c.loop-i in
     let a = c.args in
-    let r = range (byte a.s.now l.i) if5.false in
-    (omega arith, if6.false, rw digit2.ensures (l.inv.2 ∙ more_turn _ _ _ test.taken r.0 r.1 (rw digit2.ensures at if6.false)))
+    let r = range (byte a.s.now c.loop-i.i) c.if-b.false in
+    (omega arith, c.if-v-gt-NUMBER_MOST.false, rw c.digit.ensures (c.loop-i.invariant.2 ∙ more_turn _ _ _ c.loop-i-test.true r.0 r.1 (rw c.digit.ensures at c.if-v-gt-NUMBER_MOST.false)))
 
 pub returns : goal.returns
 returns c =
-    let value3 = c.value-2 in
-    let test = c.loop-i-test in
-    let l = c.loop-i in
-    number_got value3.ensures l.invariant.0 (l.invariant.2 ∙ more_end _ _ _ test.false)
+    number_got c.value-2.ensures c.loop-i.invariant.0 (c.loop-i.invariant.2 ∙ more_end _ _ _ c.loop-i-test.false)

@@ -10,16 +10,15 @@ loop-i-init c = (omega arith, refl, refl)
 pub loop-i-preserved : goal.loop-i-preserved
 loop-i-preserved c =
     let a = c.args in
-    let l = c.loop-i in (
+    (
       omega arith,
-      simp length-set l.invariant.1,
-      ap (λ d. set d l.i (get_or a.src.now l.i 0)) l.invariant.2 ∙ onto_turn a.src.now
-          a.out.now l.i c.loop-i-test.true c.requires,
+      simp length-set c.loop-i.invariant.1,
+      ap (λ d. set d c.loop-i.i (get_or a.src.now c.loop-i.i 0)) c.loop-i.invariant.2 ∙ onto_turn a.src.now
+          a.out.now c.loop-i.i c.loop-i-test.true c.requires,
     )
 
 pub returns : goal.returns
 returns c =
     let a = c.args in
-    let l = c.loop-i in
-    let e : l.i ≡ length a.src.now = omega arith in
-    record { many = e; now-is = l.invariant.2 ∙ ap (λ n. onto (take n a.src.now) a.out.now) e ∙ rw take-length }
+    let e : c.loop-i.i ≡ length a.src.now = omega arith in
+    record { many = e; now_is = c.loop-i.invariant.2 ∙ ap (λ n. onto (take n a.src.now) a.out.now) e ∙ rw take-length }

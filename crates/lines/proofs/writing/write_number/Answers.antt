@@ -14,24 +14,19 @@ pub write_middle-n-requires : goal.write_middle-n-requires
 write_middle-n-requires c =
     (omega (arith, c.ranges.v), omega (arith, c.requires, length_more c.args.v c.if-v-lt10000.false (omega (arith, c.ranges.v))))
 
--- there is room for four digits after the ten thousands
-behind : (c : goal.After-slice_known-2-1) → c.write_middle-n.result + 4 ≤ length c.write_middle-n.new.0
-behind c =
-    more_room c.args.v c.if-v-lt10000.false (omega (arith, c.ranges.v)) c.requires c.write_middle-n.ensures
-
 pub slice_bounds-write_four-count : goal.slice_bounds-write_four-count
-slice_bounds-write_four-count c = omega (arith, behind c)
+slice_bounds-write_four-count c = omega (arith, more_room c.args.v c.if-v-lt10000.false (omega (arith, c.ranges.v)) c.requires c.write_middle-n.ensures)
 
 pub slice_bounds-write_four-start : goal.slice_bounds-write_four-start
-slice_bounds-write_four-start c = sub-write-four c
+slice_bounds-write_four-start c = omega (arith, more_room c.args.v c.if-v-lt10000.false (omega (arith, c.ranges.v)) c.requires c.write_middle-n.ensures)
 
 pub write_four-m-requires : goal.write_four-m-requires
 write_four-m-requires c = (
   omega arith,
   omega (
     arith,
-    behind (goal.at.write_four-m-requires c).After-slice_known-2-1,
-    length_part c.write_middle-n.new.0
+    more_room c.args.v c.if-v-lt10000.false (omega (arith, c.ranges.v)) c.requires c.write_middle-n.ensures,
+    length_part c.write_middle-n.new.out
         c.write_middle-n.result,
   ),
 )
