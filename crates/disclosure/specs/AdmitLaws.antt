@@ -9,10 +9,10 @@ use Rattle.model.specs.Basics.TestLaws.{is_true}
 use Rattle.model.specs.List.Listing.{barred, showing}
 use Rattle.model.specs.Request.Allowed.{Known, On}
 use Rattle.model.specs.Request.Ladder.{not_logged_on, unknown_user}
-use Rattle.model.specs.Request.OperationLaws.{number_op_of, show_wants}
+use Rattle.model.proofs.Request.OperationLaws.{number_op_of, show_wants}
 use Rattle.model.specs.Request.Operations.{to_show}
 use Rattle.model.specs.Request.Refusals as refusal
-use Rattle.model.specs.Request.RungLaws.{not_logged_on_fails, unknown_user_fails}
+use Rattle.model.proofs.Request.RungLaws.{not_logged_on_fails, unknown_user_fails}
 use Rattle.model.specs.Request.Words.{Request, request_of}
 use Rattle.model.specs.State.AgreeSecure.{check_agrees}
 use Rattle.model.specs.State.Check.{check}

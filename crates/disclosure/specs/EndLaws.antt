@@ -6,9 +6,9 @@ use Rattle.std.proofs.lemmas.List.Edits.{sets, sets-eq}
 use Rattle.verdicts.specs.VerdictLaws.{judged_found}
 use Rattle.verdicts.specs.Verdicts.{Judged}
 use Rattle.disclosure.specs.Visited.{Fits, followed}
-use Rattle.model.specs.List.AdmittedLaws.{barred_admitted}
+use Rattle.model.proofs.List.AdmittedLaws.{barred_admitted}
 use Rattle.model.specs.List.Listing.{Lists, barred, entries, entry_words}
-use Rattle.model.specs.List.ListingLaws.{entries_length, lists_found, lists_refused, lists_short, lists_written}
+use Rattle.model.proofs.List.ListingLaws.{entries_length, lists_found, lists_refused, lists_short, lists_written}
 use Rattle.model.specs.List.Ways.{found}
 use Rattle.model.specs.Request.Refusals as refusal
 use Rattle.model.specs.Tables.Layout.{tables_of}

@@ -1,6 +1,7 @@
 -- Entries as words in the room. Stores one after another are one run of stores, and two runs, the second where the first ends, are one.
 use Rattle.std.specs.Prelude.{Bool, false, true, List, [], ◌++◌, ◌∷◌, map, ◌≡◌, refl, ◌*◌, ◌+◌, ◌<◌, ◌≤◌, suc, zero, ℕ, ltb, get_or, length, set, take}
-use Rattle.std.proofs.Common.{◌∙◌, ap, ap₂, sym, add-suc, add-zero, suc-add, add-one, arith, length-set, ext_get_or, get_or-set_other, get_or-take, length-take-le, set-set, take-suc-set, ltb-false, ltb-true}
+use Rattle.std.proofs.Common.{◌∙◌, ap, ap₂, sym, add-suc, add-zero, suc-add, add-one, arith, length-set, ext_get_or, get_or-set_other, get_or-take}
+use Rattle.std.proofs.Common.{length-take-le, set-set, take-suc-set, ltb-false, ltb-true}
 use Rattle.std.proofs.Math.Numerals.{towards_suc}
 use Rattle.std.proofs.Math.ListN.{get_or-eq_default}
 use Rattle.std.proofs.lemmas.List.{length-map, set_comm}
@@ -8,7 +9,7 @@ use Rattle.std.proofs.Math.Seq.{append_snoc}
 use Rattle.std.proofs.lemmas.List.Edits.{sets}
 use Rattle.disclosure.specs.Visited.{Padded, entries_of}
 use Rattle.model.specs.List.Listing.{entries, entry, entry_words}
-use Rattle.model.specs.List.ListingLaws.{entries_length}
+use Rattle.model.proofs.List.ListingLaws.{entries_length}
 use Rattle.model.specs.Request.Words.{name_count}
 
 -- ---- names that are padded with zeros

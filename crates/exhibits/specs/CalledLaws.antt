@@ -12,10 +12,10 @@ use Rattle.cases.specs.Case.Cases.{Case, Exchange, Stands, ◌gets◌, all_in_si
 use Rattle.cases.specs.Case.RunLaws.{asked_length, asked_sixteen, case_through, first_passes}
 use Rattle.model.specs.Basics.TestLaws.{T-l, T-r}
 use Rattle.model.specs.Run.Through.{Through, end, next}
-use Rattle.model.specs.Run.ThroughLaws.{through_length}
+use Rattle.model.proofs.Run.ThroughLaws.{through_length}
 use Rattle.model.specs.Tables.Layout.{tables_of, word_count}
 use Rattle.model.specs.Tables.Words.{Tables}
-use Rattle.model.specs.Theorem.Unique.{settles_unique}
+use Rattle.model.proofs.Theorem.Unique.{settles_unique}
 
 -- Requests that go through the words t with a case's answers, and leave its words standing: so does whatever the calls answer and leave.
 through_called : {t u : List ℕ} (es : List Exchange) (ws : List Stands) → Through t (asked es) (gotten es) u → T (stand ws (tables_of u)) → Confirmed t es ws

@@ -13,7 +13,7 @@ use Rattle.model.specs.Basics.Agree.{agrees_eq, agrees_not}
 use Rattle.model.specs.Basics.TestLaws.{T-l, T-r}
 use Rattle.model.specs.Tables.Layout.{word_count}
 use Rattle.tables_text.specs.Calls.{answer_in, line_in, read_answer, read_number, text_of_tables}
-use Rattle.tables_text.specs.ReadLaws.{read_refused}
+use Rattle.tables_text.proofs.ReadLaws.{read_refused}
 use Rattle.tables_text.specs.Stages.{reading}
 use Rattle.model.specs.Request.Refusals as refusal
 

@@ -4,7 +4,7 @@ use Rattle.std.proofs.Common.{◌∙◌, sym, arith}
 use Rattle.ladder.specs.Contract.{Taking}
 use Rattle.laws.specs.Bools.{not_no}
 use Rattle.model.specs.Basics.TestLaws.{is_true}
-use Rattle.model.specs.Request.FitLaws.{fits_agrees}
+use Rattle.model.proofs.Request.FitLaws.{fits_agrees}
 use Rattle.model.specs.Request.Form.{InRange}
 use Rattle.model.specs.Request.Ladder.{applies, fits, ladder, never, not_understood, of_op, rung_at}
 use Rattle.model.specs.Request.LadderLaws.{of_op_some}

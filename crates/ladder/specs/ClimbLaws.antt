@@ -11,7 +11,7 @@ use Rattle.model.specs.Basics.Choice.{Below, Same, below, it, other, over, same,
 use Rattle.model.specs.Basics.Fails.{fails_no}
 use Rattle.model.specs.Request.Ladder.{Rung, answer, applies, ladder, never, not_secure, not_well_formed, rung_at}
 use Rattle.model.specs.Request.LadderLaws.{answer_is, answer_unique}
-use Rattle.model.specs.Request.RungLaws.{not_secure_fails, not_well_formed_fails}
+use Rattle.model.proofs.Request.RungLaws.{not_secure_fails, not_well_formed_fails}
 use Rattle.model.specs.Request.Refusals as refusal
 use Rattle.model.specs.Request.Words.{Request}
 use Rattle.model.specs.State.Agree.{well_formed_bounded}

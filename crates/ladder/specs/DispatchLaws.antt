@@ -10,7 +10,7 @@ use Rattle.model.specs.Basics.Choice.{Same, it, same}
 use Rattle.model.specs.Request.Form.{taken}
 use Rattle.model.specs.Request.Ladder.{fits, of_op}
 use Rattle.model.specs.Request.LadderLaws.{of_op_some}
-use Rattle.model.specs.Request.OperationLaws.{number_op_of}
+use Rattle.model.proofs.Request.OperationLaws.{number_op_of}
 use Rattle.model.specs.Request.Operations.{Op, number_of, op_of, operations, with_number}
 use Rattle.model.specs.Request.Words.{Request}
 

@@ -13,7 +13,7 @@ use Rattle.laws.specs.Bools.{either, joined}
 use Rattle.model.specs.Basics.Choice.{pick}
 use Rattle.model.specs.Basics.TestLaws.{T-l, T-r, only}
 use Rattle.model.specs.Basics.Tests.{every}
-use Rattle.model.specs.Request.AfterLaws.{effect_by}
+use Rattle.model.proofs.Request.AfterLaws.{effect_by}
 use Rattle.model.specs.Request.Asked.{Asked, asked, operand}
 use Rattle.model.specs.Request.Conditions.{Kind}
 use Rattle.model.specs.Request.Ladder.{answer, any_of, applies, ladder, never, of_number, own_rung, refused, rung_at, some_operand, wrong_kind}

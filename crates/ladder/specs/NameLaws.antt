@@ -13,11 +13,11 @@ use Rattle.ladder.specs.Path.{arity_of}
 use Rattle.laws.specs.Bools.{not_no}
 use Rattle.model.specs.Basics.Agree.{agrees_and, agrees_le}
 use Rattle.model.specs.Basics.TestLaws.{T-l, T-r, is_true}
-use Rattle.model.specs.Request.FitLaws.{operands_taken}
+use Rattle.model.proofs.Request.FitLaws.{operands_taken}
 use Rattle.model.specs.Request.Form.{taken}
 use Rattle.model.specs.Request.Conditions.{Kind}
 use Rattle.model.specs.Request.Ladder.{applies, fits, ladder, length_fits, never, not_understood, of_op, rung_at}
-use Rattle.model.specs.Request.OperationLaws.{number_range, op_of_number}
+use Rattle.model.proofs.Request.OperationLaws.{number_range, op_of_number}
 use Rattle.model.specs.Request.Operations.{Op, op_of, row_of}
 use Rattle.model.specs.Request.Words.{Reference, Request, name_count, request_of}
 use Rattle.model.specs.Request.Refusals as refusal

@@ -12,15 +12,15 @@ use Rattle.ladder.specs.declared.operands.Operand.TheVariants.{Fine, No}
 use Rattle.ladder.specs.declared.operands.Pair.TheVariants.{Both, Neither}
 use Rattle.tables.specs.declared.Entity.{Entity}
 use Rattle.model.specs.Basics.TestLaws.{only}
-use Rattle.model.specs.Request.FitLaws.{operands_taken}
+use Rattle.model.proofs.Request.FitLaws.{operands_taken}
 use Rattle.model.specs.Request.Form.{taken}
 use Rattle.model.specs.Request.Asked.{asked, basis_of, operand}
 use Rattle.model.specs.Request.Conditions.{Kind}
 use Rattle.model.specs.Request.Ladder.{bars, leads_nowhere, no_access, not_cleared, of_op, permits, some_operand}
-use Rattle.model.specs.Request.OperationLaws.{op_of_number}
+use Rattle.model.proofs.Request.OperationLaws.{op_of_number}
 use Rattle.model.specs.Request.Operations.{Op, number_of, op_of, row_of}
 use Rattle.model.specs.Request.Reference.{basis, resolve}
-use Rattle.model.specs.Request.ReferenceLaws.{leads_present, resolve_leads}
+use Rattle.model.proofs.Request.ReferenceLaws.{leads_present, resolve_leads}
 use Rattle.model.specs.Request.Refusals as refusal
 use Rattle.model.specs.Request.Words.{Reference, Request, names}
 use Rattle.model.specs.State.WellFormed.{WellFormed}

@@ -9,7 +9,7 @@ use Rattle.model.specs.Basics.Agree.{Agrees, agrees_T, agrees_and, agrees_eq, ag
 use Rattle.model.specs.Basics.TestLaws.{equal_bools}
 use Rattle.model.specs.BitLaws.{subset_mask}
 use Rattle.model.specs.Level.{Subset, at_most_over, rank, subset}
-use Rattle.model.specs.LevelLaws.{at_most_over→≤}
+use Rattle.model.proofs.LevelLaws.{at_most_over→≤}
 
 -- one, shifted by less than the width of a word, is the weight of that bit
 pub weight : (k : ℕ) → k < 32 → 1 * 2 ^ k % 4294967296 ≡ 2 ^ k

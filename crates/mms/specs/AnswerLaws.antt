@@ -14,8 +14,8 @@ use Rattle.model.specs.Request.Ladder.{not_logged_on, unknown_user}
 use Rattle.model.specs.Request.Words.{request_of, request_words}
 use Rattle.model.specs.State.Check.{check, judge, secure_test, well_formed_test}
 use Rattle.model.specs.Tables.Layout.{tables_of, word_count}
-use Rattle.model.specs.Text.BothWays.{read_number_small}
-use Rattle.model.specs.Text.BrokenLaws.{first_some, reads_broken}
+use Rattle.model.proofs.Text.BothWays.{read_number_small}
+use Rattle.model.proofs.Text.BrokenLaws.{first_some, reads_broken}
 use Rattle.model.specs.Text.Reading.{Reads, answer_in, line_in, read_answer, read_number, words_after, words_in}
 use Rattle.model.specs.Text.Unfinished.{line_total}
 use Rattle.model.specs.Text.Wording.{Lines, bad_line, lines, read_text}

@@ -16,7 +16,7 @@ use Rattle.model.specs.Text.Reading.{Reads}
 use Rattle.model.specs.Text.Writing.{Writes}
 use Rattle.model.specs.Tables.Layout.{word_count}
 use Rattle.model.specs.Theorem.Sequence.{Steps}
-use Rattle.model.specs.Theorem.Steps.{sized_agrees, unsized}
+use Rattle.model.proofs.Theorem.Steps.{sized_agrees, unsized}
 use Rattle.model.specs.Request.Refusals as refusal
 
 -- The check's word is the model's answer, and nothing goes with it.

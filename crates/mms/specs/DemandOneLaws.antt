@@ -18,7 +18,7 @@ use Rattle.mms.specs.Unique.{exported_write_unique}
 use Rattle.model.specs.Basics.Cases.{cases, lt_or_le}
 use Rattle.model.specs.Basics.Choice.{Same, it, other, same}
 use Rattle.model.specs.List.Listing.{barred, entries, entry_words}
-use Rattle.model.specs.List.ListingLaws.{lists_refused, lists_short, lists_written}
+use Rattle.model.proofs.List.ListingLaws.{lists_refused, lists_short, lists_written}
 use Rattle.model.specs.List.Ways.{found}
 use Rattle.model.specs.Request.Step.{after_of}
 use Rattle.model.specs.Run.Run.{run_answer, run_room, run_tables}
@@ -28,10 +28,10 @@ use Rattle.model.specs.Text.Reading.{read_answer, read_number, words_after}
 use Rattle.model.specs.Text.Writing.{bytes_after, write_answer, write_number}
 use Rattle.model.specs.Theorem.Definitions.{Quiet}
 use Rattle.model.specs.Theorem.Sequence.{Noticed}
-use Rattle.model.specs.Theorem.SequenceLaws.{answer_of_range, sequence_noticed}
-use Rattle.model.specs.Theorem.SequenceStep.{others_noticed}
+use Rattle.model.proofs.Theorem.SequenceLaws.{answer_of_range, sequence_noticed}
+use Rattle.model.proofs.Theorem.SequenceStep.{others_noticed}
 use Rattle.model.specs.Theorem.Statements.{SameNotice}
-use Rattle.model.specs.Theorem.Steps.{after_of_length, check_range, high_refusal_words, low_refusal_words}
+use Rattle.model.proofs.Theorem.Steps.{after_of_length, check_range, high_refusal_words, low_refusal_words}
 use Rattle.model.specs.Request.Refusals as refusal
 
 -- every user has a list of any words, in any room

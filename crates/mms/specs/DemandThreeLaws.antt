@@ -10,11 +10,11 @@ use Rattle.model.specs.Basics.Choice.{pick}
 use Rattle.model.specs.Basics.Fails.{fails_agreed, fails_le}
 use Rattle.model.specs.Basics.TestLaws.{holds_true, is_true, pick_false, pick_true}
 use Rattle.model.specs.List.Admitted.{Admitted}
-use Rattle.model.specs.List.AdmittedLaws.{admitted_barred, barred_admitted}
+use Rattle.model.proofs.List.AdmittedLaws.{admitted_barred, barred_admitted}
 use Rattle.model.specs.List.CompleteLaws.{complete_once}
 use Rattle.model.specs.List.Listing.{Lists, barred, entries, entry_words, opens, showing}
-use Rattle.model.specs.List.ListingLaws.{entries_length}
-use Rattle.model.specs.List.ShowLaws.{barred_answer, opens_agrees}
+use Rattle.model.proofs.List.ListingLaws.{entries_length}
+use Rattle.model.proofs.List.ShowLaws.{barred_answer, opens_agrees}
 use Rattle.model.specs.Request.Step.{answer_of}
 use Rattle.model.specs.Request.Words.{name_count}
 use Rattle.model.specs.Request.Refusals as refusal

@@ -5,7 +5,8 @@ use Rattle.mms.specs.CallLaws.{check_no, check_sound_lem, sound_check, step_no}
 use Rattle.mms.specs.Calls.{no_in}
 use Rattle.mms.specs.CheckLaws.{check_lowest_lem}
 use Rattle.mms.specs.Demands.{DemandTwo}
-use Rattle.mms.specs.HistoryLaws.{calls_accountable_lem, calls_fixed_lem, calls_history_lem, calls_obey_lem, calls_paper_lem, calls_released_lem, calls_sound_lem}
+use Rattle.mms.specs.HistoryLaws.{calls_accountable_lem, calls_fixed_lem, calls_history_lem, calls_obey_lem, calls_paper_lem, calls_released_lem}
+use Rattle.mms.specs.HistoryLaws.{calls_sound_lem}
 use Rattle.mms.specs.HistoryLaws.{step_effect_lem, step_released, step_transform_lem}
 use Rattle.mms.specs.MixedLaws.{mixed_history_lem, mixed_once_lem, mixed_through, through_run, through_singly}
 use Rattle.mms.specs.RunCallLaws.{run_accepts, run_nothing_lem, run_refuses, run_spare, run_through, run_unsound_lem}
@@ -14,14 +15,14 @@ use Rattle.mms.specs.TablesCallLaws.{tables_as_text}
 use Rattle.mms.specs.TextCallLaws.{others_refused_lem, read_length_lem, read_names_lem, read_only, read_refuses_lem, read_text_lem, read_written}
 use Rattle.mms.specs.TextCallLaws.{words_of_text_lem, write_length_lem, write_refuses_lem, write_text, written_read}
 use Rattle.model.specs.Request.Applies.{Lowest}
-use Rattle.model.specs.Request.AppliesLaws.{leads_operand, operand_leads}
+use Rattle.model.proofs.Request.AppliesLaws.{leads_operand, operand_leads}
 use Rattle.model.specs.Request.Step.{answer_of}
 use Rattle.model.specs.Request.Words.{request_of}
 use Rattle.model.specs.Run.Requests.{requests_in}
 use Rattle.model.specs.Run.RequestsLaws.{requests_are, requests_in_lem}
 use Rattle.model.specs.State.Check.{check}
 use Rattle.model.specs.Tables.Layout.{tables_of}
-use Rattle.model.specs.Theorem.Stated.{lowest_unique, words_stated}
+use Rattle.model.proofs.Theorem.Stated.{lowest_unique, words_stated}
 
 -- where P holds of the lowest number n, a call's answer that is n is that number and no other
 lowest_only : {P : ℕ → Type 0} (a n : ℕ) → no_in a ≡ n → Lowest P n → (m : ℕ) → (no_in a ≡ m) ↔ Lowest P m

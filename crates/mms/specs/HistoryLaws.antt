@@ -6,23 +6,23 @@ use Rattle.mms.specs.CallLaws.{answered_size, check_passes, check_sound_lem, pas
 use Rattle.mms.specs.Calls.{Passes, Sound, StepCall, StepCalls, no_in}
 use Rattle.mms.specs.Demands.{Effected, SecureHistory}
 use Rattle.model.specs.Request.After.{after}
-use Rattle.model.specs.Request.OperationLaws.{found_names}
+use Rattle.model.proofs.Request.OperationLaws.{found_names}
 use Rattle.model.specs.Request.Step.{after_of, answer_of}
 use Rattle.model.specs.Request.Words.{request_of, request_words}
 use Rattle.model.specs.State.Check.{check}
 use Rattle.model.specs.Tables.Layout.{tables_of, word_count}
 use Rattle.model.specs.Tables.Words.{Tables}
 use Rattle.model.specs.Theorem.Accountable.{Accountable}
-use Rattle.model.specs.Theorem.AccountableLaws.{steps_accountable}
+use Rattle.model.proofs.Theorem.AccountableLaws.{steps_accountable}
 use Rattle.model.specs.Theorem.Beyond.{OnlyReleased, ReleasedStays, SameDevices, SameUsers}
-use Rattle.model.specs.Theorem.BeyondLaws.{released_joined, released_now, words_devices_stay, words_only_released, words_released_stay}
-use Rattle.model.specs.Theorem.BeyondLaws.{words_users_stay}
-use Rattle.model.specs.Theorem.DefinitionLaws.{downgrade_stricter}
+use Rattle.model.proofs.Theorem.BeyondLaws.{released_joined, released_now, words_devices_stay, words_only_released, words_released_stay}
+use Rattle.model.proofs.Theorem.BeyondLaws.{words_users_stay}
+use Rattle.model.proofs.Theorem.DefinitionLaws.{downgrade_stricter}
 use Rattle.model.specs.Theorem.Definitions.{Obeys, PaperDowngradeSecure}
-use Rattle.model.specs.Theorem.Outcomes.{words_outcome}
+use Rattle.model.proofs.Theorem.Outcomes.{words_outcome}
 use Rattle.model.specs.Theorem.Sequence.{Steps}
-use Rattle.model.specs.Theorem.SequenceSecure.{checked_system, sequence_good, sequence_history, sequence_obeys, sequence_secure}
-use Rattle.model.specs.Theorem.Steps.{after_of_length, after_of_tables, sized_agrees}
+use Rattle.model.proofs.Theorem.SequenceSecure.{checked_system, sequence_good, sequence_history, sequence_obeys, sequence_secure}
+use Rattle.model.proofs.Theorem.Steps.{after_of_length, after_of_tables, sized_agrees}
 use Rattle.model.specs.Request.Refusals as refusal
 
 module _ {t q : List ℕ} {a : ℕ} {r : List ℕ} (x : StepCall t q a r) where

@@ -21,14 +21,14 @@ use Rattle.model.specs.Run.Requests.{AllSixteen, Requests}
 use Rattle.model.specs.Run.RequestsLaws.{requests_count, requests_whole}
 use Rattle.model.specs.Run.Run.{Sizes}
 use Rattle.model.specs.Run.Through.{Through, end, next}
-use Rattle.model.specs.Run.ThroughLaws.{through_append, through_length, through_numbered, through_unique}
+use Rattle.model.proofs.Run.ThroughLaws.{through_append, through_length, through_numbered, through_unique}
 use Rattle.model.specs.Tables.Layout.{tables_of, word_count}
 use Rattle.model.specs.Theorem.Accountable.{Accountable}
-use Rattle.model.specs.Theorem.AccountableLaws.{steps_accountable}
+use Rattle.model.proofs.Theorem.AccountableLaws.{steps_accountable}
 use Rattle.model.specs.Theorem.Beyond.{ReleasedStays, SameDevices, SameUsers}
 use Rattle.model.specs.Theorem.Sequence.{Steps}
-use Rattle.model.specs.Theorem.Steps.{nobody_words, sized_agrees, unsized}
-use Rattle.model.specs.Theorem.Unique.{settles}
+use Rattle.model.proofs.Theorem.Steps.{nobody_words, sized_agrees, unsized}
+use Rattle.model.proofs.Theorem.Unique.{settles}
 
 -- a call of the step is a step of the model
 pub call_settles : {t q r : List ℕ} {a : ℕ} → StepCall t q a r → Settles t q (no_in a) r

@@ -4,9 +4,9 @@ use Rattle.std.proofs.Common.{subst}
 use Rattle.mms.specs.Contract.{Reading, Writing}
 use Rattle.mms.specs.declared.Answer.{Answer}
 use Rattle.model.specs.Request.Words.{request_words}
-use Rattle.model.specs.Text.BothWays.{read_has, read_short, read_write, write_read, written_exactly}
+use Rattle.model.proofs.Text.BothWays.{read_has, read_short, read_write, write_read, written_exactly}
 use Rattle.model.specs.Text.Broken.{FirstBad, sorts}
-use Rattle.model.specs.Text.BrokenLaws.{broken_reads, reads_broken}
+use Rattle.model.proofs.Text.BrokenLaws.{broken_reads, reads_broken}
 use Rattle.model.specs.Text.Given.{HasText, Small}
 use Rattle.model.specs.Text.Reading.{Reads}
 use Rattle.model.specs.Text.Writing.{Writes}

@@ -11,13 +11,13 @@ use Rattle.model.specs.Basics.Choice.{pick}
 use Rattle.model.specs.Run.Requests.{Requests, request_count}
 use Rattle.model.specs.Run.RequestsLaws.{requests_are}
 use Rattle.model.specs.Run.Run.{Answers, Run, Sizes}
-use Rattle.model.specs.Run.RunLaws.{run_refused_lem, run_sized, run_unchecked}
+use Rattle.model.proofs.Run.RunLaws.{run_refused_lem, run_sized, run_unchecked}
 use Rattle.model.specs.Run.Through.{Through, end}
-use Rattle.model.specs.Run.ThroughLaws.{through_length, through_unique}
+use Rattle.model.proofs.Run.ThroughLaws.{through_length, through_unique}
 use Rattle.model.specs.State.AgreeSecure.{check_tables}
 use Rattle.model.specs.State.Check.{check, judge, secure_test, well_formed_test}
 use Rattle.model.specs.Tables.Layout.{tables_of, word_count}
-use Rattle.model.specs.Theorem.Steps.{check_range}
+use Rattle.model.proofs.Theorem.Steps.{check_range}
 use Rattle.model.specs.Request.Refusals as refusal
 
 -- of 2,304 words the check does not answer 1

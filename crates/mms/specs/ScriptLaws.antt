@@ -14,7 +14,7 @@ use Rattle.model.specs.Script.RunsLaws.{runs_report}
 use Rattle.model.specs.Tables.Layout.{tables_of}
 use Rattle.model.specs.Tables.Words.{first_noticed, held, missed}
 use Rattle.model.specs.Text.Wording.{Wording}
-use Rattle.model.specs.Theorem.SequenceUnique.{listed_steps}
+use Rattle.model.proofs.Theorem.SequenceUnique.{listed_steps}
 use Rattle.model.specs.Theorem.Statements.{after_words}
 use Rattle.model.specs.Request.Refusals as refusal
 

@@ -17,7 +17,7 @@ use Rattle.model.specs.Script.Runs.{Answered, Outputs, Runs, cut, requests, whol
 use Rattle.model.specs.Tables.Layout.{tables_of, word_count}
 use Rattle.model.specs.Text.Wording.{Wording, bad_line, lines, read_seven}
 use Rattle.model.specs.Text.WordingLaws.{text_there}
-use Rattle.model.specs.Text.WordsLaws.{sixteen_length}
+use Rattle.model.proofs.Text.WordsLaws.{sixteen_length}
 use Rattle.model.specs.Theorem.Accountable.{Accountable}
 
 -- the requests of wordings have sixteen words

@@ -11,9 +11,9 @@ use Rattle.model.specs.Basics.Choice.{Same, it, other, pick, same}
 use Rattle.model.specs.State.Check.{well_formed_test}
 use Rattle.model.specs.Tables.Layout.{tables_of, word_count}
 use Rattle.tables_text.specs.Calls.{ReadsTables, WritesTables, answer_in, line_in, read_answer, read_number, text_of_tables, write_answer, write_number}
-use Rattle.tables_text.specs.DueCallLaws.{reads_broken}
+use Rattle.tables_text.proofs.DueCallLaws.{reads_broken}
 use Rattle.tables_text.specs.LineMost.{line_most}
-use Rattle.tables_text.specs.LineMostLaws.{first_some, read_number_most}
+use Rattle.tables_text.proofs.LineMostLaws.{first_some, read_number_most}
 use Rattle.tables_text.specs.Stages.{Stage, past, reading, stuck}
 use Rattle.model.specs.Request.Refusals as refusal
 

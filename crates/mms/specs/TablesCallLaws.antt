@@ -12,21 +12,21 @@ use Rattle.model.specs.Basics.Cases.{cases, lt_or_le}
 use Rattle.model.specs.State.WellFormed.{WellFormed}
 use Rattle.model.specs.Tables.Layout.{tables_of, word_count}
 use Rattle.model.specs.Tables.Words.{Tables}
-use Rattle.tables_text.specs.CallLaws.{write_then_read_lem}
+use Rattle.tables_text.proofs.CallLaws.{write_then_read_lem}
 use Rattle.tables_text.specs.Calls.{ReadsTables, WritesTables, read_answer, read_number, room_after, tables_after, text_of_tables, write_answer, write_number}
 use Rattle.tables_text.specs.Due.{Whole, at_first}
-use Rattle.tables_text.specs.DueCallLaws.{broken_reads, reads_broken}
-use Rattle.tables_text.specs.DueLaws.{past_whole}
-use Rattle.tables_text.specs.DueOnceLaws.{whole_past}
+use Rattle.tables_text.proofs.DueCallLaws.{broken_reads, reads_broken}
+use Rattle.tables_text.proofs.DueLaws.{past_whole}
+use Rattle.tables_text.proofs.DueOnceLaws.{whole_past}
 use Rattle.tables_text.specs.Given.{Tells, TextOf}
-use Rattle.tables_text.specs.GivenLaws.{tells_once, tells_reading, tells_text, text_once, text_tells, words_once}
+use Rattle.tables_text.proofs.GivenLaws.{tells_once, tells_reading, tells_text, text_once, text_tells, words_once}
 use Rattle.tables_text.specs.Longest.{longest_text}
-use Rattle.tables_text.specs.LongestCallLaws.{number_longest}
-use Rattle.tables_text.specs.LongestLaws.{text_longest}
+use Rattle.tables_text.proofs.LongestCallLaws.{number_longest}
+use Rattle.tables_text.proofs.LongestLaws.{text_longest}
 use Rattle.tables_text.specs.LongestMetLaws.{longest_fit, longest_formed, longest_length, longest_met_lem}
 use Rattle.tables_text.specs.LongestTables.{longest_words}
-use Rattle.tables_text.specs.ReadLaws.{read_bad_exactly, read_exactly, read_refused, read_unformed_exactly, reads_text, text_reads}
-use Rattle.tables_text.specs.WriteLaws.{text_short, text_writes, write_refused, write_unformed_exactly}
+use Rattle.tables_text.proofs.ReadLaws.{read_bad_exactly, read_exactly, read_refused, read_unformed_exactly, reads_text, text_reads}
+use Rattle.tables_text.proofs.WriteLaws.{text_short, text_writes, write_refused, write_unformed_exactly}
 use Rattle.model.specs.Request.Refusals as refusal
 
 -- the words that C gets, by their halves

@@ -10,17 +10,17 @@ use Rattle.model.specs.Basics.Cases.{cases, lt_or_le}
 use Rattle.model.specs.Basics.Choice.{Same, it, other, pick, same}
 use Rattle.model.specs.Basics.TestLaws.{is_true}
 use Rattle.model.specs.Request.Words.{request_of, request_words}
-use Rattle.model.specs.Text.BothWays.{write_read}
+use Rattle.model.proofs.Text.BothWays.{write_read}
 use Rattle.model.specs.Text.Broken.{FirstBad, sorts}
-use Rattle.model.specs.Text.BrokenLaws.{broken_reads, reads_broken}
-use Rattle.model.specs.Text.CallLaws.{gives_reads, gives_short, gives_writes, reads_gives}
+use Rattle.model.proofs.Text.BrokenLaws.{broken_reads, reads_broken}
+use Rattle.model.proofs.Text.CallLaws.{gives_reads, gives_short, gives_writes, reads_gives}
 use Rattle.model.specs.Text.Given.{Gives, Small}
-use Rattle.model.specs.Text.GivenLaws.{gives_written, has_text_agrees}
+use Rattle.model.proofs.Text.GivenLaws.{gives_written, has_text_agrees}
 use Rattle.model.specs.Text.Reading.{Reads, answer_in, read_answer}
 use Rattle.model.specs.Text.Textual.{Textual, Written}
 use Rattle.model.specs.Text.Wording.{Lines, Wording, bad_line, lines, read_text, sixteen, text_of}
 use Rattle.model.specs.Text.WordingLaws.{whole_there}
-use Rattle.model.specs.Text.WordsLaws.{has_text_says, says_has_text}
+use Rattle.model.proofs.Text.WordsLaws.{has_text_says, says_has_text}
 use Rattle.model.specs.Text.Writing.{Writes, has_text, text_of_words, write_answer}
 use Rattle.model.specs.Request.Refusals as refusal
 

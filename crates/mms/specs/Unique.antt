@@ -6,15 +6,15 @@ use Rattle.mms.specs.Contract.{Exports, Listing, Reading, ReadingTables, Running
 use Rattle.mms.specs.declared.Answer.{Answer}
 use Rattle.model.specs.List.Complete.{Complete}
 use Rattle.model.specs.List.Listing.{barred, list_answer, list_number, opens, room_after}
-use Rattle.model.specs.List.ListingLaws.{lists_any, lists_small, lists_unique}
+use Rattle.model.proofs.List.ListingLaws.{lists_any, lists_small, lists_unique}
 use Rattle.model.specs.Request.Step.{Settles, after_of, answer_of}
 use Rattle.model.specs.Run.Run.{Run}
-use Rattle.model.specs.Run.RunLaws.{run_computed, run_unique}
-use Rattle.model.specs.Text.BothWays.{read_number_small, reads_unique, write_number_small, writes_unique}
-use Rattle.model.specs.Theorem.Unique.{settles, settles_unique}
-use Rattle.tables_text.specs.CallLaws.{reads_unique as tables-reads-unique, writes_unique as tables-writes-unique}
-use Rattle.tables_text.specs.LineMostLaws.{read_number_most}
-use Rattle.tables_text.specs.LongestCallLaws.{number_longest}
+use Rattle.model.proofs.Run.RunLaws.{run_computed, run_unique}
+use Rattle.model.proofs.Text.BothWays.{read_number_small, reads_unique, write_number_small, writes_unique}
+use Rattle.model.proofs.Theorem.Unique.{settles, settles_unique}
+use Rattle.tables_text.proofs.CallLaws.{reads_unique as tables-reads-unique, writes_unique as tables-writes-unique}
+use Rattle.tables_text.proofs.LineMostLaws.{read_number_most}
+use Rattle.tables_text.proofs.LongestCallLaws.{number_longest}
 
 -- The state check has one answer.
 pub check_unique : (t : List ℕ) (a b : Answer) → a ≡ checking t → b ≡ checking t → a ≡ b

@@ -5,9 +5,6 @@ pub mod Triples
 pub mod Places
 pub mod Screens
 pub mod WordsLaws
-pub mod NoticeLaws
 pub mod TriplesLaws
 pub mod PutLaws
-pub mod ScreensLaws
-pub mod PlacesLaws
 pub mod ShowLaws

@@ -6,15 +6,10 @@ pub mod Complete
 pub mod CompleteLaws
 pub mod Listing
 pub mod Admitted
-pub mod AdmittedLaws
 pub mod Walk
 pub mod WalkLaws
 pub mod Reach
 pub mod BoundLaws
 pub mod Ways
 pub mod Further
-pub mod AnswerLaws
-pub mod ShowLaws
-pub mod ListingLaws
 pub mod Readable
-pub mod ReadableLaws

@@ -11,17 +11,7 @@ pub mod Step
 pub mod Form
 pub mod Allowed
 pub mod Applies
-pub mod ReferenceLaws
-pub mod OperationLaws
 pub mod LadderLaws
 pub mod RefusedLaws
-pub mod TestLaws
-pub mod ConditionLaws
-pub mod FitLaws
-pub mod AfterLaws
-pub mod RungLaws
-pub mod AppliesLaws
 pub mod RoomLaws
 pub mod OneWordLaws
-pub mod OwnTestLaws
-pub mod OwnLaws

@@ -3,5 +3,3 @@ pub mod Requests
 pub mod Through
 pub mod Run
 pub mod RequestsLaws
-pub mod ThroughLaws
-pub mod RunLaws

@@ -3,8 +3,4 @@ pub mod State
 pub mod Reports
 pub mod Runs
 pub mod RunsLaws
-pub mod StateLaws
 pub mod Windows
-pub mod ReportLaws
-pub mod WindowLaws
-pub mod FedLaws

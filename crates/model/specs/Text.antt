@@ -13,10 +13,5 @@ pub mod WeightLaws
 pub mod NearLaws
 pub mod Writing
 pub mod Reading
-pub mod WordsLaws
 pub mod Given
-pub mod GivenLaws
-pub mod CallLaws
-pub mod BothWays
 pub mod Broken
-pub mod BrokenLaws

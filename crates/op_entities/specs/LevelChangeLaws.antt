@@ -12,7 +12,7 @@ use Rattle.model.specs.Basics.TestLaws.{T-r, every_same, is_true}
 use Rattle.model.specs.Basics.Tests.{every, imp}
 use Rattle.model.specs.Effect.Words.{set_level}
 use Rattle.model.specs.Level.{AtMost, at_most}
-use Rattle.model.specs.LevelLaws.{at_most_ordered}
+use Rattle.model.proofs.LevelLaws.{at_most_ordered}
 use Rattle.model.specs.State.AgreeSecure.{secure_agrees}
 use Rattle.model.specs.State.Check.{ceiling_test, contained_test, labelled_test, roles_test, secure_test, seen_test}
 use Rattle.model.specs.State.Depth.{direct}

@@ -11,7 +11,7 @@ use Rattle.model.specs.Text.Wording.{user_key}
 use Rattle.tables_text.specs.Calls.{text_of_tables}
 use Rattle.tables_text.specs.Keys.{content_key, entity_fields, entity_key, triple_key, triples_key, user_fields}
 use Rattle.tables_text.specs.TextOf.{entity_text, entity_words, field_lines, place_at, series, tables_text, triple_at, triple_count, user_text, user_words}
-use Rattle.tables_text.specs.ToldLaws.{entity_present, user_present}
+use Rattle.tables_text.proofs.ToldLaws.{entity_present, user_present}
 use Rattle.tables_text.specs.Values.{number_line, place_line, triple_line}
 use Rattle.record_writer.specs.LineLaws.{part, place_is, place_rest, triple_is, triple_rest}
 

@@ -3,7 +3,7 @@ use Rattle.std.specs.Prelude.{List, [], ◌++◌, ◌≡◌, refl, ◌*◌, ◌+
 use Rattle.std.proofs.Common.{append_assoc, append-nil, ◌∙◌, ap, sym, arith, length-append}
 use Rattle.lines.specs.Onto.{Puts}
 use Rattle.lines.specs.PutsLaws.{puts_none, puts_puts, room_after_lem}
-use Rattle.tables_text.specs.LongestLineLaws.{series_length}
+use Rattle.tables_text.proofs.LongestLineLaws.{series_length}
 use Rattle.tables_text.specs.TextOf.{series}
 use Rattle.tables_text.specs.TotalLaws.{total_const, total_le}
 

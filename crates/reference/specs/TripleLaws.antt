@@ -13,7 +13,7 @@ use Rattle.model.specs.Basics.Tests.{every}
 use Rattle.model.specs.Level.{bit}
 use Rattle.model.specs.Request.Allowed.{Permitted}
 use Rattle.model.specs.Request.Ladder.{permits}
-use Rattle.model.specs.Request.TestLaws.{permits_agrees}
+use Rattle.model.proofs.Request.TestLaws.{permits_agrees}
 use Rattle.model.specs.Tables.Words.{Tables, current, operation_count, operation_weight, place_count, position_count, triple_of, triples}
 use Rattle.model.specs.Tables.Words.{who_most, who_of, who_role, who_weight}
 use Rattle.reference.specs.Ways.{admits}

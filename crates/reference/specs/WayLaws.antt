@@ -16,7 +16,7 @@ use Rattle.model.specs.Basics.TestLaws.{holds_true}
 use Rattle.model.specs.Level.{at_most}
 use Rattle.model.specs.Request.Ladder.{bars}
 use Rattle.model.specs.Request.Reference.{Present, basis, follow, passed, place_test, present_test, resolve, standing}
-use Rattle.model.specs.Request.ReferenceLaws.{place_agrees, present_agrees}
+use Rattle.model.proofs.Request.ReferenceLaws.{place_agrees, present_agrees}
 use Rattle.model.specs.Request.Refusals as refusal
 use Rattle.model.specs.State.WellFormed.{WellFormed}
 use Rattle.model.specs.Tables.Words.{Tables, used_places, entity_count, level, mark, places}

@@ -2,8 +2,8 @@
 use Rattle.std.specs.Prelude.{List, ◌≡◌, ◌+◌, ◌<◌, ◌≤◌, ℕ, length}
 use Rattle.std.proofs.Common.{arith}
 use Rattle.model.specs.Request.Words.{Reference, name_count, names, request_of}
-use Rattle.model.specs.Text.BothWays.{text_longest}
-use Rattle.model.specs.Text.GivenLaws.{names_few}
+use Rattle.model.proofs.Text.BothWays.{text_longest}
+use Rattle.model.proofs.Text.GivenLaws.{names_few}
 use Rattle.model.specs.Text.LineLaws.{length_line}
 use Rattle.model.specs.Text.NumberLaws.{length_most}
 use Rattle.model.specs.Text.Numbers.{digit_count, digits}

@@ -7,11 +7,11 @@ use Rattle.model.specs.Request.Words.{request_words}
 use Rattle.model.specs.Run.Requests.{request_count, requests_in}
 use Rattle.model.specs.Run.RequestsLaws.{first_at, first_length}
 use Rattle.model.specs.Run.Through.{answers_to}
-use Rattle.model.specs.Run.ThroughLaws.{answers_length, answers_next}
+use Rattle.model.proofs.Run.ThroughLaws.{answers_length, answers_next}
 use Rattle.model.specs.State.Check.{check}
-use Rattle.model.specs.Theorem.SequenceUnique.{after_words_next}
+use Rattle.model.proofs.Theorem.SequenceUnique.{after_words_next}
 use Rattle.model.specs.Theorem.Statements.{after_words}
-use Rattle.model.specs.Theorem.Steps.{check_stays}
+use Rattle.model.proofs.Theorem.Steps.{check_stays}
 use Rattle.run.specs.Contract.{AnsweredAll, Going, RunReady}
 use Rattle.step.specs.Contract.{Checked, Settled}
 

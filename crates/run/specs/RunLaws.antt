@@ -2,7 +2,7 @@
 use Rattle.std.specs.Prelude.{List, ℕ}
 use Rattle.std.proofs.Common.{◌∙◌, sym}
 use Rattle.model.specs.Run.Run.{Sizes}
-use Rattle.model.specs.Run.RunLaws.{run_done_lem, run_other}
+use Rattle.model.proofs.Run.RunLaws.{run_done_lem, run_other}
 use Rattle.run.specs.Contract.{AnsweredAll, RunSettled}
 use Rattle.model.specs.Request.Refusals as refusal
 

@@ -6,7 +6,7 @@ use Rattle.lines.specs.OntoLaws.{wrote_length, wrote_none, wrote_puts}
 use Rattle.model.specs.Basics.Cases.{cases, true_or_false}
 use Rattle.model.specs.Basics.Choice.{pick}
 use Rattle.model.specs.Request.Step.{after_of}
-use Rattle.model.specs.Script.ReportLaws.{report_length}
+use Rattle.model.proofs.Script.ReportLaws.{report_length}
 use Rattle.model.specs.Script.Reports as model
 use Rattle.model.specs.Script.Reports.{output, report, report_text, unread}
 use Rattle.model.specs.Script.Windows as windows

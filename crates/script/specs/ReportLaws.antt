@@ -9,17 +9,17 @@ use Rattle.model.specs.Basics.Cases.{cases, true_or_false}
 use Rattle.model.specs.Basics.TestLaws.{is_false, is_true}
 use Rattle.model.specs.Request.Allowed.{Known}
 use Rattle.model.specs.Request.Ladder.{applies, ladder, rung_at, unknown_user}
-use Rattle.model.specs.Request.RungLaws.{unknown_user_fails}
+use Rattle.model.proofs.Request.RungLaws.{unknown_user_fails}
 use Rattle.model.specs.Request.Step.{Settles, after_of, answer_of, sized}
 use Rattle.model.specs.Request.Words.{request_of}
-use Rattle.model.specs.Script.ReportLaws.{report_length}
+use Rattle.model.proofs.Script.ReportLaws.{report_length}
 use Rattle.model.specs.Script.Reports.{answer_key, bare, held_key, missed_key, report, report_text, untold}
 use Rattle.model.specs.Script.Windows.{report_bytes}
 use Rattle.model.specs.Tables.Layout.{tables_of}
 use Rattle.model.specs.Text.Lines.{line}
 use Rattle.model.specs.Text.Numbers.{digits}
-use Rattle.model.specs.Theorem.Steps.{after_of_length, sized_agrees, unsized}
-use Rattle.model.specs.Theorem.Unique.{settles}
+use Rattle.model.proofs.Theorem.Steps.{after_of_length, sized_agrees, unsized}
+use Rattle.model.proofs.Theorem.Unique.{settles}
 use Rattle.script.specs.Reported.{Settled, from_code, holding, in_code}
 use Rattle.script.specs.declared.reports.Report.{Report}
 use Rattle.step.specs.Contract as step

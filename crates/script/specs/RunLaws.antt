@@ -5,7 +5,7 @@ use Rattle.std.proofs.Math.Path.{ap, sym}
 use Rattle.model.specs.Basics.Choice.{pick}
 use Rattle.model.specs.Request.Step.{after_of}
 use Rattle.model.specs.Script.Reports.{Report, output, report, report_text}
-use Rattle.model.specs.Script.WindowLaws.{ran_fits, ran_fuel}
+use Rattle.model.proofs.Script.WindowLaws.{ran_fits, ran_fuel}
 use Rattle.model.specs.Script.Windows.{broken, waiting, onward, preceded, ran, report_bytes, run, stopped}
 use Rattle.model.specs.Text.NearLaws.{read_shorter}
 use Rattle.model.specs.Text.Unfinished.{unfinished}

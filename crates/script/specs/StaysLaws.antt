@@ -8,7 +8,7 @@ use Rattle.model.specs.Script.Windows.{broken, onward, ran, run, stopped, waitin
 use Rattle.model.specs.State.Check.{check}
 use Rattle.model.specs.Text.Unfinished.{unfinished}
 use Rattle.model.specs.Text.Wording.{Lines, bad_line, lines, read_seven, sixteen}
-use Rattle.model.specs.Theorem.Steps.{check_stays}
+use Rattle.model.proofs.Theorem.Steps.{check_stays}
 use Rattle.script.specs.Running.{RunsOn}
 use Rattle.script.specs.Turn.{Turns, left_by}
 use Rattle.script.specs.declared.runs.Ran.{Ran}

@@ -8,7 +8,7 @@ use Rattle.model.specs.Basics.Cases.{cases, true_or_false}
 use Rattle.model.specs.Script.Reports.{output}
 use Rattle.model.specs.Script.Runs.{Answered, Outputs}
 use Rattle.model.specs.Script.RunsLaws.{runs_shorter}
-use Rattle.model.specs.Script.WindowLaws.{fed_answered, ran_rest_short, ran_runs}
+use Rattle.model.proofs.Script.WindowLaws.{fed_answered, ran_rest_short, ran_runs}
 use Rattle.model.specs.Script.Windows.{Fed, done, ran, report_bytes}
 use Rattle.model.specs.Text.Unfinished.{ends, line_total, longest, unfinished}
 use Rattle.script.specs.Running.{RunsOn}

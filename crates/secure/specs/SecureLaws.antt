@@ -10,7 +10,7 @@ use Rattle.model.specs.Basics.Choice.{Below, below, over, pick, under}
 use Rattle.model.specs.Basics.TestLaws.{equal_bools, every_same, holds_true, is_true}
 use Rattle.model.specs.Basics.Tests.{every, imp}
 use Rattle.model.specs.Level.{AtMost, at_most, role_count, subset}
-use Rattle.model.specs.LevelLaws.{at_most_ordered}
+use Rattle.model.proofs.LevelLaws.{at_most_ordered}
 use Rattle.model.specs.State.Check.{ceiling_test, contained_test, labelled_test, roles_test, secure_test, seen_test}
 use Rattle.model.specs.State.Secure.{labelled}
 use Rattle.model.specs.Tables.Layout.{Bounded}

@@ -21,8 +21,8 @@ use Rattle.model.specs.Request.LadderLaws.{of_op_some}
 use Rattle.model.specs.Request.Operations.{Op, number_of, op_of, operations, row_of}
 use Rattle.model.specs.Request.Refusals as refusal
 use Rattle.model.specs.Request.Reference.{resolve}
-use Rattle.model.specs.Request.ReferenceLaws.{leads_present, resolve_leads}
-use Rattle.model.specs.Request.RungLaws.{leads_nowhere_fails, not_understood_fails}
+use Rattle.model.proofs.Request.ReferenceLaws.{leads_present, resolve_leads}
+use Rattle.model.proofs.Request.RungLaws.{leads_nowhere_fails, not_understood_fails}
 use Rattle.model.specs.Request.Words.{Request, names, request_of}
 use Rattle.model.specs.State.WellFormed.{WellFormed}
 use Rattle.model.specs.Tables.Layout.{tables_of}

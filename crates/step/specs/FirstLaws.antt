@@ -13,10 +13,10 @@ use Rattle.laws.specs.Bools.{and_l, and_r}
 use Rattle.model.specs.Basics.Agree.{agrees_eq, agrees_not, every_at}
 use Rattle.model.specs.Basics.Tests.{every}
 use Rattle.model.specs.Request.After.{noticed_op}
-use Rattle.model.specs.Request.AfterLaws.{after_unchanged}
+use Rattle.model.proofs.Request.AfterLaws.{after_unchanged}
 use Rattle.model.specs.Request.Ladder.{answer, applies, fits, ladder, never, not_logged_on, not_understood, of_op, rung_at, unknown_user}
 use Rattle.model.specs.Request.LadderLaws.{of_op_some}
-use Rattle.model.specs.Request.OperationLaws.{number_range, op_of_number}
+use Rattle.model.proofs.Request.OperationLaws.{number_range, op_of_number}
 use Rattle.model.specs.Request.Operations.{Op, number_of, op_of, open_logged_off, operations, to_acknowledge, to_login, with_number}
 use Rattle.model.specs.Request.Refusals as refusal
 use Rattle.model.specs.Request.Step.{after_of, sized}
@@ -27,7 +27,7 @@ use Rattle.model.specs.State.Secure.{Good}
 use Rattle.model.specs.Tables.Layout.{tables_of, word_count}
 use Rattle.model.specs.Tables.Words.{device, operation_count, present, user_count}
 use Rattle.model.specs.Tables.WordsOfLaws.{tables_of_injective}
-use Rattle.model.specs.Theorem.Steps.{after_of_length, after_of_tables, answer_of_sized, check_refuses, sized_agrees, unsized}
+use Rattle.model.proofs.Theorem.Steps.{after_of_length, after_of_tables, answer_of_sized, check_refuses, sized_agrees, unsized}
 use Rattle.step.specs.Contract.{Checked, Settled}
 use Rattle.step.specs.DispatchLaws.{understood}
 use Rattle.tables.specs.Singles.{known}

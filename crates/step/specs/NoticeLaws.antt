@@ -6,7 +6,7 @@ use Rattle.laws.specs.Bools.{clash}
 use Rattle.model.specs.Basics.Choice.{Below, below, over, under}
 use Rattle.model.specs.Effect.Notice.{missed_more, notice, noticing}
 use Rattle.model.specs.Request.After.{noticed_op}
-use Rattle.model.specs.Request.AfterLaws.{after_accepted, after_noticed}
+use Rattle.model.proofs.Request.AfterLaws.{after_accepted, after_noticed}
 use Rattle.model.specs.Request.Ladder.{answer, applies}
 use Rattle.model.specs.Request.LadderLaws.{answer_is}
 use Rattle.model.specs.Request.Refusals as refusal
@@ -14,7 +14,8 @@ use Rattle.model.specs.Request.Words.{Request, request_of}
 use Rattle.model.specs.Tables.Edits.{◌and◌, on_user, user_word, written}
 use Rattle.model.specs.Tables.Layout.{tables_of}
 use Rattle.model.specs.Tables.StoreLaws.{user_alike, user_twice}
-use Rattle.model.specs.Tables.Words.{Tables, UserWord, authorised, clearance, current, device, first_noticed, held, held_op, missed, missed_most, present, spare}
+use Rattle.model.specs.Tables.Words.{Tables, UserWord, authorised, clearance, current, device, first_noticed, held, held_op, missed, missed_most, present}
+use Rattle.model.specs.Tables.Words.{spare}
 
 module _ (d : Tables) (u n o m : ℕ) (h : m ≡ missed_more (ltb (d.user u missed) missed_most) (d.user u missed)) where
   -- something was held: only the number of missed ones grows

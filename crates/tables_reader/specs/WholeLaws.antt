@@ -21,7 +21,7 @@ use Rattle.tables_reader.specs.Blank.{blank}
 use Rattle.tables_text.specs.Calls.{ReadsTables, line_of, read_answer, read_number, tables_after}
 use Rattle.tables_text.specs.EndsLaws.{ends_append}
 use Rattle.tables_text.specs.LineMost.{line_most}
-use Rattle.tables_text.specs.LineMostLaws.{line_most_lem}
+use Rattle.tables_text.proofs.LineMostLaws.{line_most_lem}
 use Rattle.tables_text.specs.Stages.{Stage, at_end, entities_stage, no_tables, onward, reading, users_stage}
 use Rattle.model.specs.Request.Refusals as refusal
 

@@ -8,11 +8,11 @@ use Rattle.model.specs.Text.NumberLaws.{length_most}
 use Rattle.model.specs.Text.Numbers.{digit_count, digits}
 use Rattle.model.specs.Text.Wording.{user_key}
 use Rattle.tables.specs.Singles.{single_count}
-use Rattle.tables_text.specs.EntityLaws.{count_most}
+use Rattle.tables_text.proofs.EntityLaws.{count_most}
 use Rattle.tables_text.specs.Keys.{Field, content_key, entity_fields, entity_key, triple_key, triples_key, user_fields}
-use Rattle.tables_text.specs.LongestLineLaws.{fields_length, number_length, series_length}
+use Rattle.tables_text.proofs.LongestLineLaws.{fields_length, number_length, series_length}
 use Rattle.tables_text.specs.TextOf.{entity_text, entity_words, field_lines, place_at, series, triple_at, triple_count, user_text, user_words}
-use Rattle.tables_text.specs.ToldLaws.{entity_absent, entity_present, user_absent_lem, user_present}
+use Rattle.tables_text.proofs.ToldLaws.{entity_absent, entity_present, user_absent_lem, user_present}
 use Rattle.tables_text.specs.Total.{total}
 use Rattle.tables_text.specs.Values.{number_line, triple_line}
 use Rattle.record_writer.specs.FieldAt.{digits_at, user_field_count}

@@ -13,7 +13,7 @@ use Rattle.model.specs.List.Admitted.{Admitted}
 use Rattle.verdicts.specs.Verdicts.{Guided, Judged, leads, listed, verdict, way_weight}
 use Rattle.model.specs.Basics.Choice.{Below, Same, below, it, other, over, pick, same, under}
 use Rattle.model.specs.Level.{at_most}
-use Rattle.model.specs.List.ListingLaws.{ways_used}
+use Rattle.model.proofs.List.ListingLaws.{ways_used}
 use Rattle.model.specs.List.Walk.{walk}
 use Rattle.model.specs.List.Ways.{found, showable, ways}
 use Rattle.model.specs.Request.Conditions.{is_entity}

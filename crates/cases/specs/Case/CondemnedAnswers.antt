@@ -14,7 +14,7 @@ use Rattle.model.specs.Request.Words.{Request, request_of}
 use Rattle.model.specs.Run.Requests.{Requests}
 use Rattle.model.specs.Run.RequestsLaws.{requests_count, requests_whole}
 use Rattle.model.specs.Run.Run.{Run, Sizes}
-use Rattle.model.specs.Run.RunLaws.{run_refused_lem, run_sized, run_unique}
+use Rattle.model.proofs.Run.RunLaws.{run_refused_lem, run_sized, run_unique}
 use Rattle.model.specs.Tables.Layout.{tables_of, word_count}
 use Rattle.model.specs.Tables.Sheet.{padded}
 use Rattle.model.specs.Tables.Words.{Tables, held, held_op, missed, released_type, type}

@@ -12,11 +12,11 @@ use Rattle.model.specs.Level.{bit}
 use Rattle.model.specs.Request.Allowed.{Meant, Open, Operand, Permitted}
 use Rattle.model.specs.Request.Form.{taken}
 use Rattle.model.specs.Request.Asked.{asked, basis_of, operand}
-use Rattle.model.specs.Request.FitLaws.{fits_agrees}
+use Rattle.model.proofs.Request.FitLaws.{fits_agrees}
 use Rattle.model.specs.Request.Ladder.{fits, permits}
-use Rattle.model.specs.Request.OperationLaws.{names_found, number_range}
+use Rattle.model.proofs.Request.OperationLaws.{names_found, number_range}
 use Rattle.model.specs.Request.Operations.{Op, number_of, op_of, to_clear, to_copy, to_edit, to_login, to_show}
-use Rattle.model.specs.Request.TestLaws.{permits_agrees}
+use Rattle.model.proofs.Request.TestLaws.{permits_agrees}
 use Rattle.model.specs.Request.Words.{Request}
 use Rattle.model.specs.Tables.Edits.{◌and◌, on_entity, on_user, user_word, word}
 use Rattle.model.specs.Tables.Words.{EntityWord, Tables, device, id_bit, operation_count, place, shown, sums, used, used_places, value}

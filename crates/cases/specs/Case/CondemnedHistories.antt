@@ -12,7 +12,7 @@ use Rattle.model.specs.Basics.Cases.{cases, lt_or_le}
 use Rattle.model.specs.Basics.Choice.{pick}
 use Rattle.model.specs.Basics.TestLaws.{T-l, T-r}
 use Rattle.model.specs.Level.{Drops}
-use Rattle.model.specs.LevelLaws.{drops_differs, incomparable}
+use Rattle.model.proofs.LevelLaws.{drops_differs, incomparable}
 use Rattle.model.specs.Request.After.{after}
 use Rattle.model.specs.Request.Conditions.{level_of}
 use Rattle.model.specs.Request.Ladder.{answer}
@@ -21,7 +21,7 @@ use Rattle.model.specs.State.Agree.{well_formed_bounded}
 use Rattle.model.specs.Tables.Edits.{on_entity, on_user, user_word, word}
 use Rattle.model.specs.Tables.Words.{Tables, absent_kind, container_kind, device, kinds, level}
 use Rattle.model.specs.Theorem.Accountable.{Accountable, Accounted, MayDrop, Throughout, level_at}
-use Rattle.model.specs.Theorem.AccountableLaws.{history_accountable}
+use Rattle.model.proofs.Theorem.AccountableLaws.{history_accountable}
 use Rattle.model.specs.Theorem.Definitions.{History}
 use Rattle.model.specs.Request.Refusals as refusal
 

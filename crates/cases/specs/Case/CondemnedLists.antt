@@ -6,7 +6,7 @@ use Rattle.cases.specs.Case.Condemned.{differ}
 use Rattle.cases.specs.Case.S1List.{s1_list_2, s1_list_2_short, s1_list_off, s1_list_unmarked, s1_unmarked}
 use Rattle.cases.specs.Case.S1Words.{s1_words}
 use Rattle.model.specs.List.Listing.{Lists}
-use Rattle.model.specs.List.ListingLaws.{lists_unique}
+use Rattle.model.proofs.List.ListingLaws.{lists_unique}
 use Rattle.model.specs.Request.Refusals as refusal
 
 -- Rule 10.2: the desk offered a list to user 3, who is off.

@@ -9,7 +9,7 @@ use Rattle.cases.specs.Case.S1.{s1, s1_sheet}
 use Rattle.cases.specs.Case.S1Words.{s1_words, s1_words_length, s1_words_tables}
 use Rattle.model.specs.Request.After.{after}
 use Rattle.model.specs.Request.Words.{name_count, request_of}
-use Rattle.model.specs.Script.ReportLaws.{report_told, told}
+use Rattle.model.proofs.Script.ReportLaws.{report_told, told}
 use Rattle.model.specs.Script.Reports.{Report, unread, untold}
 use Rattle.model.specs.Script.Runs.{Answered, cut, texts, whole}
 use Rattle.model.specs.Script.RunsLaws.{answered_unique, reports_of, texts_runs}
@@ -19,8 +19,8 @@ use Rattle.model.specs.Text.Lines.{read_line}
 use Rattle.model.specs.Text.Numbers.{most}
 use Rattle.model.specs.Text.Textual.{AllFit, Written}
 use Rattle.model.specs.Text.Wording.{Wording, bad_line, read_seven, sixteen}
-use Rattle.model.specs.Text.WordsLaws.{sixteen_length}
-use Rattle.model.specs.Theorem.Steps.{after_of_length, after_of_tables, sized_agrees}
+use Rattle.model.proofs.Text.WordsLaws.{sixteen_length}
+use Rattle.model.proofs.Theorem.Steps.{after_of_length, after_of_tables, sized_agrees}
 
 -- ---- reports by tables
 

@@ -20,7 +20,7 @@ use Rattle.model.specs.Text.Lines.{line}
 use Rattle.model.specs.Text.Numbers.{digits}
 use Rattle.tables_text.specs.Calls.{text_of_tables}
 use Rattle.tables_text.specs.Given.{TextOf}
-use Rattle.tables_text.specs.GivenLaws.{formed}
+use Rattle.tables_text.proofs.GivenLaws.{formed}
 use Rattle.tables_text.specs.LongestTables.{full_device, full_entity, full_thing, full_user, longest_tables}
 use Rattle.tables_text.specs.Stages.{no_tables}
 use Rattle.tables_text.specs.TextOf.{entity_lines, entity_text, field_lines, series, tables_text, user_lines, user_text}

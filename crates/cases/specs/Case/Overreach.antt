@@ -16,11 +16,11 @@ use Rattle.model.specs.Request.Operations.{Op, to_copy}
 use Rattle.model.specs.Request.Words.{Request}
 use Rattle.model.specs.State.Agree.{well_formed_bounded}
 use Rattle.model.specs.Tables.Words.{Tables, value}
-use Rattle.model.specs.Theorem.Acceptance.{accepted}
+use Rattle.model.proofs.Theorem.Acceptance.{accepted}
 use Rattle.model.specs.Theorem.Definitions.{Obeys}
-use Rattle.model.specs.Theorem.Lawful.{flows_upward}
+use Rattle.model.proofs.Theorem.Lawful.{flows_upward}
 use Rattle.model.specs.Theorem.MayChange.{Frame}
-use Rattle.model.specs.Theorem.System.{request_obeys}
+use Rattle.model.proofs.Theorem.System.{request_obeys}
 use Rattle.model.specs.Request.Refusals as refusal
 
 -- the request, and what the desk makes of it

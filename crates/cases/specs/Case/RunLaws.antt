@@ -12,8 +12,8 @@ use Rattle.model.specs.Run.Through.{Through, end, next}
 use Rattle.model.specs.Tables.Layout.{tables_of, word_count}
 use Rattle.model.specs.Tables.Words.{Tables}
 use Rattle.model.specs.Theorem.Statements.{after_words}
-use Rattle.model.specs.Theorem.Steps.{after_of_length, after_of_tables, answer_of_sized, sized_agrees}
-use Rattle.model.specs.Theorem.Unique.{settles}
+use Rattle.model.proofs.Theorem.Steps.{after_of_length, after_of_tables, answer_of_sized, sized_agrees}
+use Rattle.model.proofs.Theorem.Unique.{settles}
 
 pub asked_length : (es : List Exchange) → length (asked es) ≡ length es
 asked_length [] = refl

@@ -10,7 +10,7 @@ use Rattle.model.specs.State.Secure.{Good}
 use Rattle.model.specs.Tables.Sheet.{sheet_tables}
 use Rattle.model.specs.Tables.SheetLaws.{sheet_bounded}
 use Rattle.model.specs.Theorem.Definitions.{SystemSecure}
-use Rattle.model.specs.Theorem.System.{system_secure}
+use Rattle.model.proofs.Theorem.System.{system_secure}
 
 pub s1_judged : judge s1 ≡ 0
 unfolding opened s1 s1_sheet

@@ -7,9 +7,9 @@ use Rattle.cases.specs.Case.Opened.{opened_list}
 use Rattle.cases.specs.Case.S1.{s1, s1_sheet}
 use Rattle.cases.specs.Case.S1Words.{s1_words, s1_words_checked, s1_words_length, s1_words_tables}
 use Rattle.model.specs.Effect.Words.{set_mark}
-use Rattle.model.specs.List.AdmittedLaws.{barred_checked}
+use Rattle.model.proofs.List.AdmittedLaws.{barred_checked}
 use Rattle.model.specs.List.Listing.{Lists, barred, entries}
-use Rattle.model.specs.List.ListingLaws.{lists_found, lists_found_short, lists_refused}
+use Rattle.model.proofs.List.ListingLaws.{lists_found, lists_found_short, lists_refused}
 use Rattle.model.specs.List.Ways.{found}
 use Rattle.model.specs.State.AgreeSecure.{check_tables}
 use Rattle.model.specs.State.Check.{check, judge}

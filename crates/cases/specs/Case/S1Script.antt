@@ -9,16 +9,16 @@ use Rattle.cases.specs.Case.S1Words.{s1_entities, s1_users, s1_words, s1_words_a
 use Rattle.model.specs.Request.After.{after}
 use Rattle.model.specs.Request.Step.{after_of}
 use Rattle.model.specs.Request.Words.{request_of}
-use Rattle.model.specs.Script.ReportLaws.{report_told, told}
+use Rattle.model.proofs.Script.ReportLaws.{report_told, told}
 use Rattle.model.specs.Script.Reports.{Report, output, report, report_text, untold}
 use Rattle.model.specs.Script.Runs.{Outputs, stay, turn, whole}
 use Rattle.model.specs.Script.RunsLaws.{outputs_unique}
 use Rattle.model.specs.Script.State.{bytes_of, state_of}
-use Rattle.model.specs.Script.StateLaws.{state_bytes}
+use Rattle.model.proofs.Script.StateLaws.{state_bytes}
 use Rattle.model.specs.Text.Lines.{line, read_line}
 use Rattle.model.specs.Text.Numbers.{digits, most}
 use Rattle.model.specs.Text.Wording.{Wording, lines, read_seven, sixteen}
-use Rattle.model.specs.Theorem.Steps.{after_of_length}
+use Rattle.model.proofs.Theorem.Steps.{after_of_length}
 
 -- the second request, line by line: user=2, op=10, ref=5, ref2=, a=3, b=0, c=0
 abbrev s1_second : List ℕ

@@ -17,7 +17,7 @@ use Rattle.model.specs.Tables.Layout.{entity_width, tables_of, user_width, word_
 use Rattle.model.specs.Tables.Sheet.{padded, padded_records, sheet_words}
 use Rattle.model.specs.Tables.SheetLaws.{sheet_tables_lem, sheet_words_length}
 use Rattle.model.specs.Tables.Words.{Tables, entity_count, user_count}
-use Rattle.model.specs.Theorem.Steps.{after_of_tables, answer_of_sized, low_refusal_words, sized_agrees}
+use Rattle.model.proofs.Theorem.Steps.{after_of_tables, answer_of_sized, low_refusal_words, sized_agrees}
 
 -- n words of zero
 abbrev zeros : ℕ → List ℕ

@@ -5,9 +5,9 @@ use Rattle.std.proofs.Common.{◌∙◌, ap}
 use Rattle.std.proofs.Math.Path.{fun_ext}
 use Rattle.cases.specs.Case.Opened.{opened_list}
 use Rattle.cases.specs.Case.S4.{s4, s4_sheet}
-use Rattle.model.specs.List.AdmittedLaws.{barred_checked}
+use Rattle.model.proofs.List.AdmittedLaws.{barred_checked}
 use Rattle.model.specs.List.Listing.{Lists, barred, entries, showing}
-use Rattle.model.specs.List.ListingLaws.{lists_found, lists_found_short}
+use Rattle.model.proofs.List.ListingLaws.{lists_found, lists_found_short}
 use Rattle.model.specs.List.Ways.{found}
 use Rattle.model.specs.Request.Ladder.{answer}
 use Rattle.model.specs.Request.Step.{answer_of}
@@ -19,7 +19,7 @@ use Rattle.model.specs.Tables.Layout.{tables_of}
 use Rattle.model.specs.Tables.Sheet.{sheet_tables, sheet_words}
 use Rattle.model.specs.Tables.SheetLaws.{sheet_bounded, sheet_tables_lem, sheet_words_length}
 use Rattle.model.specs.Tables.Words.{Tables}
-use Rattle.model.specs.Theorem.Steps.{answer_of_sized, sized_agrees}
+use Rattle.model.proofs.Theorem.Steps.{answer_of_sized, sized_agrees}
 use Rattle.model.specs.Request.Refusals as refusal
 
 -- S4 is well-formed and secure.

@@ -3,7 +3,7 @@ use mathlib.Core.Path.{refl}
 use Rattle.disclosure.specs.EndLaws.{end_fits, end_none, end_short, end_written}
 use Rattle.disclosure.specs.TallyLaws.{tallied_none}
 use Rattle.verdicts.specs.VerdictLaws.{judged_guided, judged_none}
-use Rattle.model.specs.List.AdmittedLaws.{barred_admitted}
+use Rattle.model.proofs.List.AdmittedLaws.{barred_admitted}
 use borrow.Author.Rules.{rules}
 use Rattle.disclosure.proofs.disclose.Statement.{statement}
 use Rattle.disclosure.proofs.disclose.Tie as tie

@@ -1,6 +1,6 @@
 use mathlib.Core.Path.{◌∙◌, sym}
 use Rattle.model.specs.Basics.TestLaws.{is_true}
-use Rattle.model.specs.Request.ConditionLaws.{thing_agrees}
+use Rattle.model.proofs.Request.ConditionLaws.{thing_agrees}
 use borrow.Author.Tests.{not-false, not-true}
 use Rattle.op_entities.specs.EntityLaws.{level_10, level_12, level_13, level_done}
 use borrow.Author.Rules.{rules}

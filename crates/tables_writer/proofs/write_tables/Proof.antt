@@ -4,7 +4,7 @@ use lib.ListN.{length}
 use borrow.Author.Rules.{rules}
 use Rattle.model.specs.Basics.Cases.{cases}
 use Rattle.tables_text.specs.Calls.{text_of_tables}
-use Rattle.tables_text.specs.LongestCallLaws.{formed_longest}
+use Rattle.tables_text.proofs.LongestCallLaws.{formed_longest}
 use Rattle.tables_writer.specs.EndLaws.{Formed, end_short, end_size, end_unformed, end_written, formed, writable}
 use Rattle.tables_writer.proofs.write_tables.Statement.{statement}
 use Rattle.tables_writer.proofs.write_tables.Tie as tie

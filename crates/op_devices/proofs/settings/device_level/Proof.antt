@@ -1,7 +1,7 @@
 use borrow.Author.Tests.{not-false, not-true}
 use mathlib.Core.Path.{◌∙◌, sym}
 use Rattle.model.specs.Basics.TestLaws.{is_true}
-use Rattle.model.specs.Request.ConditionLaws.{device_agrees}
+use Rattle.model.proofs.Request.ConditionLaws.{device_agrees}
 use Rattle.op_devices.specs.SettingLaws.{device_level_10, device_level_12, device_level_13, device_level_done}
 use borrow.Author.Rules.{rules}
 use Rattle.op_devices.proofs.settings.device_level.Statement.{statement}

@@ -2,8 +2,8 @@ use mathlib.Core.Path.{◌∙◌, sym}
 use Rattle.model.specs.Tables.Layout.{tables_of}
 use Rattle.record_writer.specs.ChainLaws.{entity_puts, entity_room, entity_room2, entity_room3, entity_room4, entity_room5}
 use Rattle.model.specs.Tables.Words.{triples}
-use Rattle.tables_text.specs.EntityLaws.{count_most}
-use Rattle.tables_text.specs.ToldLaws.{entity_absent}
+use Rattle.tables_text.proofs.EntityLaws.{count_most}
+use Rattle.tables_text.proofs.ToldLaws.{entity_absent}
 use Rattle.lines.specs.PutsLaws.{puts_none}
 use borrow.Author.Rules.{rules}
 use Rattle.record_writer.proofs.entities.put_entity.Statement.{statement}

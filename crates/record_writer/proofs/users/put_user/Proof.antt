@@ -1,7 +1,7 @@
 use mathlib.Core.Path.{◌∙◌, sym}
 use Rattle.model.specs.Tables.Layout.{tables_of}
 use Rattle.record_writer.specs.ChainLaws.{user_puts, user_room, user_room2}
-use Rattle.tables_text.specs.ToldLaws.{user_absent_lem}
+use Rattle.tables_text.proofs.ToldLaws.{user_absent_lem}
 use Rattle.lines.specs.PutsLaws.{puts_none}
 use borrow.Author.Rules.{rules}
 use Rattle.record_writer.proofs.users.put_user.Statement.{statement}

@@ -1,5 +1,5 @@
 use Rattle.lines.specs.OntoLaws.{puts}
-use Rattle.model.specs.Script.ReportLaws.{report_length}
+use Rattle.model.proofs.Script.ReportLaws.{report_length}
 use Rattle.script.specs.Reported.{from_code}
 use borrow.Author.Rules.{rules}
 use Rattle.script.proofs.reports.put_report.Statement.{statement}

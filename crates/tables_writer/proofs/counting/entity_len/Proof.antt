@@ -3,9 +3,9 @@ use mathlib.Core.Path.{◌∙◌, refl, sym}
 use Rattle.model.specs.Tables.Layout.{tables_of}
 use Rattle.model.specs.Tables.Words.{triples}
 use Rattle.tables.specs.Singles.{single_count}
-use Rattle.tables_text.specs.EntityLaws.{count_most}
+use Rattle.tables_text.proofs.EntityLaws.{count_most}
 use Rattle.tables_text.specs.TextOf.{entity_words}
-use Rattle.tables_text.specs.ToldLaws.{entity_absent}
+use Rattle.tables_text.proofs.ToldLaws.{entity_absent}
 use Rattle.tables_writer.specs.LengthLaws.{digits_bound, entity_length, places_most, triples_most, values_most}
 use borrow.Author.Rules.{rules}
 use Rattle.tables_writer.proofs.counting.entity_len.Statement.{statement}

@@ -1,8 +1,8 @@
 use native.Mathlib.Omega.{arith}
 use Rattle.model.specs.Tables.Layout.{tables_of}
 use Rattle.model.specs.Tables.Words.{entity_count, user_count}
-use Rattle.tables_text.specs.LongestLaws.{text_length}
-use Rattle.tables_text.specs.LongestLineLaws.{series_length}
+use Rattle.tables_text.proofs.LongestLaws.{text_length}
+use Rattle.tables_text.proofs.LongestLineLaws.{series_length}
 use Rattle.tables_text.specs.TextOf.{entity_text, user_text}
 use Rattle.tables_writer.specs.LengthLaws.{entities_most, users_most}
 use borrow.Author.Rules.{rules}

@@ -2,7 +2,7 @@ use native.Mathlib.Omega.{arith}
 use mathlib.Core.Path.{◌∙◌, refl, sym}
 use Rattle.model.specs.Tables.Layout.{tables_of}
 use Rattle.tables_text.specs.TextOf.{user_words}
-use Rattle.tables_text.specs.ToldLaws.{user_absent_lem}
+use Rattle.tables_text.proofs.ToldLaws.{user_absent_lem}
 use Rattle.record_writer.specs.FieldAt.{user_field_count}
 use Rattle.tables_writer.specs.LengthLaws.{digits_bound, user_length, values_most}
 use borrow.Author.Rules.{rules}

@@ -1,0 +1,29 @@
+-- What is proved of the tables as lines (rule 16), and rests on a definition that a must-fail edit turns: each value and record reads back, the
+-- two calls answer as they must, and no text is longer than the longest.
+pub mod ValueLaws
+pub mod UserLaws
+pub mod FieldLaws
+pub mod RowLaws
+pub mod EntityLaws
+pub mod EntityThereLaws
+pub mod ToldLaws
+pub mod BackLaws
+pub mod LaterLaws
+pub mod UsersThereLaws
+pub mod EntitiesThereLaws
+pub mod ThereLaws
+pub mod GivenLaws
+pub mod WriteLaws
+pub mod ReadLaws
+pub mod CallLaws
+pub mod RuledLaws
+pub mod DueLaws
+pub mod DueOnceLaws
+pub mod DueCallLaws
+pub mod LineMostLaws
+pub mod LongestLineLaws
+pub mod LongestShareLaws
+pub mod LongestChargeLaws
+pub mod LongestRootLaws
+pub mod LongestLaws
+pub mod LongestCallLaws
