@@ -1,0 +1,14 @@
+use Rattle.std.proofs.Common.{◌-◌, arith, sym}
+use Rattle.laws.specs.Loops.{every_gather, every_gathered, every_none}
+use Rattle.state.specs.Passes.{entity_blank}
+use Rattle.state.proofs.entities.entity_blank.Goals as goal
+
+pub loop-f-init : goal.loop-f-init
+loop-f-init c = (omega arith, sym (every_none _))
+
+pub loop-f-preserved : goal.loop-f-preserved
+loop-f-preserved c = (omega arith, every_gather _ _ _ _ c.word_zero-blank.ensures c.loop-f.invariant.1)
+
+pub returns : goal.returns
+unfolding entity_blank
+returns c = every_gathered _ _ _ _ c.loop-f.invariant.1 c.loop-f.invariant.0 (omega arith)
