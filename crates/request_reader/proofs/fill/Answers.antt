@@ -77,7 +77,7 @@ returns-in_default-last_line c =
     seven_bad (bad7 (rw c.in-Value.is at c.read_line.ensures) (rw c.in-Value-read_line.is at c.read_line-2.ensures)
     (rw c.in-Are.is at c.first_ref.ensures) (rw c.in-Are-second_ref.is at c.second_ref.ensures)
     (rw c.in-Value-read_line-2.is at c.read_line-3.ensures) (rw c.in-Value-read_line-3.is at c.read_line-4.ensures)
-    (rw c.in_default-last_line.is at c.last_Line.ensures))
+    (rw c.in_default-last_line.is at c.last_line.ensures))
 
 pub bounds-w-0 : goal.bounds-w-0
 bounds-w-0 c = omega (arith, room c)
@@ -112,9 +112,9 @@ pub returns : goal.returns
 returns c =
     let e3 = rw c.in-Are.is at c.first_ref.ensures in
     let e4 = rw c.in-Are-second_ref.is at c.second_ref.ensures in
-    seven_next (rw c.in-Value-last_line.is at c.last_Line.ensures).within
+    seven_next (rw c.in-Value-last_line.is at c.last_line.ensures).within
     (read7 (rw c.in-Value.is at c.read_line.ensures) (rw c.in-Value-read_line.is at c.read_line-2.ensures) e3 e4
     (rw c.in-Value-read_line-2.is at c.read_line-3.ensures) (rw c.in-Value-read_line-3.is at c.read_line-4.ensures)
-    (rw c.in-Value-last_line.is at c.last_Line.ensures))
+    (rw c.in-Value-last_line.is at c.last_line.ensures))
     (stored_is c.args.w.now _ _ _ _ _ _ _ _ _ c.requires.1 c.first_ref.auto.out e3.few e3.kept c.second_ref.auto.out
     e4.few e4.kept)

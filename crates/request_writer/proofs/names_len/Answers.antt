@@ -2,7 +2,6 @@ use Rattle.std.proofs.Common.{◌-◌, arith, length, refl, sym, ◌≡◌}
 use Rattle.model.specs.Text.References.{joined}
 use Rattle.request_writer.specs.NameLaws.{dotted_turn, taken_all, taken_most}
 use Rattle.request_writer.specs.NeedLaws.{digits_bound}
-use Rattle.request_writer.proofs.names_len.Goals.{After-loop-i}
 use Rattle.request_writer.proofs.names_len.Goals as goal
 
 pub loop-i-init : goal.loop-i-init
@@ -19,15 +18,11 @@ pub loop-i-preserved : goal.loop-i-preserved
 loop-i-preserved c =
     (omega arith, rw (c.number_len.ensures, c.loop-i.invariant.1) (sym (dotted_turn c.args.names.now c.loop-i.i c.loop-i-test.true)))
 
--- all names were gone through
-counted : (c : After-loop-i invariant-loop decreases-loop) → c.loop-i.n - 1 ≡ length (joined c.args.names.now)
-counted c = taken_all _ _ _ c.loop-i-test.false c.loop-i.invariant.1
-
 pub returns-then-n-eq0 : goal.returns-then-n-eq0
-returns-then-n-eq0 c = omega (arith, c.if-n-eq0.true, counted (goal.at.returns-then-n-eq0 c).After-loop-i)
+returns-then-n-eq0 c = omega (arith, c.if-n-eq0.true, taken_all _ _ _ c.loop-i-test.false c.loop-i.invariant.1)
 
 pub overflow_sub-result : goal.overflow_sub-result
 overflow_sub-result c = omega (arith, c.if-n-eq0.false)
 
 pub returns : goal.returns
-returns c = counted (goal.at.returns c).After-loop-i
+returns c = taken_all _ _ _ c.loop-i-test.false c.loop-i.invariant.1

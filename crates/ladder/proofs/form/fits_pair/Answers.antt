@@ -1,0 +1,12 @@
+use Rattle.ladder.specs.ShapeLaws.{two_form_lem}
+use Rattle.model.specs.Request.Conditions.{unused}
+use Rattle.model.specs.Request.Ladder.{fits, length_fits, range_at}
+use Rattle.model.specs.Request.Words.{request_of}
+use Rattle.ladder.proofs.form.fits_pair.Goals as goal
+
+pub returns : goal.returns
+unfolding fits length_fits range_at unused
+returns c =
+    let q = request_of c.args.q.now in
+    rw (c.takes_two.ensures, c.a.ensures, c.b.ensures, c.c.ensures)
+    (two_form_lem q (unused q.a) (unused q.b) (unused q.c))

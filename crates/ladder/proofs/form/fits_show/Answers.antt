@@ -1,0 +1,12 @@
+use Rattle.ladder.specs.ShapeLaws.{one_form_lem}
+use Rattle.model.specs.Request.Conditions.{a_sum, between, unused}
+use Rattle.model.specs.Request.Ladder.{fits, length_fits, range_at}
+use Rattle.model.specs.Request.Words.{request_of}
+use Rattle.ladder.proofs.form.fits_show.Goals as goal
+
+pub returns : goal.returns
+unfolding fits length_fits range_at a_sum between unused
+returns c =
+    let q = request_of c.args.q.now in
+    rw (c.takes_one.ensures, c.a-a.ensures, c.b.ensures, c.c.ensures)
+    (one_form_lem q (a_sum q.a) (unused q.b) (unused q.c))

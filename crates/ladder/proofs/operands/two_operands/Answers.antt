@@ -1,0 +1,96 @@
+use Rattle.std.proofs.Common.{arith, lit≤, sym, ◌∙◌}
+use Rattle.reference.specs.WayLaws.{well_formed_ranged}
+use Rattle.ladder.specs.NameLaws.{first_in, operation_in_lem, second_in}
+use Rattle.ladder.specs.OperandLaws.{found_in, two_barred, two_fine, two_nowhere, two_nowhere₂, two_shut, two_shut₂}
+use Rattle.request.specs.NameLaws.{names_some}
+use Rattle.ladder.proofs.operands.two_operands.Goals as goal
+
+pub first_names-requires : goal.first_names-requires
+first_names-requires c = (
+  c.requires.0.ready.request,
+  (first_in _ _ _ _ c.requires.0 (lit≤ tt) 1
+      c.requires.2).1,
+)
+
+pub resolve-requires : goal.resolve-requires
+resolve-requires c =
+    (
+      c.requires.0.ready.whole,
+      well_formed_ranged _ c.requires.0.ready.good.0,
+      let z = first_in _ _ _ _ c.requires.0 (lit≤ tt) 1 c.requires.2 in rw
+          c.first_names.ensures (names_some _ z.0 z.1),
+    )
+
+pub returns-in_default : goal.returns-in_default
+returns-in_default c =
+    two_nowhere _ _ _ _ _ c.requires.0.user c.requires.1 c.clearance-l.ensures c.requires.2 _ c.first_names.ensures _
+    c.resolve.ensures c.in_default.is
+
+pub second_names-requires : goal.second_names-requires
+second_names-requires c =
+    (c.requires.0.ready.request, (second_in _ _ _ _ c.requires.0 (lit≤ tt) 0 c.requires.2).1)
+
+pub resolve-requires-2 : goal.resolve-requires-2
+resolve-requires-2 c =
+    (
+      c.requires.0.ready.whole,
+      well_formed_ranged _ c.requires.0.ready.good.0,
+      let z = second_in _ _ _ _ c.requires.0 (lit≤ tt) 0 c.requires.2 in rw
+          c.second_names.ensures (names_some _ z.0 z.1),
+    )
+
+pub returns-in_default-resolve : goal.returns-in_default-resolve
+returns-in_default-resolve c =
+    two_nowhere₂ _ _ _ _ _ c.requires.0.user c.requires.1 c.clearance-l.ensures c.requires.2 _ c.first_names.ensures _
+    c.resolve.ensures c.in-At.e c.in-At.clear c.in-At.is _ c.second_names.ensures _
+    c.resolve-2.ensures c.in_default-resolve.is
+
+pub is_permitted-requires : goal.is_permitted-requires
+is_permitted-requires c =
+    let z = found_in _ _ _ c.in-At.e c.in-At.clear c.requires.0.ready.good.0
+    (sym c.resolve.ensures ∙ c.in-At.is) in (
+      (c.requires.0.ready.whole, z.0, z.1),
+      (c.requires.0.ready.whole, c.requires.0.low, c.requires.0.high),
+      omega
+          (arith, operation_in_lem _ _ _ _ c.requires.0 (lit≤ tt) 1 c.requires.2, c.requires.1),
+      lit≤ tt,
+    )
+
+pub returns-then-not-is_permitted : goal.returns-then-not-is_permitted
+returns-then-not-is_permitted c =
+    two_shut _ _ _ _ _ c.requires.0.user c.requires.1 c.clearance-l.ensures c.requires.2 _ c.first_names.ensures _
+    c.resolve.ensures c.in-At.e c.in-At.clear c.in-At.is _ c.second_names.ensures _ c.resolve-2.ensures
+    c.in-At-resolve.c c.in-At-resolve.free c.in-At-resolve.is _
+    c.is_permitted.ensures c.if-not-is_permitted.true
+
+pub is_permitted-requires-2 : goal.is_permitted-requires-2
+is_permitted-requires-2 c =
+    let z = found_in _ _ _ c.in-At-resolve.c c.in-At-resolve.free c.requires.0.ready.good.0
+    (sym c.resolve-2.ensures ∙ c.in-At-resolve.is) in (
+      (c.requires.0.ready.whole, z.0, z.1),
+      (c.requires.0.ready.whole, c.requires.0.low, c.requires.0.high),
+      omega
+          (arith, operation_in_lem _ _ _ _ c.requires.0 (lit≤ tt) 1 c.requires.2, c.requires.1),
+      lit≤ tt,
+    )
+
+pub returns-then-not-is_permitted-2 : goal.returns-then-not-is_permitted-2
+returns-then-not-is_permitted-2 c =
+    two_shut₂ _ _ _ _ _ c.requires.0.user c.requires.1 c.clearance-l.ensures c.requires.2 _ c.first_names.ensures _
+    c.resolve.ensures c.in-At.e c.in-At.clear c.in-At.is _ c.second_names.ensures _ c.resolve-2.ensures
+    c.in-At-resolve.c c.in-At-resolve.free c.in-At-resolve.is _ c.is_permitted.ensures
+    c.if-not-is_permitted.false _ c.is_permitted-2.ensures c.if-not-is_permitted-2.true
+
+pub returns-then-not-clear-free : goal.returns-then-not-clear-free
+returns-then-not-clear-free c =
+    two_barred _ _ _ _ _ c.requires.0.user c.requires.1 c.clearance-l.ensures c.requires.2 _ c.first_names.ensures _
+    c.resolve.ensures c.in-At.e c.in-At.clear c.in-At.is _ c.second_names.ensures _ c.resolve-2.ensures
+    c.in-At-resolve.c c.in-At-resolve.free c.in-At-resolve.is _ c.is_permitted.ensures c.if-not-is_permitted.false
+    _ c.is_permitted-2.ensures c.if-not-is_permitted-2.false c.if-not-clear-free.true
+
+pub returns : goal.returns
+returns c =
+    two_fine _ _ _ _ _ c.requires.0.user c.requires.1 c.clearance-l.ensures c.requires.2 _ c.first_names.ensures _
+    c.resolve.ensures c.in-At.e c.in-At.clear c.in-At.is _ c.second_names.ensures _ c.resolve-2.ensures
+    c.in-At-resolve.c c.in-At-resolve.free c.in-At-resolve.is _ c.is_permitted.ensures c.if-not-is_permitted.false
+    _ c.is_permitted-2.ensures c.if-not-is_permitted-2.false c.if-not-clear-free.false
