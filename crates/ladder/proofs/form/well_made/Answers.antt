@@ -87,4 +87,4 @@ returns-in-20 c = c.fits_acknowledge.ensures ∙ fits_named _ to_acknowledge (c.
 
 pub returns-in_default : goal.returns-in_default
 unfolding numbers_of operations
-returns-in_default c = none_named _ _ (rw (← c.requires.1) at c.in_default-own.rest)
+returns-in_default c = none_named _ _ (rw (← c.requires.1) at c.in_default.in_default-own.rest)
