@@ -1,0 +1,36 @@
+use Rattle.std.proofs.Common.{sym, ◌∙◌}
+use Rattle.model.specs.Basics.TestLaws.{is_true}
+use Rattle.model.proofs.Request.ConditionLaws.{thing_agrees}
+use Rattle.op_entities.specs.EntityLaws.{level_10, level_12, level_13, level_done}
+use Rattle.op_entities.proofs.level.Goals as goal
+
+pub returns-then-not-is_entity : goal.returns-then-not-is_entity
+returns-then-not-is_entity c =
+    level_10 _ _ _ _ c.requires.0 c.requires.1 _ c.is_entity.ensures c.if-not-is_entity.true
+
+pub returns-then-level_dropped : goal.returns-then-level_dropped
+returns-then-level_dropped c =
+    level_12 _ _ _ _ c.requires.0 c.requires.1 _ c.is_entity.ensures c.if-not-is_entity.false _ c.a.ensures _
+    (c.level_dropped.ensures ∙ rw c.level.ensures) c.if-level_dropped.true
+
+pub try_level-requires : goal.try_level-requires
+try_level-requires c =
+    (
+      (c.requires.0.climbed.ready.whole, c.requires.1.low, c.requires.1.high),
+      c.requires.0.climbed.ready.good,
+      (thing_agrees _ _).to
+          (is_true _ (sym c.is_entity.ensures ∙ c.if-not-is_entity.false)),
+    )
+
+pub returns-then-not-try_level : goal.returns-then-not-try_level
+returns-then-not-try_level c =
+    rw (c.try_level.ensures.unchanged c.if-not-try_level.true)
+    (level_13 _ _ _ _ c.requires.0 c.requires.1 _ c.is_entity.ensures c.if-not-is_entity.false _ c.a.ensures _
+    (c.level_dropped.ensures ∙ rw c.level.ensures) c.if-level_dropped.false _ c.try_level.ensures.secure
+    c.if-not-try_level.true)
+
+pub returns : goal.returns
+returns c =
+    level_done _ _ _ _ c.requires.0 c.requires.1 _ c.is_entity.ensures c.if-not-is_entity.false _ c.a.ensures _
+    (c.level_dropped.ensures ∙ rw c.level.ensures) c.if-level_dropped.false _ c.try_level.ensures.secure
+    c.if-not-try_level.false _ (c.try_level.ensures.kept c.if-not-try_level.false)
