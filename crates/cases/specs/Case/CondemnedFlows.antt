@@ -86,12 +86,12 @@ barred h = h 4 (Memᴰ.head refl) (differ 1 0 tt)
 -- Rule 9.7: the desk edited 5 for user 2, who named it 4.1, through the marked container 4, of rank 2, with a clearance of rank 1.
 pub ccr_condemned : CcrSecure s1 (ask 2 4 (4 ∷ 1 ∷ []) [] 41 0 0) (on_entity 5 (word value 41) s1) → ⊥
 unfolding opened s1 s1_sheet
-ccr_condemned = ccr_rejects to_edit refl (λ h. loud 5 value h tt) 1 (lit≤ tt, lit≤ tt) barred
+ccr_condemned = ccr_rejects {d = s1} {q = ask 2 4 (4 ∷ 1 ∷ []) [] 41 0 0} to_edit refl (λ h. loud 5 value h tt) 1 (lit≤ tt, lit≤ tt) barred
 
 -- Rule 9.7: the desk copied 7 to 5 for user 2, who named the second one 4.1.
 pub second_ccr_condemned : CcrSecure s1 (ask 2 5 (7 ∷ []) (4 ∷ 1 ∷ []) 0 0 0) (on_entity 5 (word value 0) s1) → ⊥
 unfolding opened s1 s1_sheet
-second_ccr_condemned = ccr_rejects to_copy refl (λ h. loud 5 value h tt) 2 (lit≤ tt, lit≤ tt) barred
+second_ccr_condemned = ccr_rejects {d = s1} {q = ask 2 5 (7 ∷ []) (4 ∷ 1 ∷ []) 0 0 0} to_copy refl (λ h. loud 5 value h tt) 2 (lit≤ tt, lit≤ tt) barred
 
 -- S1 with the marked container 4 in container 7
 abbrev s1_nested : Tables

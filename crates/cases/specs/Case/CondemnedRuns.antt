@@ -8,6 +8,7 @@ use Rattle.cases.specs.Case.Others.{both, none_at, other}
 use Rattle.cases.specs.Case.S1.{s1, s1_sheet}
 use Rattle.cases.specs.Case.S1Words.{s1_words, s1_words_length, s1_words_tables}
 use Rattle.model.specs.Request.After.{after}
+use Rattle.model.specs.Request.Step.{after_of}
 use Rattle.model.specs.Request.Words.{name_count, request_of}
 use Rattle.model.proofs.Script.ReportLaws.{report_told, told}
 use Rattle.model.specs.Script.Reports.{Report, unread, untold}
@@ -34,7 +35,7 @@ reports_told t d [] h e = refl
 reports_told t d (m ∷ ms) h e =
     ap₂ ◌∷◌
     (report_told t (sixteen m) d h (sixteen_length m) e)
-    (reports_told _ _ ms (after_of_length t (sixteen m) ∙ h)
+    (reports_told (after_of t (sixteen m)) (after d (request_of (sixteen m))) ms (after_of_length t (sixteen m) ∙ h)
     (after_of_tables t (sixteen m) ((sized_agrees t (sixteen m)).from (h, sixteen_length m)) ∙ ap (λ (c : Tables). after c (request_of (sixteen m))) e))
 
 -- ---- the script and its run
