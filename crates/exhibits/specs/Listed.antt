@@ -1,8 +1,6 @@
 -- Rule 13: what the list answers on the words of S1, in any room, and what then stands in it. Whatever answer meets the list's promise is this one.
 use Rattle.std.specs.Prelude.{List, [], ◌++◌, ◌∷◌, ◌≡◌, ◌*◌, ◌<◌, ◌≤◌, ℕ, drop, length}
-use Rattle.exhibits.specs.CalledLaws.{called_word}
-use Rattle.mms.specs.Calls.{ListCall}
-use Rattle.mms.specs.Contract.{Listing, exported}
+use Rattle.mms.specs.Contract.{Listing}
 use Rattle.mms.specs.RoundTrip.{answering}
 use Rattle.mms.specs.Unique.{list_unique}
 use Rattle.mms.specs.declared.Answer.{Answer}
@@ -31,23 +29,3 @@ module _ (room : List ℕ) (a : Answer) (r : List ℕ) where
   -- user 1 has none.
   pub listed_1 : Listing s1_words 1 room a r → (a ≡ answering refusal.accepted 0) × (r ≡ room)
   listed_1 x = list_unique s1_words 1 room a (answering refusal.accepted 0) r room x (s1_list_1 room)
-
--- The same of the exported list: C gets the word of that answer.
-module _ (room : List ℕ) where
-  pub called_2 : entry_words ≤ length room → (a : ℕ) (r : List ℕ) → ListCall s1_words 2 room a r
-      → (a ≡ exported (answering refusal.accepted 1)) × (r ≡ (1 ∷ 5 ∷ 0 ∷ 0 ∷ 0 ∷ []) ++ drop entry_words room)
-  called_2 h = called_word (Listing s1_words 2 room) (answering refusal.accepted 1) ((1 ∷ 5 ∷ 0 ∷ 0 ∷ 0 ∷ []) ++ drop entry_words room)
-      (λ a r. listed_2 room a r h)
-
-  pub called_2_short : length room < entry_words → (a : ℕ) (r : List ℕ) → ListCall s1_words 2 room a r
-      → (a ≡ exported (answering refusal.too_short 1)) × (r ≡ room)
-  called_2_short h = called_word (Listing s1_words 2 room) (answering refusal.too_short 1) room (λ a r. listed_2_short room a r h)
-
-  pub called_unmarked : 2 * entry_words ≤ length room → (a : ℕ) (r : List ℕ) → ListCall s1_unmarked 2 room a r
-      → (a ≡ exported (answering refusal.accepted 2)) × (r ≡ (2 ∷ 4 ∷ 1 ∷ 0 ∷ 0 ∷ 1 ∷ 5 ∷ 0 ∷ 0 ∷ 0 ∷ []) ++ drop (2 * entry_words) room)
-  called_unmarked h =
-      called_word (Listing s1_unmarked 2 room) (answering refusal.accepted 2)
-      ((2 ∷ 4 ∷ 1 ∷ 0 ∷ 0 ∷ 1 ∷ 5 ∷ 0 ∷ 0 ∷ 0 ∷ []) ++ drop (2 * entry_words) room) (λ a r. listed_unmarked room a r h)
-
-  pub called_1 : (a : ℕ) (r : List ℕ) → ListCall s1_words 1 room a r → (a ≡ exported (answering refusal.accepted 0)) × (r ≡ room)
-  called_1 = called_word (Listing s1_words 1 room) (answering refusal.accepted 0) room (listed_1 room)

@@ -1,11 +1,7 @@
 -- Rule 13: S1's cases hold of the linked calls. Each is said of whatever the exported call answers and leaves.
 use Rattle.std.specs.Prelude.{List, [], ◌++◌, ◌∷◌, ◌≡◌, ◌*◌, ◌≤◌, ℕ, T, drop, get_or, length}
-use Rattle.std.proofs.Common.{◌∙◌, ap, sym, arith}
+use Rattle.std.proofs.Common.{◌∙◌, ap, arith}
 use Rattle.exhibits.specs.Called.{AllConfirmed, AllInOneRun}
-use Rattle.exhibits.specs.Listed.{called_1, called_2, called_2_short, called_unmarked}
-use Rattle.exhibits.specs.S1Exhibit.{S1Exhibit}
-use Rattle.exhibits.specs.TextCalled.{damaged_refused, empty_read_lem, empty_written_lem, insecure_checked_called, insecure_written_lem, s1_text_read}
-use Rattle.exhibits.specs.TextCalled.{s1_text_written}
 use Rattle.exhibits.specs.CalledLaws.{both_called, both_run, called_word, cases_called, cases_run}
 use Rattle.mms.specs.Calls.{RunCall, StepCall}
 use Rattle.mms.specs.Contract.{Stepping, checking, exported, numbers}
@@ -13,8 +9,6 @@ use Rattle.mms.specs.RoundTrip.{answering}
 use Rattle.cases.specs.Case.Cases.{all_in_sixteen, asking, entity_is, expect, noted, stand, user_is}
 use Rattle.cases.specs.Case.S1.{s1, starred, unstarred}
 use Rattle.cases.specs.Case.S1Holds.{starred_hold, unstarred_hold}
-use Rattle.cases.specs.Case.S1Script.{s1_script_only, s1_script_writes}
-use Rattle.cases.specs.Case.S1Text.{s1_text_length}
 use Rattle.cases.specs.Case.S1Words.{s1_words, s1_words_checked, s1_words_length, s1_words_tables, s1_words_unknown}
 use Rattle.model.specs.Request.Words.{request_words}
 use Rattle.model.specs.Tables.Layout.{tables_of}
@@ -93,26 +87,3 @@ s1_check_called = ap (λ (n : ℕ). exported (answering n 0)) s1_words_checked
 -- An answer without a number beside it is, for C, a multiple of 2 to the power of 32.
 pub exported_alone : (n : ℕ) → exported (answering n 0) ≡ n * 4294967296
 exported_alone n = omega arith
-
--- All of it in one statement.
-pub s1_exhibit : S1Exhibit
-s1_exhibit = record {
-  checked = sym s1_check_called;
-  steps = s1_called;
-  runs = s1_run;
-  user_nine = s1_unknown_called;
-  list_of_two = called_2;
-  short_of_two = called_2_short;
-  list_unmarked = called_unmarked;
-  list_of_one = called_1;
-  script_writes = s1_script_writes;
-  script_only = s1_script_only;
-  text_written = s1_text_written;
-  text_bytes = s1_text_length;
-  text_read = s1_text_read;
-  damaged_read = damaged_refused;
-  empty_written = empty_written_lem;
-  empty_read = empty_read_lem;
-  insecure_checked = insecure_checked_called;
-  insecure_written = insecure_written_lem;
-}
