@@ -1,5 +1,5 @@
--- What is proved of document 01, and rests on a definition that a must-fail edit turns. The definitions, and the laws that rest on none of
--- these, stand in specs/. A room uses only itself, the rooms above it and those of specs/.
+-- Laws of document 01 that fall, and others with them, where a must-fail edit turns a definition, and the files that use such laws. The definitions and
+-- the other laws stand in specs/. A room uses only itself, the rooms above it and those of specs/.
 pub mod LevelLaws
 pub mod Effect
 pub mod Request

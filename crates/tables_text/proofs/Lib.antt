@@ -1,5 +1,5 @@
--- What is proved of the tables as lines (rule 16), and rests on a definition that a must-fail edit turns: each value and record reads back, the
--- two calls answer as they must, and no text is longer than the longest.
+-- Laws of the tables as lines (rule 16) that fall, and others with them, where a must-fail edit turns a definition, and the files that use such laws:
+-- each value and record reads back, the two calls answer as they must, and no text is longer than the longest.
 pub mod ValueLaws
 pub mod UserLaws
 pub mod FieldLaws
