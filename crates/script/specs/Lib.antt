@@ -5,9 +5,7 @@ pub mod Going
 pub mod LoadLaws
 pub mod MoveLaws
 pub mod ReportLaws
-pub mod TurnLaws
 pub mod EndsLaws
 pub mod RunLaws
 pub mod GoingLaws
 pub mod WholeLaws
-pub mod StaysLaws

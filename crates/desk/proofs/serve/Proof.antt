@@ -7,7 +7,7 @@ use lib.Seq.{length-take-le}
 use borrow.Author.Rules.{rules}
 use Rattle.model.specs.State.Check.{check}
 use Rattle.script.specs.RunLaws.{runs_within}
-use Rattle.script.specs.StaysLaws.{runs_stay}
+use Rattle.script.proofs.StaysLaws.{runs_stay}
 use Rattle.script.specs.WholeLaws.{wanted_short}
 use Rattle.desk.proofs.serve.Statement.{statement}
 use Rattle.desk.proofs.serve.Tie as tie

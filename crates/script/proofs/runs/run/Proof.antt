@@ -5,7 +5,7 @@ use lib.ListN.{length}
 use Rattle.model.specs.State.Check.{check}
 use Rattle.script.specs.Going.{Going}
 use Rattle.script.specs.GoingLaws.{going_end, going_full, going_halt, going_length, going_start, going_turn, turn_further}
-use Rattle.script.specs.StaysLaws.{turn_stays}
+use Rattle.script.proofs.StaysLaws.{turn_stays}
 use Rattle.script.proofs.runs.run.Statement.{statement}
 use Rattle.script.proofs.runs.run.Tie as tie
 

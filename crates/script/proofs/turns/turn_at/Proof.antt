@@ -1,4 +1,4 @@
-use Rattle.script.specs.TurnLaws.{turn_bad, turn_next}
+use Rattle.script.proofs.TurnLaws.{turn_bad, turn_next}
 use borrow.Author.Rules.{rules}
 use Rattle.script.proofs.turns.turn_at.Statement.{statement}
 use Rattle.script.proofs.turns.turn_at.Tie as tie
