@@ -30,8 +30,7 @@ returns-then-not-at_most-2 c =
       ←
           c.level-l.ensures,
       ← c.at_most.ensures,
-      not-false c.at_most.result
-          c.if-not-at_most.false,
+      c.if-not-at_most.false,
       ← c.at_most-2.ensures,
       c.if-not-at_most-2.true,
     )
