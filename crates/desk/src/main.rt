@@ -79,7 +79,7 @@ fn main() {
     let mut file = [0u8; size::STATE_BYTES + 1];
     let size = read_state(&mut file);
     let mut tables = [0u32; size::TABLE_WORDS];
-    let n = script::state::load(&file[..size], &mut tables);
+    let n = script::state_file::load(&file[..size], &mut tables);
     let c = state::checked(&tables[..n]);
     let mut window = io::large_buffer();
     let mut out = io::large_buffer();

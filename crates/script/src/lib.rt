@@ -2,6 +2,6 @@
 #![tactic(auto)]
 pub mod reports;
 pub mod runs;
-pub mod state;
+pub mod state_file;
 pub mod turns;
 pub mod windows;
