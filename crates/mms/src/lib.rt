@@ -1,6 +1,8 @@
-// The desk's public calls, and their C exports. Each takes any words or bytes, and asks nothing of them. An answer is a pair: document 01's
-// number, and a count, a need or a line that goes with some of these. The check, the step and the run have no second number, and give 0.
+// The desk's public calls, and the same in the form for C, which `mms_c` exports. Each takes any words or bytes, and asks nothing of them. An answer
+// is a pair: document 01's number, and a count, a need or a line that goes with some of these. The check, the step and the run have no second
+// number, and give 0.
 #![tactic(auto)]
+
 ghost use Rattle.std.specs.Prelude.{◌≡◌};
 ghost use Rattle.mms.specs.Contract.{Exports, Listing, Reading, ReadingTables, Running, Stepping, Writing, WritingTables, checking, exported};
 
