@@ -12,8 +12,8 @@ SHUT = {"CheckCall", "StepCall", "RunCall", "ListCall", "ReadCall", "WriteCall",
 # crates whose places are named with them; the others are rooms of the model
 NAMED = ("mms", "tables_text")
 
-USE = re.compile(r"^use Rattle·(\w+)(?:·specs\.specs|\.specs)\.(\S+?)\.\{([^}]*)\}$", re.M)
-ALIAS = re.compile(r"^use Rattle·(\w+)(?:·specs\.specs|\.specs)\.(\S+) as (\w+)$", re.M)
+USE = re.compile(r"^use Rattle\.(\w+)\.specs\.(\S+?)\.\{([^}]*)\}$", re.M)
+ALIAS = re.compile(r"^use Rattle\.(\w+)\.specs\.(\S+) as (\w+)$", re.M)
 SORTS = r"(?:abbrev |unfoldable |pub |record |data )*"
 DECLARED = re.compile(rf"^(?:  )?{SORTS}([^\s:(]+)")
 INNER = re.compile(r"^  (?:abbrev|unfoldable|pub) ")
@@ -30,13 +30,18 @@ def file_of(place):
     return ROOT / "crates" / crate / "specs" / f"{rest}.antt" if crate in NAMED else ROOT / "crates" / "model" / "specs" / f"{place}.antt"
 
 
+def ours(crate):
+    """A crate of this repository; the toolchain's library is believed as a whole."""
+    return (ROOT / "crates" / crate).is_dir()
+
+
 class Definitions:
     """A file: where each name that it brings in comes from, and the text of each name that it declares."""
 
     def __init__(self, place):
         text = file_of(place).read_text()
-        self.brought = {name.strip(): place_of(c, m) for c, m, names in USE.findall(text) for name in names.split(",")}
-        self.aliases = {alias: place_of(c, m) for c, m, alias in ALIAS.findall(text)}
+        self.brought = {name.strip(): place_of(c, m) for c, m, names in USE.findall(text) if ours(c) for name in names.split(",")}
+        self.aliases = {alias: place_of(c, m) for c, m, alias in ALIAS.findall(text) if ours(c)}
         self.declared, name, in_module = {}, None, False
         for line in text.splitlines():
             if not line.strip() or line.strip().startswith("--") or line.startswith("use "):
@@ -51,15 +56,15 @@ class Definitions:
                 self.declared[name] = self.declared.get(name, "") + line + "\n"
 
     def cited(self, name):
-        """What the text of a name cites, as pairs of a place and a name."""
+        """What the text of a name cites, as pairs of a place and a name. Of `x.f` that is x, and of an alias `a.x` it is x."""
         for token in set(TOKEN.findall(self.declared.get(name, ""))):
             head, _, rest = token.partition(".")
-            if token in self.brought:
-                yield self.brought[token], token
-            elif rest and head in self.aliases:
+            if rest and head in self.aliases:
                 yield self.aliases[head], rest
-            elif token in self.declared and token != name:
-                yield None, token
+            elif head in self.brought:
+                yield self.brought[head], head
+            elif head in self.declared and head != name:
+                yield None, head
 
 
 def reached():
