@@ -184,7 +184,8 @@ module _ (t v : List ℕ) where
           ap (λ (i : ℕ). get_or b i 0) at ∙ y.told further_most (p + 1) (omega arith) (omega arith) (omega arith)
 
       -- one entity more
-      pub tally_entity : (p s : ℕ) → p < entity_count → tally_words ≤ n → s ≡ length (followed t v p) → s + get_or b (last_row + p) 0 ≡ length (followed t v (p + 1))
+      pub tally_entity : (p s : ℕ) → p < entity_count → tally_words ≤ n → s ≡ length (followed t v p) → s + get_or b (last_row + p) 0 ≡ length
+          (followed t v (p + 1))
       tally_entity p s h l q = omega (
         arith,
         last_row_lem p h l,

@@ -1,6 +1,7 @@
 // The disclosure list: the refusals that it may give, then the verdicts on the entities, then how many entries there are and, where the room
 // suffices for them, the walk that writes them.
 #![tactic(auto)]
+
 ghost use Rattle.std.specs.Prelude.{◌≡◌};
 ghost use Rattle.disclosure.specs.Contract.{Listing};
 ghost use Rattle.model.specs.List.Listing.{barred};

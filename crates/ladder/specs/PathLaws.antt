@@ -29,17 +29,20 @@ module _ (d : Tables) (q : Request) where
   module _ (a : leads_nowhere d q ≡ false) where
     pub path_shut : no_access d q ≡ true → path_answer d q ≡ refusal.no_access
     unfolding path_answer
-    path_shut b = lowest_no refusal.no_such_name leads_nowhere (no_access ∷ not_cleared ∷ []) d q a ∙ lowest_yes refusal.no_access no_access (not_cleared ∷ []) d q b
+    path_shut b = lowest_no refusal.no_such_name leads_nowhere (no_access ∷ not_cleared ∷ []) d q a ∙ lowest_yes refusal.no_access no_access
+        (not_cleared ∷ []) d q b
 
     module _ (b : no_access d q ≡ false) where
       pub path_barred : not_cleared d q ≡ true → path_answer d q ≡ refusal.marked
       unfolding path_answer
-      path_barred c = lowest_no refusal.no_such_name leads_nowhere (no_access ∷ not_cleared ∷ []) d q a ∙ lowest_no refusal.no_access no_access (not_cleared ∷ []) d q b
+      path_barred c = lowest_no refusal.no_such_name leads_nowhere (no_access ∷ not_cleared ∷ []) d q a ∙ lowest_no refusal.no_access no_access
+          (not_cleared ∷ []) d q b
           ∙ lowest_yes refusal.marked not_cleared [] d q c
 
       pub path_open : not_cleared d q ≡ false → path_answer d q ≡ 0
       unfolding path_answer lowest
-      path_open c = lowest_no refusal.no_such_name leads_nowhere (no_access ∷ not_cleared ∷ []) d q a ∙ lowest_no refusal.no_access no_access (not_cleared ∷ []) d q b
+      path_open c = lowest_no refusal.no_such_name leads_nowhere (no_access ∷ not_cleared ∷ []) d q a ∙ lowest_no refusal.no_access no_access
+          (not_cleared ∷ []) d q b
           ∙ lowest_no refusal.marked not_cleared [] d q c
 
   -- what the answer of the three says of the whole ladder

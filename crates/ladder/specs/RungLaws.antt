@@ -11,7 +11,7 @@ use Rattle.model.specs.Level.{officer}
 use Rattle.model.specs.Request.Asked.{asked, has_role}
 use Rattle.model.specs.Request.Conditions.{insecure, lacks, user_absent}
 use Rattle.model.specs.Request.Ladder.{refused}
-use Rattle.model.specs.Request.Operations.{Op, level_effect, number_of, row_of, to_authorised, to_clearance, to_device_level, to_level}
+use Rattle.model.specs.Request.Operations.{Op, level_effect, row_of, to_authorised, to_clearance, to_device_level, to_level}
 use Rattle.model.specs.Request.Words.{request_of}
 use Rattle.model.specs.State.Check.{secure_test}
 use Rattle.model.specs.Tables.Layout.{tables_of}
@@ -50,29 +50,30 @@ lacks_is o t q u k r y h = rw (user_is_lem k, ← h)
 
 -- ---- rungs 11 and 12 of operations that officers ask for
 
-module _ (o : Op) (z : OfOfficers o) (t q : List ℕ) (u : ℕ) (k : Taking o t q u) (a p : ℕ) (i : a ≡ (request_of q).a) (hp : p ≡ (tables_of t).user a present) where
-  absent_is : refused refusal.no_such_user (row_of o).conditions (tables_of t) (asked_of t q) ≡ eqb p 0
-  unfolding user_absent asked
-  absent_is = z.eleven (tables_of t) (asked_of t q) ∙ rw (← i, ← hp)
+module _ (o : Op) (z : OfOfficers o) (t q : List ℕ) (u : ℕ) (k : Taking o t q u) (a p : ℕ) (i : a ≡ (request_of q).a) (hp : p ≡ (tables_of t).user a present)
+  where
+    absent_is : refused refusal.no_such_user (row_of o).conditions (tables_of t) (asked_of t q) ≡ eqb p 0
+    unfolding user_absent asked
+    absent_is = z.eleven (tables_of t) (asked_of t q) ∙ rw (← i, ← hp)
 
-  -- user a is absent
-  pub user_absent_lem : eqb p 0 ≡ true → Judged t q refusal.no_such_user t
-  user_absent_lem w = stop k refusal.wrong_kind (lit≤ tt) (lit< tt) (kinds_none k z.bare) (absent_is ∙ w)
+    -- user a is absent
+    pub user_absent_lem : eqb p 0 ≡ true → Judged t q refusal.no_such_user t
+    user_absent_lem w = stop k refusal.wrong_kind (lit≤ tt) (lit< tt) (kinds_none k z.bare) (absent_is ∙ w)
 
-  module _ (w : eqb p 0 ≡ false) (y : Bool) (r : y ≡ has_role (tables_of t) u officer) where
-    there : Passed refusal.no_such_user (tables_of t) (request_of q)
-    there = pass k refusal.wrong_kind (lit≤ tt) (lit< tt) (kinds_none k z.bare) (absent_is ∙ w)
+    module _ (w : eqb p 0 ≡ false) (y : Bool) (r : y ≡ has_role (tables_of t) u officer) where
+      there : Passed refusal.no_such_user (tables_of t) (request_of q)
+      there = pass k refusal.wrong_kind (lit≤ tt) (lit< tt) (kinds_none k z.bare) (absent_is ∙ w)
 
-    officer_is : refused refusal.role_missing (row_of o).conditions (tables_of t) (asked_of t q) ≡ not y
-    officer_is = z.twelve (tables_of t) (asked_of t q) ∙ lacks_is o t q u k officer y r
+      officer_is : refused refusal.role_missing (row_of o).conditions (tables_of t) (asked_of t q) ≡ not y
+      officer_is = z.twelve (tables_of t) (asked_of t q) ∙ lacks_is o t q u k officer y r
 
-    -- the requester is no officer
-    pub no_officer : y ≡ false → Judged t q refusal.role_missing t
-    no_officer x = stop k refusal.no_such_user (lit≤ tt) (lit< tt) there (officer_is ∙ ap not x)
+      -- the requester is no officer
+      pub no_officer : y ≡ false → Judged t q refusal.role_missing t
+      no_officer x = stop k refusal.no_such_user (lit≤ tt) (lit< tt) there (officer_is ∙ ap not x)
 
-    -- the requester is one
-    pub by_officer : y ≡ true → Passed refusal.role_missing (tables_of t) (request_of q)
-    by_officer x = pass k refusal.no_such_user (lit≤ tt) (lit< tt) there (officer_is ∙ ap not x)
+      -- the requester is one
+      pub by_officer : y ≡ true → Passed refusal.role_missing (tables_of t) (request_of q)
+      by_officer x = pass k refusal.no_such_user (lit≤ tt) (lit< tt) there (officer_is ∙ ap not x)
 
 -- ---- rung 13 and the effect of operations whose outcome is tried
 

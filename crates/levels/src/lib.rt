@@ -1,5 +1,6 @@
 // Levels and their order, and sets of roles: each kind of set is compared over its own width.
 #![tactic(auto)]
+
 ghost use Rattle.std.specs.Prelude.{◌≡◌, ◌<◌};
 ghost use Rattle.model.specs.Level.{at_most, bit, compartment_count, role_count, subset};
 

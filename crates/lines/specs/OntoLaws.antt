@@ -1,6 +1,7 @@
 -- The laws of bytes written into a room: one write after another is one write.
 use Rattle.std.specs.Prelude.{List, [], ◌++◌, ◌∷◌, ◌≡◌, refl, ◌+◌, ◌-◌, ◌<◌, ◌≤◌, suc, ℕ, drop, get_or, length, set, take}
-use Rattle.std.proofs.Common.{append_assoc, append-nil, ◌∙◌, sym, add-one, arith, drop_of_length-le, length-append, length-drop, drop_at, drop-cons, drop-drop, length-take-le, take_all, take_at, take-suc}
+use Rattle.std.proofs.Common.{append_assoc, append-nil, ◌∙◌, sym, add-one, arith, drop_of_length-le, length-append, length-drop, drop_at, drop-cons}
+use Rattle.std.proofs.Common.{drop-drop, length-take-le, take_all, take_at, take-suc}
 use Rattle.std.proofs.lemmas.List.{set_at}
 use Rattle.lines.specs.Onto.{Puts, Wrote, onto}
 

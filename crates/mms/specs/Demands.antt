@@ -185,7 +185,8 @@ pub record DemandTwo : Type 0 where
   pub step_lowest : {t q : List ℕ} {a : ℕ} {r : List ℕ} → StepCall t q a r → (n : ℕ) → (no_in a ≡ n) ↔ Lowest (AppliesTo t q) n
   -- What a request acts on, in this page and in what it cites, is what its references lead to, name by name, and by that way,
   pub operands_found : (t q : List ℕ) (k : ℕ) → operand (asked (tables_of t) (request_of q)) k ≢ 0
-      → Leads (tables_of t) (names (reference_of (request_of q) k)) (basis_of (asked (tables_of t) (request_of q)) k) (operand (asked (tables_of t) (request_of q)) k)
+      → Leads (tables_of t) (names (reference_of (request_of q) k)) (basis_of (asked (tables_of t) (request_of q)) k)
+      (operand (asked (tables_of t) (request_of q)) k)
   -- and nothing else.
   pub operands_led : (t q : List ℕ) (k x : ℕ) (way : List ℕ) → Leads (tables_of t) (names (reference_of (request_of q) k)) way x
       → (operand (asked (tables_of t) (request_of q)) k ≡ x) × (basis_of (asked (tables_of t) (request_of q)) k ≡ way)

@@ -40,7 +40,8 @@ module _ (d d' : Tables) (u : ℕ) (c : Quiet d u d') (i : ℕ) (out : user_at u
   unfolding word_at_index
   index_same = go (ltb i entities_from)
     where
-      go : (b : Bool) → pick b (user_at_index d' i) (entity_at_index d' (i - entities_from)) ≡ pick b (user_at_index d i) (entity_at_index d (i - entities_from))
+      go : (b : Bool) → pick b (user_at_index d' i) (entity_at_index d' (i - entities_from)) ≡ pick b (user_at_index d i)
+          (entity_at_index d (i - entities_from))
       go true = user_same
       go false = c.entities _ _
 

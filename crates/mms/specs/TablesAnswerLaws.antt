@@ -28,7 +28,8 @@ module _ {t room r : List ℕ} {a n : ℕ} (x : WritesTables t room a n r) where
   write_tables_answers_lem = subst (λ (k : ℕ). Memᴰ k write_tables_answers) (sym x.answer) (has_member (write_answer t (length room)) write_tables_answers
       (go (eqb (length t) word_count) (well_formed_test (tables_of t)) (leb (length (text_of_tables t)) (length room))))
     where
-      go : (b c e : Bool) → T (has (pick b (pick c (pick e refusal.accepted refusal.too_short) refusal.not_well_formed) refusal.bad_length) write_tables_answers)
+      go : (b c e : Bool) → T (has (pick b (pick c (pick e refusal.accepted refusal.too_short) refusal.not_well_formed) refusal.bad_length)
+          write_tables_answers)
       go true true true = tt
       go true true false = tt
       go true false e = tt

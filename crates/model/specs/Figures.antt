@@ -36,7 +36,8 @@ pub compartments_apart : every 8 (λ i. not (at_most (2 ^ i) 768) && (at_most (2
 unfolding every at_most at_most_over rank subset bit imp
 compartments_apart = refl
 
-pub ranks_apart : (at_most 0 256 && (at_most 256 512 && (at_most 512 768 && (not (at_most 256 255) && (not (at_most 512 511) && not (at_most 768 767)))))) ≡ true
+pub ranks_apart : (at_most 0 256 && (at_most 256 512 && (at_most 512 768 && (not (at_most 256 255) && (not (at_most 512 511) && not (at_most 768 767)))))) ≡
+    true
 unfolding every at_most at_most_over rank subset bit imp
 ranks_apart = refl
 

@@ -1,5 +1,6 @@
 // The lowest layer: every number of the rules once, by name. `tie` proves that each is the model's; nothing else stands here.
 #![tactic(auto)]
+
 pub mod kind;
 pub mod op;
 pub mod range;

@@ -1,23 +1,16 @@
 -- Rule 6.18: a level of a device keeps the tables secure exactly where all that it shows is at most that, and it at most the maximum.
-use Rattle.std.specs.Prelude.{Bool, ◌&&◌, false, not, true, ◌≢◌, ◌≡◌, refl, ◌<◌, ◌≤◌, pred, suc, ℕ, T, eqb, ltb}
+use Rattle.std.specs.Prelude.{Bool, ◌&&◌, false, true, ◌≡◌, ◌<◌, ◌≤◌, ℕ, eqb}
 use Rattle.std.proofs.Math.Bool.{and_comm, and-true}
-use Rattle.std.proofs.Common.{◌∙◌, ap, ap₂, subst, sym, arith}
+use Rattle.std.proofs.Common.{◌∙◌, ap, ap₂, sym}
 use borrow.Author.Tests.{eq-eqb}
-use Rattle.laws.specs.Loops.{every_of}
-use Rattle.model.specs.Basics.Agree.{every_at}
-use Rattle.model.specs.Basics.Choice.{Below, Same, below, it, other, over, pick, same, under}
-use Rattle.model.specs.Basics.TestLaws.{T-l, T-r, equal_bools, every_same, holds_true}
+use Rattle.model.specs.Basics.TestLaws.{every_same, holds_true}
 use Rattle.model.specs.Basics.Tests.{every, imp}
-use Rattle.model.specs.Effect.Words.{set_clearance, set_level}
-use Rattle.model.specs.Level.{at_most, role_count, subset}
-use Rattle.model.specs.State.AgreeSecure.{secure_agrees}
-use Rattle.model.specs.State.Check.{ceiling_test, contained_test, labelled_test, roles_test, secure_test, seen_test}
-use Rattle.model.specs.State.ParentLaws.{row_room}
+use Rattle.model.specs.Effect.Words.{set_level}
+use Rattle.model.specs.Level.{at_most}
+use Rattle.model.specs.State.Check.{secure_test}
 use Rattle.model.specs.State.Secure.{Good, labelled}
-use Rattle.model.specs.State.WellFormed.{WellFormed}
-use Rattle.model.specs.Tables.EditLaws.{elsewhere}
-use Rattle.model.specs.Tables.Words.{Tables, authorised, clearance, used_places, current, device_kind, devices, entity_count, kinds, level, maximum}
-use Rattle.model.specs.Tables.Words.{place_count, places, sums, user_count}
+use Rattle.model.specs.Tables.Words.{Tables, used_places, device_kind, entity_count, kinds, level, maximum}
+use Rattle.model.specs.Tables.Words.{places, sums}
 use Rattle.rows.specs.Rows.{place_at_most}
 use Rattle.secure.specs.Secured.{place_secure}
 use Rattle.secure.specs.ReachLaws.{held_level, here, level_own, used}
@@ -40,7 +33,8 @@ module _ (d : Tables) (g : Good d) where
     ceiling_device = rw (eq-eqb (kinds d e) device_kind k, here e a (d.entity e level))
 
     -- all that a device shows is at most its level, and that at most its maximum
-    device_level_is : 1 ≤ e → e ≤ entity_count → (every (used_places d e) (place_at_most d e a) && at_most a (d.entity e maximum)) ≡ secure_test (set_level e a d)
+    device_level_is : 1 ≤ e → e ≤ entity_count → (every (used_places d e) (place_at_most d e a) && at_most a (d.entity e maximum)) ≡ secure_test
+        (set_level e a d)
     device_level_is low high = ap₂ ◌&&◌ (every_same (used_places d e) (place_at_most d e a) (place_secure (set_level e a d) e) place_device
         ∙ ap (λ (n : ℕ). every n (place_secure (set_level e a d) e)) (used d g e)) ceiling_device
         ∙ entity_secure_lem (set_level e a d) e ∙ sym (level_own d g e a k low high)

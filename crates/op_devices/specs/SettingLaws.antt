@@ -82,7 +82,9 @@ module _ (t q : List ℕ) (u e : ℕ) (k : Taking to_device_level t q u) (g : Fi
       device_level_passed = pass k refusal.no_such_user (lit≤ tt) (lit< tt) device_level_11 (dropped_is ∙ w)
 
       pub device_level_13 : s ≡ false → Judged t q refusal.level_or_roles t
-      device_level_13 = trial_failed to_device_level device_level_trial t q u k device_level_passed (set_level e a (tables_of t)) (level_effect_lem t q e a g i) s m
+      device_level_13 = trial_failed to_device_level device_level_trial t q u k device_level_passed (set_level e a (tables_of t))
+          (level_effect_lem t q e a g i) s m
 
       pub device_level_done : s ≡ true → (n : List ℕ) → tables_of n ≡ set_level e a (tables_of t) → Judged t q refusal.accepted n
-      device_level_done = trial_done to_device_level device_level_trial t q u k device_level_passed (set_level e a (tables_of t)) (level_effect_lem t q e a g i) s m
+      device_level_done = trial_done to_device_level device_level_trial t q u k device_level_passed (set_level e a (tables_of t))
+          (level_effect_lem t q e a g i) s m

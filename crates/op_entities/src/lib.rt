@@ -1,6 +1,7 @@
 // The operations on one object or container: 4 edit, 5 copy, 6 level, 7 mark, 19 release. Each is asked once rungs 5 to 9 are passed. It judges
 // its own rungs, from 10 on, in their order, and has its effect or answers the rung.
 #![tactic(auto)]
+
 use levels::Level;
 use names::{refusal, role, types};
 use tables::{Entity, User};

@@ -52,7 +52,8 @@ module _ (d : Tables) (w : WellFormed d) where
     left_one : h ≢ 0 → left e (places d h) (used_places d h) ≡ used_places d h - 1
     left_one z = go (ltb (seek e (places d h) (used_places d h)) (used_places d h)) (below (seek e (places d h) (used_places d h)) (used_places d h))
       where
-        go : (b : Bool) → Below (seek e (places d h) (used_places d h)) (used_places d h) b → pick b (pred (used_places d h)) (used_places d h) ≡ used_places d h - 1
+        go : (b : Bool) → Below (seek e (places d h) (used_places d h)) (used_places d h) b → pick b (pred (used_places d h)) (used_places d h) ≡ used_places
+            d h - 1
         go true s = let q : pred (used_places d h) ≡ used_places d h - 1 = omega arith in q
         go false (over l) = absurd (omega (arith, place_in z (used_places d h) (seek e (places d h) (used_places d h)) refl refl))
 
@@ -96,7 +97,8 @@ module _ (d : Tables) (w : WellFormed d) where
     full_left c n l box q = rw (eq-eqb (kinds d c) container_kind box) (go (eqb h c) (same h c))
       where
         go : (b : Bool) → Same h c b → (not b && leb place_count n) ≡ leb place_count (left e (places d c) (used_places d c))
-        go true (it s) = sym (lt-leb place_count (left e (places d c) (used_places d c)) (subst (λ (x : ℕ). left e (places d x) (used_places d x) < place_count) s
+        go true (it s) = sym (lt-leb place_count (left e (places d c) (used_places d c))
+            (subst (λ (x : ℕ). left e (places d x) (used_places d x) < place_count) s
             (omega (
               arith,
               left_one (λ z. omega arith),

@@ -1,5 +1,6 @@
 // The operations on what stands in containers: 1 create, 2 delete, 3 move.
 #![tactic(auto)]
+
 use levels::Level;
 use names::{refusal, size, types};
 use tables::{Entity, User};

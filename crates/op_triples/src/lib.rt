@@ -1,5 +1,6 @@
 // The operations on access triples: 8 grant and 9 revoke.
 #![tactic(auto)]
+
 ghost use Rattle.std.specs.Prelude.{◌≡◌};
 ghost use Rattle.ladder.specs.Contract.{First, Judged, Taking};
 ghost use Rattle.model.specs.Request.Operations.{to_grant, to_revoke};

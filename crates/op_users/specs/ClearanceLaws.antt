@@ -1,23 +1,16 @@
 -- Rule 6.15: a clearance keeps the tables secure exactly where all that its user is shown is at most that.
-use Rattle.std.specs.Prelude.{Bool, ◌&&◌, false, not, ◌≢◌, ◌≡◌, ◌<◌, ◌≤◌, pred, suc, ℕ, T, eqb, ltb}
-use Rattle.std.proofs.Math.Bool.{and_comm, and-true, true}
-use Rattle.std.proofs.Common.{◌∙◌, ap, ap₂, subst, arith, eq-eqb}
+use Rattle.std.specs.Prelude.{Bool, ◌≢◌, ◌≡◌, ◌≤◌, ℕ}
+use Rattle.std.proofs.Math.Bool.{true}
+use Rattle.std.proofs.Common.{◌∙◌, arith}
 use Rattle.std.proofs.Math.Path.{refl, sym}
-use Rattle.laws.specs.Loops.{every_of}
-use Rattle.model.specs.Basics.Agree.{every_at}
-use Rattle.model.specs.Basics.Choice.{Below, Same, below, it, other, over, pick, same, under}
-use Rattle.model.specs.Basics.TestLaws.{T-l, T-r, equal_bools, every_same, holds_true}
-use Rattle.model.specs.Basics.Tests.{every, imp}
-use Rattle.model.specs.Effect.Words.{set_clearance, set_level}
-use Rattle.model.specs.Level.{at_most, role_count, subset}
-use Rattle.model.specs.State.AgreeSecure.{secure_agrees}
-use Rattle.model.specs.State.Check.{ceiling_test, contained_test, labelled_test, roles_test, secure_test, seen_test}
-use Rattle.model.specs.State.ParentLaws.{row_room}
-use Rattle.model.specs.State.Secure.{Good, labelled}
-use Rattle.model.specs.State.WellFormed.{WellFormed}
-use Rattle.model.specs.Tables.EditLaws.{elsewhere}
-use Rattle.model.specs.Tables.Words.{Tables, authorised, clearance, used_places, current, device_kind, devices, entity_count, kinds, level, maximum}
-use Rattle.model.specs.Tables.Words.{place_count, places, sums, user_count}
+use Rattle.model.specs.Basics.TestLaws.{holds_true}
+use Rattle.model.specs.Basics.Tests.{every}
+use Rattle.model.specs.Effect.Words.{set_clearance}
+use Rattle.model.specs.Level.{role_count, subset}
+use Rattle.model.specs.State.Check.{secure_test}
+use Rattle.model.specs.State.Secure.{Good}
+use Rattle.model.specs.Tables.Words.{Tables, authorised, clearance, used_places, current, devices}
+use Rattle.model.specs.Tables.Words.{user_count}
 use Rattle.rows.specs.Rows.{place_at_most}
 use Rattle.secure.specs.ReachLaws.{clearance_own, here, used}
 use Rattle.secure.specs.SecureLaws.{user_off, user_on_lem}

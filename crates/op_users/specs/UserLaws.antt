@@ -124,7 +124,8 @@ module _ (t q : List ℕ) (u : ℕ) (k : Taking to_acknowledge t q u) (a b h m :
   acknowledge_16 w = stop k refusal.arrangement (lit≤ tt) (lit< tt) acknowledge_15 (differs_is ∙ w)
 
   pub acknowledge_done : (eqb h 0 || (not (eqb a h) || not (eqb b m))) ≡ false → (n : List ℕ)
-      → tables_of n ≡ on_user u (user_word held 0) (on_user u (user_word held_op 0) (on_user u (user_word missed 0) (tables_of t))) → Judged t q refusal.accepted n
+      → tables_of n ≡ on_user u (user_word held 0) (on_user u (user_word held_op 0) (on_user u (user_word missed 0) (tables_of t))) → Judged t q
+      refusal.accepted n
   unfolding refused
   acknowledge_done w n e = accepted k n (pass k refusal.arrangement (lit≤ tt) (lit< tt) acknowledge_15 (differs_is ∙ w))
       (e ∙ ap (on_user u (user_word held 0)) (user_twice u (user_word held_op 0) (user_word missed 0) (tables_of t))

@@ -1,6 +1,7 @@
 // The operations on a user: 14 current roles, 15 clearance, 16 authorised roles, 20 acknowledge. Each judges its own rungs, from 11 on, in their
 // order, and has its effect or answers the rung.
 #![tactic(auto)]
+
 use levels::Level;
 use names::{refusal, role};
 use tables::User;

@@ -69,7 +69,8 @@ module _ (d : Tables) (l : ℕ) where
   follow_end e o (p ∷ ps) h z = absurd (omega arith)
 
   -- the next name is no used place
-  pub follow_stop : (e : ℕ) (o : Bool) (ns : List ℕ) → length ns ≢ 0 → ((1 ≤ get_or ns 0 0) × (get_or ns 0 0 ≤ used_places d e) → ⊥) → Nowhere ≡ onward d l e o ns
+  pub follow_stop : (e : ℕ) (o : Bool) (ns : List ℕ) → length ns ≢ 0 → ((1 ≤ get_or ns 0 0) × (get_or ns 0 0 ≤ used_places d e) → ⊥) → Nowhere ≡ onward d l e
+      o ns
   follow_stop e o [] n h = absurd (n refl)
   follow_stop e o (p ∷ ps) n h = rw (follow_no d e p ps (fails (place_test d e p) (λ t. h ((place_agrees d e p).to t))))
 

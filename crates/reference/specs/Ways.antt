@@ -30,7 +30,8 @@ bar d l e = not (eqb (d.entity e mark) 0) && not (at_most (d.entity e level) l)
 
 -- Rule 7.8: the triple x has this key, an operation and a position, and names the user u, or a role among these.
 unfoldable pub admits : ℕ → ℕ → ℕ → ℕ → Bool
-admits u roles key x = eqb (x % who_weight) key && (eqb (who_of x) u || (leb (who_role 0) (who_of x) && (leb (who_of x) who_most && bit (who_of x - who_role 0) roles)))
+admits u roles key x = eqb (x % who_weight) key && (eqb (who_of x) u ||
+    (leb (who_role 0) (who_of x) && (leb (who_of x) who_most && bit (who_of x - who_role 0) roles)))
 
 -- The resolver's answer from e on by these names, for the clearance l, where o says whether the way so far is open.
 abbrev pub onward : Tables → ℕ → ℕ → Bool → List ℕ → Found

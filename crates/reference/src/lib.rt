@@ -1,5 +1,6 @@
 // Where a reference leads, whether the way there is open, and whether an entity's triples permit a request.
 #![tactic(auto)]
+
 ghost use Rattle.std.specs.Prelude.{◌≡◌, not, ◌<◌, ◌≤◌, length};
 ghost use Rattle.model.specs.Basics.Tests.{every};
 ghost use Rattle.model.specs.Request.Ladder.{permits};

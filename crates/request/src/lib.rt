@@ -1,5 +1,6 @@
 // A request: sixteen lent words, read by name.
 #![tactic(auto)]
+
 ghost use Rattle.std.specs.Prelude.{◌≡◌, ◌+◌, ◌<◌, ◌≤◌, length};
 ghost use Rattle.model.specs.Request.Ladder.{names_fit};
 ghost use Rattle.model.specs.Request.Words.{name_count, names, reference_at, request_of, request_words};

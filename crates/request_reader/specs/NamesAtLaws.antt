@@ -101,7 +101,8 @@ module _ {s : List ℕ} {at : ℕ} {o p : List ℕ} {i k : ℕ} where
       record { is = rw (stored_before p k v l) (sym all); within = n.within; few = omega arith; kept = stored_behind o p k v t.kept }
 
 -- the fourth number is the last
-pub names_last : {s : List ℕ} {at : ℕ} {o p : List ℕ} {i k v j : ℕ} → NamesTo s at o p i k → k ≡ further_most → further_most < length p → NumberAt s i (Value v j)
+pub names_last : {s : List ℕ} {at : ℕ} {o p : List ℕ} {i k v j : ℕ} → NamesTo s at o p i k → k ≡ further_most → further_most < length p → NumberAt s i
+    (Value v j)
     → NamesIs s (name_and further_most (drop at s)) name_count o (set p further_most v) (Are name_count j)
 names_last t e l n = names_end (rw e at t) (omega arith) l n refl
 

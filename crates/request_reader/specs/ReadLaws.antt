@@ -34,7 +34,8 @@ read_bad s w v k h f = refused s w k h (go (read_seven s) refl f.answer)
     go (bad_line j) e g = let q : j ≡ k = cc in rw (e, q)
 
 -- something follows the seventh line
-pub read_behind : (s w v : List ℕ) (i : ℕ) → length w ≡ request_words → SevenAt s 0 v v (Next i) → i < length s → Reads s w refusal.not_a_request (suc line_total) w
+pub read_behind : (s w v : List ℕ) (i : ℕ) → length w ≡ request_words → SevenAt s 0 v v (Next i) → i < length s → Reads s w refusal.not_a_request
+    (suc line_total) w
 unfolding read_text
 read_behind s w v i h f b = refused s w (suc line_total) h (go (read_seven s) refl f.answer)
   where

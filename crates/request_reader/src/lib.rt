@@ -1,6 +1,7 @@
 // Reads seven lines at an index of some bytes, or the whole text of a request (rule 11.4). Words are read into a room of the reader's own first. The
 // words that it is lent change only where all is well.
 #![tactic(auto)]
+
 ghost use Rattle.std.specs.Prelude.{[], ◌≡◌, ◌≤◌, drop, length};
 ghost use Rattle.lines.specs.LineAt.{LineAt};
 ghost use Rattle.model.specs.Request.Words.{name_count, request_words};

@@ -1,5 +1,6 @@
 // Writes the text of a request, seven lines for sixteen words (rule 11.3), at the front of the room that is lent. What stands after the text stays.
 #![tactic(auto)]
+
 ghost use Rattle.std.specs.Prelude.{◌≡◌, ◌+◌, ◌≤◌, length};
 ghost use Rattle.lines.specs.Onto.{Puts, Wrote};
 ghost use Rattle.model.specs.Request.Words.{name_count, request_of, request_words};

@@ -1,5 +1,6 @@
 // What is done to a row of an entity: a word is sought in it, a word is taken out of it, and what stands in it is compared with a level.
 #![tactic(auto)]
+
 ghost use Rattle.std.specs.Prelude.{◌≡◌, ◌<◌, ◌≤◌, ltb};
 ghost use Rattle.model.specs.Basics.Tests.{every};
 ghost use Rattle.model.specs.State.WellFormed.{WellFormed};

@@ -1,6 +1,7 @@
 // Many requests in one call (rule 15): the tables are checked once, and each request is put to what the requests before it left. That tables which
 // passed go on passing is a theorem, and is not asked again.
 #![tactic(auto)]
+
 ghost use Rattle.run.specs.Contract.{AnsweredAll, RunReady, RunSettled};
 
 use names::{refusal, size};

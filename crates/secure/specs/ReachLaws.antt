@@ -1,6 +1,6 @@
 -- What a clearance, or the level of a device, can break: on good tables that are changed in one word, one record decides.
 use Rattle.std.specs.Prelude.{Bool, ◌&&◌, false, not, true, ◌≢◌, ◌≡◌, ◌<◌, ◌≤◌, pred, suc, ℕ, T, eqb, ltb}
-use Rattle.std.proofs.Math.Bool.{and_comm, and-true}
+use Rattle.std.proofs.Math.Bool.{and-true}
 use Rattle.std.proofs.Common.{◌∙◌, ap₂, subst, sym, arith, eq-eqb}
 use Rattle.std.proofs.Math.Path.{ap, refl}
 use Rattle.laws.specs.Loops.{every_of}
@@ -9,16 +9,16 @@ use Rattle.model.specs.Basics.Choice.{Below, Same, below, it, other, over, pick,
 use Rattle.model.specs.Basics.TestLaws.{T-l, T-r, equal_bools, every_same, holds_true}
 use Rattle.model.specs.Basics.Tests.{every, imp}
 use Rattle.model.specs.Effect.Words.{set_clearance, set_level}
-use Rattle.model.specs.Level.{at_most, role_count, subset}
+use Rattle.model.specs.Level.{at_most}
 use Rattle.model.specs.State.AgreeSecure.{secure_agrees}
 use Rattle.model.specs.State.Check.{ceiling_test, contained_test, labelled_test, roles_test, secure_test, seen_test}
 use Rattle.model.specs.State.ParentLaws.{row_room}
-use Rattle.model.specs.State.Secure.{Good, labelled}
+use Rattle.model.specs.State.Secure.{Good}
 use Rattle.model.specs.State.WellFormed.{WellFormed}
 use Rattle.model.specs.Tables.EditLaws.{elsewhere}
-use Rattle.model.specs.Tables.Words.{Tables, authorised, clearance, used_places, current, device_kind, devices, entity_count, kinds, level, maximum}
-use Rattle.model.specs.Tables.Words.{place_count, places, sums, user_count}
-use Rattle.secure.specs.Secured.{capped, entity_secure, place_secure, user_secure}
+use Rattle.model.specs.Tables.Words.{Tables, clearance, used_places, device_kind, devices, entity_count, kinds, level}
+use Rattle.model.specs.Tables.Words.{place_count, places, user_count}
+use Rattle.secure.specs.Secured.{capped, entity_secure, user_secure}
 use Rattle.secure.specs.SecureLaws.{capped_within, secure_passes}
 
 -- ---- one record among many

@@ -49,7 +49,8 @@ capped_every n p = equal_bools (every (capped n) p) (every place_count (λ i. im
     (λ t. every_of place_count (λ i. imp (ltb i n) (p i)) (λ i h. (agrees_imp (agrees_le (suc i) n) (agrees_T (p i))).from
     (λ l. every_at (capped n) p t i (capped_cases n (λ c. i < c) (λ k. h) (λ k. l)))))
     (λ t. every_of (capped n) p (λ i h. (agrees_imp (agrees_le (suc i) n) (agrees_T (p i))).to
-    (every_at place_count (λ i. imp (ltb i n) (p i)) t i (omega (arith, capped_low n))) (capped_cases n (λ c. i < c → i < n) (λ k l. omega arith) (λ k l. l) h)))
+    (every_at place_count (λ i. imp (ltb i n) (p i)) t i (omega (arith, capped_low n)))
+    (capped_cases n (λ c. i < c → i < n) (λ k l. omega arith) (λ k l. l) h)))
 
 -- ---- entities
 
@@ -198,7 +199,8 @@ secure_passes d = rw (
   every_both entity_count (λ e. contained_test d (suc e)) (λ e. labelled_test d (suc e) && ceiling_test d (suc e)),
   every_both entity_count (λ e. labelled_test d (suc e)) (λ e. ceiling_test d (suc e)),
   every_both user_count (λ u. seen_test d (suc u)) (λ u. roles_test d (suc u)),
-) (go (every entity_count (λ e. contained_test d (suc e))) (every entity_count (λ e. labelled_test d (suc e))) (every entity_count (λ e. ceiling_test d (suc e)))
+) (go (every entity_count (λ e. contained_test d (suc e))) (every entity_count (λ e. labelled_test d (suc e)))
+    (every entity_count (λ e. ceiling_test d (suc e)))
     (every user_count (λ u. seen_test d (suc u))) (every user_count (λ u. roles_test d (suc u))))
   where
     go : (c l m s r : Bool) → ((c && (l && m)) && (s && r)) ≡ (c && (s && (l && (r && m))))

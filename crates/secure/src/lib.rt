@@ -1,5 +1,6 @@
 // Whether any tables are secure (definition 2): what is asked of an entity, and the pass over the users.
 #![tactic(auto)]
+
 ghost use Rattle.std.specs.Prelude.{true, ◌≡◌, ◌+◌, ◌<◌, ◌≤◌, suc, length};
 ghost use Rattle.model.specs.Basics.Tests.{every};
 ghost use Rattle.model.specs.Level.{at_most};

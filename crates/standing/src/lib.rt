@@ -1,5 +1,6 @@
 // What stands where: the container that an entity is in, the screens that show it, and what lies in what.
 #![tactic(auto)]
+
 ghost use Rattle.std.specs.Prelude.{◌≡◌, ◌≤◌, suc, length};
 ghost use Rattle.model.specs.Request.Conditions.{on_screen};
 ghost use Rattle.model.specs.State.Climb.{climb};

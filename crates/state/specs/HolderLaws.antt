@@ -116,7 +116,8 @@ module _ (d : Tables) (o : Bounded d) (w : all_own d ≡ true) where
       (λ a i x s m n. let e : a ≡ c = omega (arith, slot_in a i x s, s.low) in q (ke ∙ ap (kinds d) (sym e) ∙ s.box))
 
   -- the end of a container
-  pub filled_rest : (c i n : ℕ) (h : List ℕ) → 1 ≤ c → n ≡ used_places d c → i ≤ n → n ≤ i → Filled d ((c - 1) * place_count + i) h → Filled d (c * place_count) h
+  pub filled_rest : (c i n : ℕ) (h : List ℕ) → 1 ≤ c → n ≡ used_places d c → i ≤ n → n ≤ i → Filled d ((c - 1) * place_count + i) h → Filled d
+      (c * place_count) h
   filled_rest c i n h l ne a b f = filled_more d ((c - 1) * place_count + i) (c * place_count) h f (omega (arith, (packed c).room))
       (λ z j x s m k.
       let e : z ≡ c = omega (arith, slot_in z j x s, s.low) in
@@ -203,7 +204,8 @@ module _ (d : Tables) (o : Bounded d) (w : all_own d ≡ true) where
             (λ e. (packed e).room) x e (get_or h x 0) (box (get_or h x 0) r.0 x r.1) in
             omega arith
         go false (other e) = whole_at (parent (kinds d) (used_places d) (places d) x) x
-            (parent_holds (kinds d) (used_places d) (places d) (devices d) (λ e q. (o.entity_out e q kind, o.entity_out e q used)) (λ u q. o.user_out u q device)
+            (parent_holds (kinds d) (used_places d) (places d) (devices d) (λ e q. (o.entity_out e q kind, o.entity_out e q used))
+            (λ u q. o.user_out u q device)
             (λ e. (packed e).room) x e)
 
     -- so that climbing the list decides the model's test

@@ -115,9 +115,11 @@ module _ (d : Tables) (o : Bounded d) (e : ℕ) (present : 1 ≤ kinds d e) wher
   own_present : (holding_test d e && every place_count (triple_new (triples d e))) ≡ own_test d e
   unfolding holding_test own_test entity_test imp
   own_present = rw (ne_eqb (kinds d e) 0 (λ q. omega arith), triples_pass (triples d e) (o.triples_out e))
-      (sym (triples_last (shape_at d e) (used_test (kinds d e) (used_places d e)) (every place_count (place_test d e)) (every (used_places d e) (unlike (places d e)))
+      (sym (triples_last (shape_at d e) (used_test (kinds d e) (used_places d e)) (every place_count (place_test d e))
+      (every (used_places d e) (unlike (places d e)))
       (access_test (triples d e)) (idle_at d e))
-      ∙ sym (one_by_one (shape_at d e) (used_test (kinds d e) (used_places d e)) (every place_count (place_test d e)) (every (used_places d e) (unlike (places d e)))
+      ∙ sym (one_by_one (shape_at d e) (used_test (kinds d e) (used_places d e)) (every place_count (place_test d e))
+      (every (used_places d e) (unlike (places d e)))
       (access_test (triples d e) && idle_at d e))
       ∙ ap (λ (b : Bool). shape_at d e && (b && (access_test (triples d e) && idle_at d e))) (sym (filled_passes d o e))
       ∙ sym (contents_first (shape_at d e) (filled_test (kinds d e) (used_places d e) (places d e) (sums d e)) (access_test (triples d e))

@@ -37,7 +37,8 @@ module _ (d : Tables) (o : Bounded d) where
   -- these two tests ask nothing of counts
   on_device_lem : Agrees (device_test (kinds d) (used_places d) (places d) (devices d)) ((u : ℕ) → devices d u ≢ 0 → kinds d (devices d u) ≡ device_kind)
   unfolding device_test
-  on_device_lem = device_agrees (kinds d) (λ e. 0) (places d) (devices d) (λ e q. (o.entity_out e q kind, refl)) (λ u q. o.user_out u q device) (λ e. omega arith)
+  on_device_lem = device_agrees (kinds d) (λ e. 0) (places d) (devices d) (λ e q. (o.entity_out e q kind, refl)) (λ u q. o.user_out u q device)
+      (λ e. omega arith)
 
   -- nobody shares a device
   by_self : Agrees (alone_test (kinds d) (used_places d) (places d) (devices d)) ((u v : ℕ) → devices d u ≢ 0 → devices d u ≡ devices d v → u ≡ v)

@@ -68,7 +68,8 @@ triple_new row i = pick (eqb (row i) 0) (leb last_triple i || eqb (row (i + 1)) 
 
 -- only objects and containers stand in the places of e
 unfoldable pub contents_at : Tables → ℕ → Bool
-contents_at d e = every place_count (λ i. imp (ltb i (used_places d e)) (leb object_kind (kinds d (places d e i)) && leb (kinds d (places d e i)) container_kind))
+contents_at d e = every place_count (λ i. imp (ltb i (used_places d e))
+    (leb object_kind (kinds d (places d e i)) && leb (kinds d (places d e i)) container_kind))
 
 -- a device that nobody is on shows nothing
 unfoldable pub idle_at : Tables → ℕ → Bool

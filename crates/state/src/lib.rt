@@ -1,5 +1,6 @@
 // The state check: whether lent words are well-formed tables, and secure ones.
 #![tactic(auto)]
+
 ghost use Rattle.std.specs.Prelude.{◌≡◌, length};
 ghost use Rattle.model.specs.State.Check.{check, judge};
 ghost use Rattle.model.specs.Tables.Layout.{tables_of, word_count};

@@ -14,7 +14,7 @@ use Rattle.model.specs.Basics.Agree.{agrees_eq, agrees_not, every_at}
 use Rattle.model.specs.Basics.Tests.{every}
 use Rattle.model.specs.Request.After.{noticed_op}
 use Rattle.model.proofs.Request.AfterLaws.{after_unchanged}
-use Rattle.model.specs.Request.Ladder.{answer, applies, fits, ladder, never, not_logged_on, not_understood, of_op, rung_at, unknown_user}
+use Rattle.model.specs.Request.Ladder.{applies, fits, ladder, never, not_logged_on, not_understood, of_op, rung_at, unknown_user}
 use Rattle.model.specs.Request.LadderLaws.{of_op_some}
 use Rattle.model.proofs.Request.OperationLaws.{number_range, op_of_number}
 use Rattle.model.specs.Request.Operations.{Op, number_of, op_of, open_logged_off, operations, to_acknowledge, to_login, with_number}

@@ -1,5 +1,6 @@
 // The step: the state check and the request's length (1 to 3), then the ladder from rung 4 on, the effect and the notice.
 #![tactic(auto)]
+
 use ladder::operands::{Operand, Pair};
 use names::{op, range, refusal, size};
 use tables::{Entity, User};

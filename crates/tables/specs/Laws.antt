@@ -61,14 +61,16 @@ module _ (t : List ℕ) where
   pub user_at_lem : (u f : ℕ) → UserIn t u → f < user_width → get_or t ((u - 1) * user_width + f) 0 ≡ (tables_of t).user u (user_word_at f)
   user_at_lem u f i h = user_read u (user_word_at f) f i h (user_offset_at f h)
 
-  pub entity_at_lem : (e f : ℕ) → EntityIn t e → f < entity_width → get_or t (entities_from + (e - 1) * entity_width + f) 0 ≡ (tables_of t).entity e (entity_word_at f)
+  pub entity_at_lem : (e f : ℕ) → EntityIn t e → f < entity_width → get_or t (entities_from + (e - 1) * entity_width + f) 0 ≡ (tables_of t).entity e
+      (entity_word_at f)
   entity_at_lem e f i h = entity_read e (entity_word_at f) f i (index_below f h) (offset_at f h)
 
   -- the single words of a user, and of an entity
   pub user_single_lem : (u f : ℕ) → UserIn t u → f < single_count → get_or t ((u - 1) * user_width + f) 0 ≡ (tables_of t).user u (user_single f)
   user_single_lem u f i h = user_read u (user_single f) f i (omega arith) (user_single_at f h)
 
-  pub entity_single_lem : (e f : ℕ) → EntityIn t e → f < single_count → get_or t (entities_from + (e - 1) * entity_width + f) 0 ≡ (tables_of t).entity e (entity_single f)
+  pub entity_single_lem : (e f : ℕ) → EntityIn t e → f < single_count → get_or t (entities_from + (e - 1) * entity_width + f) 0 ≡ (tables_of t).entity e
+      (entity_single f)
   entity_single_lem e f i h = entity_read e (entity_single f) f i (omega (arith, entity_single_index f h)) (entity_single_at f h)
 
   -- a store of a single word of a user is an edit of that word

@@ -1,6 +1,7 @@
 // The tables: 2,304 lent words, read and written by name. A reader asks that the record is there and then reads one word, with no test left; a
 // writer stores one word. The two `.._or_zero` readers ask nothing of the number, and give 0 where there is no such record.
 #![tactic(auto)]
+
 mod entities;
 pub mod sums;
 pub mod triples;

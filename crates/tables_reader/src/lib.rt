@@ -1,6 +1,7 @@
 // Reads the text of tables (rule 16.5). The words are read into a room of the reader's own first; the tables that it is lent change only where
 // the text keeps the line rules and its tables are well-formed.
 #![tactic(auto)]
+
 ghost use Rattle.std.specs.Prelude.{◌≡◌, ◌≤◌, suc, length, take};
 ghost use Rattle.model.specs.Text.Unfinished.{ends};
 ghost use Rattle.tables_reader.specs.Blank.{blank};

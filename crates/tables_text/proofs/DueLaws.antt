@@ -50,7 +50,8 @@ used_now e n d = rw (eq-eqb e e refl)
 entity_fields_lem : (fs : List Field) → Unbroken fs → (e j : ℕ) (d : Tables) (s : List ℕ) → length single_fields ≡ j + length fs
     → Tells (fields_due fs (placed e)) (λ d. places_due (used_places d e) e) s (entity_stage e (fs ++ (places_field ∷ [])) j d s)
 unfolding entity_stage
-entity_fields_lem [] k e j d s h = tells_line (placed_ruled e) s _ λ n x. passes (subst (λ m. Passed (places_due n e) (places_due m e) x x) (used n) passed_none)
+entity_fields_lem [] k e j d s h = tells_line (placed_ruled e) s _ λ n x. passes
+    (subst (λ m. Passed (places_due n e) (places_due m e) x x) (used n) passed_none)
   where
     used : (n : ℕ) → n ≡ used_places (on_entity e (word (entity_word_at j) n) d) e
     used n = let i : length single_fields ≡ j = omega arith in sym (used_now e n d) ∙ ap (λ m. used_places (on_entity e (word (entity_word_at m) n) d) e) i

@@ -37,7 +37,8 @@ line_of_place a b = place_line (record { entity = a; sum = b })
 pub rest_same : (c d : Tables) (e : ℕ) → c.entity e ≡ d.entity e → entity_rest c e ≡ entity_rest d e
 rest_same c d e q =
     ap (λ (g : EntityWord → ℕ). field_lines entity_fields 0 (λ j. g (entity_word_at j)) ++ (series (g used) 0 (λ i. line_of_place (g (place i)) (g (shown i)))
-    ++ (number_line triples_key (seek 0 (λ i. g (triple i)) place_count) ++ series (seek 0 (λ i. g (triple i)) place_count) 0 (λ i. triple_line (g (triple i)))))) q
+    ++ (number_line triples_key (seek 0 (λ i. g (triple i)) place_count) ++ series (seek 0 (λ i. g (triple i)) place_count) 0
+    (λ i. triple_line (g (triple i)))))) q
 
 -- ---- how many triples there are
 

@@ -5,7 +5,7 @@ use Rattle.std.proofs.Math.Path.{ap, fun_ext, refl}
 use Rattle.model.specs.Basics.Cases.{cases, lt_or_le}
 use Rattle.model.specs.Basics.Choice.{pick}
 use Rattle.model.specs.Tables.WordAt.{entity_word_at}
-use Rattle.model.specs.Tables.Words.{EntityWord, Tables, kind, level, mark, maximum, place, places, releaser, shown, tag, triple}
+use Rattle.model.specs.Tables.Words.{EntityWord, Tables, kind, level, mark, maximum, place, releaser, shown, tag, triple}
 use Rattle.model.specs.Tables.Words.{triples, type, used, used_places, value}
 use Rattle.model.specs.Text.Numbers.{most}
 use Rattle.tables_text.proofs.EntityLaws.{count_most, count_some, entity_rest, line_of_place}

@@ -48,5 +48,6 @@ users_over d u (suc k) e =
     let t : List ℕ = series k (suc e) (entity_text d) in
     cases (entity_either d e)
     (λ q. ap (λ w. behind (number_line user_key u) (w ++ t)) q ∙ users_over d u k (suc e))
-    (λ q. ap (λ w. behind (number_line user_key u) (w ++ t)) q ∙ ap (behind (number_line user_key u)) (append_assoc (number_line entity_key e) (entity_rest d e) t)
+    (λ q. ap (λ w. behind (number_line user_key u) (w ++ t)) q ∙ ap (behind (number_line user_key u))
+    (append_assoc (number_line entity_key e) (entity_rest d e) t)
     ∙ user_not_entity u e (entity_rest d e ++ t))

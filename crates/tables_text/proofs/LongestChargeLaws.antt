@@ -70,7 +70,8 @@ module _ (d : Tables) (w : WellFormed d) where
   pub held_once : (c : ℕ) → times_held d c ≤ 1
   unfolding times_held
   held_once c =
-      total_unique entity_count 1 (λ b. times_in d b c) (λ b x y. in_once b c) (λ a x y b z t p q. w.links.one_container c a b (in_there a c p) (in_there b c q))
+      total_unique entity_count 1 (λ b. times_in d b c) (λ b x y. in_once b c)
+      (λ a x y b z t p q. w.links.one_container c a b (in_there a c p) (in_there b c q))
 
   -- so it is an object or a container
   pub held_thing : (c : ℕ) → 0 < times_held d c → Thing d c

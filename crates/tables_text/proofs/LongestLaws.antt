@@ -26,7 +26,8 @@ longest_is : all_users + all_entities + user_count * more_on ≡ longest_text + 
 unfolding total
 longest_is = refl
 
-pub text_length : (d : Tables) → length (tables_text d) ≡ total user_count 1 (λ u. length (user_text d u)) + total entity_count 1 (λ e. length (entity_text d e))
+pub text_length : (d : Tables) → length (tables_text d) ≡ total user_count 1 (λ u. length (user_text d u)) + total entity_count 1
+    (λ e. length (entity_text d e))
 unfolding tables_text
 text_length d =
     length-append (series user_count 1 (user_text d)) (series entity_count 1 (entity_text d))

@@ -9,7 +9,8 @@ use Rattle.model.specs.State.WellFormed.{Access, GoodTriple, WellFormed}
 use Rattle.model.specs.Tables.RowLaws.{first_zero}
 use Rattle.model.specs.Tables.WordAt.{entity_word_at, entity_word_of, user_word_at, user_word_of}
 use Rattle.model.specs.Tables.Words.{Tables, authorised, clearance, current, device, device_kind, entity_count, held, held_op, kind, kinds, level, mark}
-use Rattle.model.specs.Tables.Words.{maximum, missed, operation_in, place_count, places, position_of, releaser, sum_most, sums, triples, type, used, used_places}
+use Rattle.model.specs.Tables.Words.{maximum, missed, operation_in, place_count, places, position_of, releaser, sum_most, sums, triples, type, used}
+use Rattle.model.specs.Tables.Words.{used_places}
 use Rattle.model.specs.Tables.Words.{user_count, value, who_of}
 use Rattle.model.specs.Text.LineLaws.{length_line}
 use Rattle.model.specs.Text.NumberLaws.{length_small, length_step}
@@ -101,7 +102,8 @@ module _ (d : Tables) (w : WellFormed d) where
   -- the lines of a user whose current roles and device have so many digits
   pub user_lines_lem : (u : ℕ) → u ≤ user_count → (c v : ℕ) → size (d.user u current) ≤ c → size (d.user u device) ≤ v
       → length (user_lines d u) ≤
-      line_size user_key (1 + second u) + line_size clearance_key level_digits + line_size authorised_key role_digits + line_size current_key c + line_size device_key v
+      line_size user_key (1 + second u) + line_size clearance_key level_digits + line_size authorised_key role_digits + line_size current_key c + line_size
+      device_key v
       + line_size held_key held_digits + line_size operation_key operation_digits + line_size missed_key missed_digits
   unfolding user_lines user_word_at user_word_of
   user_lines_lem u h c v hc hv =
@@ -149,7 +151,8 @@ module _ (d : Tables) (w : WellFormed d) where
       let c : triple_count d e ≡ n = first_zero (triples d e) n a.packed in
       let m : n ≤ place_count = a.packed.room in
       let b : total n 0 (λ i. length (triple_at d e i)) ≤ total n 0 (λ i. line_size triple_key triple_bytes)
-      = total_le n 0 (λ i. length (triple_at d e i)) (λ i. line_size triple_key triple_bytes) (λ i x y. triple_length (triples d e i) (a.good i (omega arith))) in
+      = total_le n 0 (λ i. length (triple_at d e i)) (λ i. line_size triple_key triple_bytes)
+      (λ i x y. triple_length (triples d e i) (a.good i (omega arith))) in
       rw c (omega (
         arith,
         number_length triples_key n,
@@ -161,7 +164,8 @@ module _ (d : Tables) (w : WellFormed d) where
   -- the lines of an entity whose value, releaser and maximum have so many digits, but for the places
   pub entity_lines_lem : (e : ℕ) → e ≤ entity_count → (v r m : ℕ) → size (d.entity e value) ≤ v → size (d.entity e releaser) ≤ r → size (d.entity e maximum) ≤ m
       → length (entity_lines d e)
-      ≤ plain_size + second e + line_size value_key v + line_size releaser_key r + line_size maximum_key m + total (used_places d e) 0 (λ i. length (place_at d e i))
+      ≤ plain_size + second e + line_size value_key v + line_size releaser_key r + line_size maximum_key m + total (used_places d e) 0
+      (λ i. length (place_at d e i))
   unfolding entity_lines entity_word_at entity_word_of
   entity_lines_lem e h v r m hv hr hm =
       let s = (w.entities e).shape in

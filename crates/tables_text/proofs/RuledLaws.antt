@@ -46,7 +46,8 @@ pub record Ruled {A : Type 0} (σ : Due) (r : List ℕ → Read A) (δ : A → D
 
 -- Then a stage of this line and the next ones tells of the bytes what the next ones tell of the rest.
 module _ {A : Type 0} {σ : Due} {r : List ℕ → Read A} {δ : A → Due} (u : Ruled σ r δ) where
-  pub tells_line : {T : Tables → Due} (s : List ℕ) (f : A → List ℕ → Stage) → ((a : A) (x : List ℕ) → Tells (δ a) T x (f a x)) → Tells σ T s (or_stuck s (r s) f)
+  pub tells_line : {T : Tables → Due} (s : List ℕ) (f : A → List ℕ → Stage) → ((a : A) (x : List ℕ) → Tells (δ a) T x (f a x)) → Tells σ T s
+      (or_stuck s (r s) f)
   tells_line {T} s f rest = go (r s) refl
     where
       go : (v : Read A) → r s ≡ v → Tells σ T s (or_stuck s v f)

@@ -53,7 +53,8 @@ any_ok n h = (omega arith, h, h)
 -- a user who is present
 user_told : (w : UserWord → ℕ) → UserOk w → ((f : UserWord) → w f ≤ most) → 1 ≤ w present → UserTold w
 user_told w o s h =
-    let k : (j : ℕ) → (0 ≤ w (user_word_at j)) × (w (user_word_at j) ≤ most) × (w (user_word_at j) ≤ most) = λ j. any_ok (w (user_word_at j)) (s (user_word_at j)) in
+    let k : (j : ℕ) → (0 ≤ w (user_word_at j)) × (w (user_word_at j) ≤ most) × (w (user_word_at j) ≤ most) = λ j. any_ok (w (user_word_at j))
+    (s (user_word_at j)) in
     record { present = omega (arith, o.present_in); fields = (k 1, (k 2, (k 3, (k 4, (k 5, (k 6, (k 7, tt))))))); spares = o.spare_zero }
 
 -- an entity that is

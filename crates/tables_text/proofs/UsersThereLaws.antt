@@ -90,7 +90,8 @@ module _ (d' : Tables) (x : List ℕ) (told : (v : ℕ) → Blank (d'.user v) �
         (λ w. ap (λ y. users_stage (suc k) u d ((y ++ t) ++ x)) (user_present d' u (omega (arith, w.present)))
         ∙ ap (users_stage (suc k) u d) (head_first head f t x)
         ∙ either_got (behind head (head ++ (f ++ (t ++ x)))) _ _ (f ++ (t ++ x)) (past d' x) (behind_there head (f ++ (t ++ x)))
-        (onward_there (user_record u d (f ++ (t ++ x))) _ c (t ++ x) (past d' x) (one_user_lem k u d h w (t ++ x)) (users_there k (suc u) c (due_told k u d h))))
+        (onward_there (user_record u d (f ++ (t ++ x))) _ c (t ++ x) (past d' x) (one_user_lem k u d h w (t ++ x))
+        (users_there k (suc u) c (due_told k u d h))))
       where
         one_user_lem : (k u : ℕ) (d : Tables) → UsersDue (suc k) u d → UserTold (d'.user u) → (y : List ℕ)
             → user_record u d (field_lines user_fields 1 (user_words d' u) ++ y) ≡ past (with_user u d d') y

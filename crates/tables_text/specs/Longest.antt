@@ -71,7 +71,8 @@ triples_size = line_size triples_key 1 + place_count * line_size triple_key trip
 -- the lines that are as long for every entity
 abbrev pub plain_size : ℕ
 plain_size =
-    line_size entity_key 1 + line_size kind_key 1 + line_size type_key 1 + line_size level_key level_digits + line_size mark_key 1 + line_size places_key 1 + triples_size
+    line_size entity_key 1 + line_size kind_key 1 + line_size type_key 1 + line_size level_key level_digits + line_size mark_key 1 + line_size places_key 1 +
+    triples_size
 
 -- an object or a container, and a device, but for a second digit of the number and for what is there
 abbrev pub thing_size : ℕ

@@ -7,7 +7,8 @@ use Rattle.model.specs.Basics.Cases.{cases, lt_or_le}
 use Rattle.model.specs.Basics.TestLaws.{is_true}
 use Rattle.model.specs.Basics.Tests.{every, imp}
 use Rattle.model.specs.State.Agree.{well_formed_agrees}
-use Rattle.model.specs.State.Check.{alone_test, contents_test, device_test, idle_test, in_test, links_test, loop_test, one_test, parent, spot_of, well_formed_test}
+use Rattle.model.specs.State.Check.{alone_test, contents_test, device_test, idle_test, in_test, links_test, loop_test, one_test, parent, spot_of}
+use Rattle.model.specs.State.Check.{well_formed_test}
 use Rattle.model.specs.State.Climb.{up}
 use Rattle.model.specs.State.Tests.{access_test, entity_test, filled_test, nobody_test, none_test, notice_test, packed_test, shape_test, triple_test, user_test}
 use Rattle.model.specs.State.WellFormed.{WellFormed}
@@ -57,7 +58,8 @@ words_fit = refl
 pub longest_fit : (i : ℕ) → get_or longest_words i 0 ≤ most
 unfolding longest_words
 longest_fit i = cases (lt_or_le i word_count)
-    (λ l. let f : T (leb (word_at_index longest_tables i) most) = every_at word_count (λ j. leb (word_at_index longest_tables j) most) (is_true _ words_fit) i l in
+    (λ l. let f : T (leb (word_at_index longest_tables i) most) = every_at word_count (λ j. leb (word_at_index longest_tables j) most) (is_true _ words_fit) i
+    l in
     rw (words_of_at longest_tables i l) ((agrees_le (word_at_index longest_tables i) most).to f))
     (λ l. omega (arith, get_or-eq_default longest_words 0 {n = i} (omega (arith, longest_length))))
 
@@ -72,7 +74,8 @@ unfolding every imp seek entity_test none_test shape_test filled_test access_tes
 entities_test = refl
 
 links_test_lem : links_test (kinds longest_tables) (used_places longest_tables) (places longest_tables) (devices longest_tables) ≡ true
-unfolding every imp seek links_test contents_test one_test loop_test device_test alone_test idle_test in_test spot_of parent up longest_tables full_entity full_user
+unfolding every imp seek links_test contents_test one_test loop_test device_test alone_test idle_test in_test spot_of parent up longest_tables full_entity
+    full_user
     full_thing full_device
 links_test_lem = refl
 
@@ -87,7 +90,8 @@ longest_formed = subst WellFormed (sym longest_tables_lem) ((well_formed_agrees 
 -- ---- and their text is the longest
 
 text_met : length (tables_text longest_tables) ≡ longest_text
-unfolding tables_text series user_text user_lines entity_text entity_lines field_lines line digits entity_word_at entity_word_of user_word_at user_word_of seek longest_tables
+unfolding tables_text series user_text user_lines entity_text entity_lines field_lines line digits entity_word_at entity_word_of user_word_at user_word_of
+    seek longest_tables
     full_entity full_user full_thing full_device
 text_met = refl
 

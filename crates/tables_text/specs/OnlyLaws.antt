@@ -34,7 +34,8 @@ module _
 
     -- is it this word of this record
     which : (x : ℕ) (g : W) → ((x ≡ e) × (g ≡ f)) ⊎ ((x ≡ e → g ≡ f → ⊥) × (put x g ≡ r x g))
-    which x g = go (eqb (tag_of g) (tag_of f)) (eqb (place_of g) (place_of f)) (eqb x e) (same (tag_of g) (tag_of f)) (same (place_of g) (place_of f)) (same x e)
+    which x g = go (eqb (tag_of g) (tag_of f)) (eqb (place_of g) (place_of f)) (eqb x e) (same (tag_of g) (tag_of f)) (same (place_of g) (place_of f))
+        (same x e)
       where
         go : (a b c : Bool) → Same (tag_of g) (tag_of f) a → Same (place_of g) (place_of f) b → Same x e c
             → ((x ≡ e) × (g ≡ f)) ⊎ ((x ≡ e → g ≡ f → ⊥) × (pick (a && b) (pick c v (r x g)) (r x g) ≡ r x g))

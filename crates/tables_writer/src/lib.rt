@@ -2,6 +2,7 @@
 // the word that says that a user is there; an entity also has lines for the places in use, how many triples there are, and those. Spare words and the rest of
 // the rows have none.
 #![tactic(auto)]
+
 ghost use Rattle.std.specs.Prelude.{◌≤◌, length};
 ghost use Rattle.lines.specs.Onto.{Wrote};
 ghost use Rattle.tables_text.specs.Calls.{WritesTables, text_of_tables};

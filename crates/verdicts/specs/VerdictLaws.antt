@@ -126,7 +126,8 @@ module _ (t : List ℕ) (u : ℕ) (v : List ℕ) (a : Admitted t u) (j : Judged 
   unfolding d
   word_verdict e = go (eqb (kinds (tables_of t) e) absent_kind) (same (kinds (tables_of t) e) absent_kind)
     where
-      far : (e : ℕ) → (1 ≤ e → e ≤ entity_count → get_or v e 0 ≡ verdict (tables_of t) u e) → verdict (tables_of t) u e ≡ 0 → get_or v e 0 ≡ verdict (tables_of t) u e
+      far : (e : ℕ) → (1 ≤ e → e ≤ entity_count → get_or v e 0 ≡ verdict (tables_of t) u e) → verdict (tables_of t) u e ≡ 0 → get_or v e 0 ≡ verdict
+          (tables_of t) u e
       far zero h z = j.first ∙ sym z
       far (suc e) h z = near (leb (suc e) entity_count) refl
         where

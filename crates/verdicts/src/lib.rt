@@ -1,5 +1,6 @@
 // The verdict on each entity, found once however many references come by it: whether it may be shown, and how many of its places lead on.
 #![tactic(auto)]
+
 ghost use Rattle.std.specs.Prelude.{◌≡◌, ◌*◌, ◌+◌, ◌≤◌};
 ghost use Rattle.verdicts.specs.Verdicts.{Asker, Judged, verdict, way_weight};
 ghost use Rattle.model.specs.Basics.Choice.{pick};

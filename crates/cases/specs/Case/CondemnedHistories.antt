@@ -89,7 +89,8 @@ other_entity_condemned h = elim (first_accounts (s1_with 2) (lowered (s1_with 2)
 pub refused_condemned : Accountable 2 (second (s1_with 2) (lowered (s1_with 2)) (lowered s1)) (first (ask 1 6 (7 ∷ []) [] 0 0 0) (roles 1))
     (first refusal.level_or_roles refusal.accepted) → ⊥
 unfolding opened s1 s1_sheet
-refused_condemned h = differ refusal.level_or_roles refusal.accepted tt (first_accounts (s1_with 2) (lowered (s1_with 2)) (lowered s1) (ask 1 6 (7 ∷ []) [] 0 0 0)
+refused_condemned h = differ refusal.level_or_roles refusal.accepted tt
+    (first_accounts (s1_with 2) (lowered (s1_with 2)) (lowered s1) (ask 1 6 (7 ∷ []) [] 0 0 0)
     (roles 1) 7 (differ 2 0 tt) (differ 2 0 tt) (differ 2 0 tt) (λ t. t) refl refusal.level_or_roles h).0
 
 -- User 1, who is authorised to be a downgrader, asked as officer, and took up the role afterwards.

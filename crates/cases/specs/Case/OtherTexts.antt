@@ -111,7 +111,8 @@ full_device_lines =
     ∷ []
 
 pub full_device_text : entity_text longest_tables 64 ≡ together full_device_lines
-unfolding opened full_device_lines entity_text entity_lines field_lines series line digits entity_word_at entity_word_of longest_tables full_entity full_thing full_device
+unfolding opened full_device_lines entity_text entity_lines field_lines series line digits entity_word_at entity_word_of longest_tables full_entity full_thing
+    full_device
 full_device_text = refl
 
 -- and a released container.
@@ -172,7 +173,8 @@ full_thing_lines =
     ∷ []
 
 pub full_thing_text : entity_text longest_tables 1 ≡ together full_thing_lines
-unfolding opened full_thing_lines entity_text entity_lines field_lines series line digits entity_word_at entity_word_of longest_tables full_entity full_thing full_device
+unfolding opened full_thing_lines entity_text entity_lines field_lines series line digits entity_word_at entity_word_of longest_tables full_entity full_thing
+    full_device
 full_thing_text = refl
 
 -- ---- tables with no record

@@ -21,8 +21,11 @@ asked_length (q gets n ∷ es) = ap suc (asked_length es)
 
 pub asked_sixteen : (es : List Exchange) → T (in_sixteen es) → AllSixteen (asked es)
 asked_sixteen [] s = tt
-asked_sixteen (q gets n ∷ es) s =
-    (eqb→eq (length q) request_words (T-l (eqb (length q) request_words) (in_sixteen es) s), asked_sixteen es (T-r (eqb (length q) request_words) (in_sixteen es) s))
+asked_sixteen (q gets n ∷ es) s = (
+  eqb→eq (length q) request_words (T-l (eqb (length q) request_words) (in_sixteen es) s),
+  asked_sixteen es
+      (T-r (eqb (length q) request_words) (in_sixteen es) s),
+)
 
 -- A case that passes on the tables d: its requests go through the words of d with its answers, and at the end its words stand.
 pub case_through : (t : List ℕ) (d : Tables) (es : List Exchange) (ws : List Stands) → length t ≡ word_count → tables_of t ≡ d → T (in_sixteen es)

@@ -63,7 +63,8 @@ unstarred =
     noted (asking 2 10 (5 ∷ 1 ∷ 1 ∷ 1 ∷ 1 ∷ []) [] 3 0 0) 5 (entity_is 2 used 0 ∷ [])
     ∷ expect [] (asking 9 10 (5 ∷ []) [] 3 0 0) 4 []
     -- user 2 is refused 9, then 15; acknowledges 9 and 1, then 9 and 3
-    ∷ expect (asking 2 10 (4 ∷ 1 ∷ []) [] 3 0 0 gets 9 ∷ []) (asking 2 10 (5 ∷ []) [] 1 0 0) 15 (user_is 2 held 9 ∷ user_is 2 held_op 10 ∷ user_is 2 missed 2 ∷ [])
+    ∷ expect (asking 2 10 (4 ∷ 1 ∷ []) [] 3 0 0 gets 9 ∷ []) (asking 2 10 (5 ∷ []) [] 1 0 0) 15
+    (user_is 2 held 9 ∷ user_is 2 held_op 10 ∷ user_is 2 missed 2 ∷ [])
     ∷ expect (asking 2 10 (4 ∷ 1 ∷ []) [] 3 0 0 gets 9 ∷ asking 2 10 (5 ∷ []) [] 1 0 0 gets 15 ∷ []) (asking 2 20 [] [] 9 1 0) 16
     (user_is 2 held 9 ∷ user_is 2 held_op 10 ∷ user_is 2 missed 3 ∷ [])
     ∷ expect (asking 2 10 (4 ∷ 1 ∷ []) [] 3 0 0 gets 9 ∷ asking 2 10 (5 ∷ []) [] 1 0 0 gets 15 ∷ asking 2 20 [] [] 9 1 0 gets 16 ∷ [])

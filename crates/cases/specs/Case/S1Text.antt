@@ -239,7 +239,8 @@ s1_text = together s1_lines
 
 -- Rules 16.1 and 16.2: this is the text of S1,
 s1_written : tables_text s1 ≡ s1_text
-unfolding opened s1 s1_sheet s1_text s1_lines tables_text series user_text user_lines entity_text entity_lines field_lines line digits entity_word_at entity_word_of
+unfolding opened s1 s1_sheet s1_text s1_lines tables_text series user_text user_lines entity_text entity_lines field_lines line digits entity_word_at
+    entity_word_of
     user_word_at user_word_of
 s1_written = refl
 
@@ -268,7 +269,8 @@ words_read (stuck x) = []
 
 -- Rule 16.5: the text is read to its end, and gives S1's words.
 pub s1_text_read_lem : words_read (reading s1_text) ≡ s1_words
-unfolding opened s1_words s1_users s1_entities s1_text s1_lines reading users_stage entities_stage user_record entity_record user_stage entity_stage places_stage
+unfolding opened s1_words s1_users s1_entities s1_text s1_lines reading users_stage entities_stage user_record entity_record user_stage entity_stage
+    places_stage
     triples_stage read_field read_line line digits entity_word_at entity_word_of user_word_at user_word_of words_of first_values word_at_index
 s1_text_read_lem = refl
 

@@ -78,10 +78,12 @@ s1_words_checked = eqb→eq (check s1_words) 0 ((check_agrees s1_words).from (s1
 
 -- a step on them answers and leaves what it does on S1, so every case of S1 is a case of words
 pub s1_words_answer : (q : List ℕ) → length q ≡ request_words → answer_of s1_words q ≡ answer s1 (request_of q)
-s1_words_answer q h = answer_of_sized s1_words q ((sized_agrees s1_words q).from (s1_words_length, h)) ∙ ap (λ (d : Tables). answer d (request_of q)) s1_words_tables
+s1_words_answer q h = answer_of_sized s1_words q ((sized_agrees s1_words q).from (s1_words_length, h)) ∙ ap (λ (d : Tables). answer d (request_of q))
+    s1_words_tables
 
 pub s1_words_after : (q : List ℕ) → length q ≡ request_words → tables_of (after_of s1_words q) ≡ after s1 (request_of q)
-s1_words_after q h = after_of_tables s1_words q ((sized_agrees s1_words q).from (s1_words_length, h)) ∙ ap (λ (d : Tables). after d (request_of q)) s1_words_tables
+s1_words_after q h = after_of_tables s1_words q ((sized_agrees s1_words q).from (s1_words_length, h)) ∙ ap (λ (d : Tables). after d (request_of q))
+    s1_words_tables
 
 -- user 9 is answered 4, whatever is asked, and every word stays
 unknown_answer : (q : List ℕ) → get_or q 0 0 ≡ 9 → answer s1 (request_of q) ≡ refusal.unknown_requester

@@ -29,12 +29,14 @@ s2_sheet = record {
       ∷ item device_kind plain_type (at 1 1) 0 0 0 (at 3 1) (32 ∷ []) (3 ∷ []) (triple_of 2 18 1 ∷ triple_of 1 18 1 ∷ triple_of 1 17 1 ∷ triple_of 2 17 1 ∷
       triple_of 3 12 1 ∷ [])
       -- 3: user 4's device, with an empty screen
-      ∷ item device_kind plain_type (at 1 0) 0 0 0 (at 1 0) [] [] (triple_of 1 6 1 ∷ triple_of 1 7 1 ∷ triple_of 1 10 1 ∷ triple_of 1 19 1 ∷ triple_of 2 18 1 ∷ [])
+      ∷ item device_kind plain_type (at 1 0) 0 0 0 (at 1 0) [] [] (triple_of 1 6 1 ∷ triple_of 1 7 1 ∷ triple_of 1 10 1 ∷ triple_of 1 19 1 ∷ triple_of 2 18 1
+      ∷ [])
       -- 4: user 6's device, its level over its user's clearance; seven on its screen
       ∷ item device_kind plain_type highest 0 0 0 highest (28 ∷ 20 ∷ 21 ∷ 23 ∷ 24 ∷ 25 ∷ 26 ∷ []) (2 ∷ 3 ∷ 6 ∷ 7 ∷ 4 ∷ 3 ∷ 2 ∷ []) (triple_of 1 8 1 ∷
       triple_of 1 9 1 ∷ triple_of (who_role 1) 12 1 ∷ [])
       -- 5: user 7's device, with eight on its screen
-      ∷ item device_kind plain_type (at 2 0) 0 0 0 (at 2 0) (20 ∷ 21 ∷ 22 ∷ 23 ∷ 24 ∷ 25 ∷ 26 ∷ 27 ∷ []) (3 ∷ 2 ∷ 4 ∷ 6 ∷ 7 ∷ 3 ∷ 2 ∷ 3 ∷ []) (triple_of 2 18 1 ∷
+      ∷ item device_kind plain_type (at 2 0) 0 0 0 (at 2 0) (20 ∷ 21 ∷ 22 ∷ 23 ∷ 24 ∷ 25 ∷ 26 ∷ 27 ∷ []) (3 ∷ 2 ∷ 4 ∷ 6 ∷ 7 ∷ 3 ∷ 2 ∷ 3 ∷ [])
+      (triple_of 2 18 1 ∷
       triple_of (who_role 0) 17 1 ∷ [])
       -- 6: a device that nobody is on
       ∷ item device_kind plain_type (at 2 1) 0 0 0 highest [] [] (triple_of 3 12 1 ∷ triple_of 1 12 1 ∷ triple_of 2 18 1 ∷ triple_of 1 17 1 ∷ triple_of 7 17 1 ∷
@@ -52,7 +54,8 @@ s2_sheet = record {
       -- 11: an unmarked container around the marked one
       ∷ item container_kind plain_type (at 3 3) 0 0 0 0 (8 ∷ []) [] []
       -- 12: a container of three
-      ∷ item container_kind plain_type (at 2 0) 0 70 0 0 (13 ∷ 14 ∷ 15 ∷ []) [] (triple_of 1 1 1 ∷ triple_of (who_role 3) 1 1 ∷ triple_of 1 3 2 ∷ triple_of 1 3 1 ∷
+      ∷ item container_kind plain_type (at 2 0) 0 70 0 0 (13 ∷ 14 ∷ 15 ∷ []) []
+      (triple_of 1 1 1 ∷ triple_of (who_role 3) 1 1 ∷ triple_of 1 3 2 ∷ triple_of 1 3 1 ∷
       triple_of 1 2 1 ∷ triple_of 1 6 1 ∷ [])
       -- 13: an object with eight triples
       ∷ item object_kind plain_type (at 1 0) 0 40 0 0 [] [] (triple_of 1 1 1 ∷ triple_of 1 2 1 ∷ triple_of 1 3 1 ∷ triple_of 1 3 2 ∷ triple_of 1 4 1 ∷
@@ -69,7 +72,8 @@ s2_sheet = record {
       -- 18
       ∷ item container_kind plain_type (at 1 0) 0 0 0 0 (33 ∷ []) [] (triple_of 1 3 2 ∷ [])
       -- 19: a full container
-      ∷ item container_kind plain_type (at 2 0) 0 0 0 0 (20 ∷ 21 ∷ 22 ∷ 23 ∷ 24 ∷ 25 ∷ 26 ∷ 27 ∷ []) [] (triple_of 1 1 1 ∷ triple_of 1 3 1 ∷ triple_of 1 3 2 ∷ [])
+      ∷ item container_kind plain_type (at 2 0) 0 0 0 0 (20 ∷ 21 ∷ 22 ∷ 23 ∷ 24 ∷ 25 ∷ 26 ∷ 27 ∷ []) []
+      (triple_of 1 1 1 ∷ triple_of 1 3 1 ∷ triple_of 1 3 2 ∷ [])
       -- 20: the first of the eight that fill it, and user 7's screen
       ∷ item object_kind plain_type 0 0 80 0 0 [] [] (triple_of 1 3 1 ∷ [])
       -- 21
@@ -101,7 +105,8 @@ s2_sheet = record {
       ∷ item object_kind plain_type 0 0 46 0 0 [] [] (triple_of 1 4 1 ∷ triple_of 1 8 1 ∷ triple_of 1 18 1 ∷ triple_of user_count operation_count 1 ∷
       triple_of (who_role 4) 1 1 ∷ triple_of (who_role 5) 2 1 ∷ triple_of (who_role 6) 3 2 ∷ [])
       -- 34: a released container, empty and on no screen; its releaser is not a present user
-      ∷ item container_kind released_type (at 2 0) 0 47 9 0 [] [] (triple_of 1 2 1 ∷ triple_of 1 4 1 ∷ triple_of 6 4 1 ∷ triple_of 1 5 2 ∷ triple_of 1 19 1 ∷ [])
+      ∷ item container_kind released_type (at 2 0) 0 47 9 0 [] [] (triple_of 1 2 1 ∷ triple_of 1 4 1 ∷ triple_of 6 4 1 ∷ triple_of 1 5 2 ∷ triple_of 1 19 1 ∷
+      [])
       ∷ [];
 }
 

@@ -216,7 +216,8 @@ acknowledge_cases =
     -- the refusal held and its count, by a user who is off
     expect [] (asking 5 20 [] [] 7 2 0) 0 (user_is 5 held 0 ∷ user_is 5 held_op 0 ∷ user_is 5 missed 0 ∷ user_is 5 device 0 ∷ user_is 5 present 1 ∷ [])
     -- the highest count; another user's notice stays
-    ∷ expect [] (asking 4 20 [] [] 9 missed_most 0) 0 (user_is 4 held 0 ∷ user_is 4 held_op 0 ∷ user_is 4 missed 0 ∷ user_is 4 device 3 ∷ user_is 5 missed 2 ∷ [])
+    ∷ expect [] (asking 4 20 [] [] 9 missed_most 0) 0 (user_is 4 held 0 ∷ user_is 4 held_op 0 ∷ user_is 4 missed 0 ∷ user_is 4 device 3 ∷ user_is 5 missed 2 ∷
+    [])
     -- a wrong acknowledgement counts too, and then the new count is right
     ∷ expect (asking 5 20 [] [] 7 1 0 gets 16 ∷ []) (asking 5 20 [] [] 7 3 0) 0
     (user_is 5 held 0 ∷ user_is 5 held_op 0 ∷ user_is 5 missed 0 ∷ user_is 4 missed missed_most ∷ [])
@@ -264,13 +265,15 @@ ladder_cases =
     -- 8 before 9: through the marked container, with no triple
     ∷ noted (asking 6 4 (8 ∷ 3 ∷ []) [] 77 0 0) 8 (entity_is 31 value 44 ∷ [])
     -- a second refusal is counted; the first one and its operation stay
-    ∷ expect (asking 2 10 (31 ∷ []) [] 1 0 0 gets 15 ∷ []) (asking 2 4 (15 ∷ []) [] 77 0 0) 8 (user_is 2 held 15 ∷ user_is 2 held_op 10 ∷ user_is 2 missed 2 ∷ [])
+    ∷ expect (asking 2 10 (31 ∷ []) [] 1 0 0 gets 15 ∷ []) (asking 2 4 (15 ∷ []) [] 77 0 0) 8
+    (user_is 2 held 15 ∷ user_is 2 held_op 10 ∷ user_is 2 missed 2 ∷ [])
     -- the same where the requester is off and had a notice from the start; the spare words stay zero
     ∷ expect [] (asking 5 4 (13 ∷ []) [] 77 0 0) 6 (user_is 5 held 7 ∷ user_is 5 held_op 4 ∷ user_is 5 missed 3 ∷ user_is 5 (spare 0) 0 ∷ [])
     -- the count stops; 9, because the clearance has the mark's compartment and a lower rank
     ∷ expect [] (asking 4 10 (8 ∷ 3 ∷ []) [] 3 0 0) 9 (user_is 4 held 9 ∷ user_is 4 held_op 10 ∷ user_is 4 missed missed_most ∷ [])
     -- another user's refusal leaves a notice as it is
-    ∷ noted (asking 1 4 (13 ∷ 1 ∷ []) [] 77 0 0) 7 (user_is 4 held 9 ∷ user_is 4 missed missed_most ∷ user_is 5 held 7 ∷ user_is 5 missed 2 ∷ user_is 2 missed 0 ∷ [])
+    ∷ noted (asking 1 4 (13 ∷ 1 ∷ []) [] 77 0 0) 7 (user_is 4 held 9 ∷ user_is 4 missed missed_most ∷ user_is 5 held 7 ∷ user_is 5 missed 2 ∷ user_is 2 missed
+    0 ∷ [])
     -- an acceptance leaves the requester's notice as it is
     ∷ expect (asking 2 10 (31 ∷ []) [] 1 0 0 gets 15 ∷ []) (asking 2 10 (31 ∷ []) [] 3 0 0) 0 (user_is 2 held 15 ∷ user_is 2 held_op 10 ∷ user_is 2 missed 1 ∷
     entity_is 2 used 2 ∷ entity_is 2 (place 1) 31 ∷ entity_is 2 (shown 1) 3 ∷ [])

@@ -70,7 +70,8 @@ delete_cases =
     -- the first of three, by way of its container: its record is all zero, and the later ones move up
     expect [] (asking 1 2 (12 ∷ 1 ∷ []) [] 0 0 0) 0 (entity_is 13 kind 0 ∷ entity_is 13 level 0 ∷ entity_is 13 value 0 ∷ entity_is 13 (triple 0) 0 ∷
     entity_is 13 (triple 1) 0 ∷ entity_is 13 (triple 2) 0 ∷ entity_is 13 (triple 3) 0 ∷ entity_is 13 (triple 4) 0 ∷ entity_is 13 (triple 5) 0 ∷
-    entity_is 13 (triple 6) 0 ∷ entity_is 13 (triple 7) 0 ∷ entity_is 12 used 2 ∷ entity_is 12 (place 0) 14 ∷ entity_is 12 (place 1) 15 ∷ entity_is 12 (place 2) 0 ∷
+    entity_is 13 (triple 6) 0 ∷ entity_is 13 (triple 7) 0 ∷ entity_is 12 used 2 ∷ entity_is 12 (place 0) 14 ∷ entity_is 12 (place 1) 15 ∷ entity_is 12
+    (place 2) 0 ∷
     entity_is 14 kind container_kind ∷ [])
     -- an empty draft that is in no container
     ∷ expect [] (asking 1 2 (29 ∷ []) [] 0 0 0) 0 (entity_is 29 kind 0 ∷ entity_is 29 type 0 ∷ entity_is 29 level 0 ∷ entity_is 29 value 0 ∷
@@ -117,7 +118,8 @@ move_cases =
     ∷ expect [] (asking 1 3 (16 ∷ []) (29 ∷ []) 0 0 0) 0 (entity_is 29 used 1 ∷ entity_is 29 (place 0) 16 ∷ entity_is 29 type draft_type ∷ entity_is 16 used 1 ∷
     entity_is 16 (place 0) 17 ∷ [])
     -- within one full container: there is room, because it leaves first; it stays on the screens
-    ∷ expect [] (asking 1 3 (20 ∷ []) (19 ∷ []) 0 0 0) 0 (entity_is 19 used 8 ∷ entity_is 19 (place 0) 21 ∷ entity_is 19 (place 1) 22 ∷ entity_is 19 (place 2) 23 ∷
+    ∷ expect [] (asking 1 3 (20 ∷ []) (19 ∷ []) 0 0 0) 0 (entity_is 19 used 8 ∷ entity_is 19 (place 0) 21 ∷ entity_is 19 (place 1) 22 ∷ entity_is 19 (place 2)
+    23 ∷
     entity_is 19 (place 3) 24 ∷ entity_is 19 (place 4) 25 ∷ entity_is 19 (place 5) 26 ∷ entity_is 19 (place 6) 27 ∷ entity_is 19 (place 7) 20 ∷
     entity_is 5 (place 0) 20 ∷ entity_is 4 (place 1) 20 ∷ [])
     -- 5: a is not used

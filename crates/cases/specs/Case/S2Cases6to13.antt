@@ -95,7 +95,8 @@ grant_cases =
     -- already held: no change
     ∷ expect [] (asking 1 8 (33 ∷ []) [] 1 4 1) 0 (entity_is 33 (triple 0) (triple_of 1 4 1) ∷ entity_is 33 (triple 7) 0 ∷ [])
     -- already held among eight: no change, and no room is asked
-    ∷ expect [] (asking 1 8 (14 ∷ []) [] 1 3 2) 0 (entity_is 14 (triple 0) (triple_of 1 3 2) ∷ entity_is 14 (triple 7) (triple_of 1 19 1) ∷ user_is 1 held 0 ∷ [])
+    ∷ expect [] (asking 1 8 (14 ∷ []) [] 1 3 2) 0 (entity_is 14 (triple 0) (triple_of 1 3 2) ∷ entity_is 14 (triple 7) (triple_of 1 19 1) ∷ user_is 1 held 0 ∷
+    [])
     -- 5: who 0
     ∷ noted (asking 1 8 (4 ∷ []) [] 0 1 1) 5 []
     -- 5: who over the last
@@ -164,7 +165,8 @@ show_cases =
     expect [] (asking 2 10 (8 ∷ 3 ∷ []) [] 3 0 0) 0 (entity_is 2 used 2 ∷ entity_is 2 (place 1) 31 ∷ entity_is 2 (shown 1) 3 ∷ entity_is 2 (place 0) 32 ∷
     entity_is 2 (shown 0) 3 ∷ [])
     -- already on the screen: the sum is replaced where it stands, and not on another screen
-    ∷ expect [] (asking 1 10 (28 ∷ []) [] sum_most 0 0) 0 (entity_is 1 used 2 ∷ entity_is 1 (place 1) 28 ∷ entity_is 1 (shown 1) sum_most ∷ entity_is 1 (shown 0) 3 ∷
+    ∷ expect [] (asking 1 10 (28 ∷ []) [] sum_most 0 0) 0 (entity_is 1 used 2 ∷ entity_is 1 (place 1) 28 ∷ entity_is 1 (shown 1) sum_most ∷ entity_is 1
+    (shown 0) 3 ∷
     entity_is 4 (shown 0) 2 ∷ [])
     -- already on a screen of eight, at the level of the device and of the clearance
     ∷ expect [] (asking 7 10 (22 ∷ []) [] 2 0 0) 0 (entity_is 5 used 8 ∷ entity_is 5 (place 2) 22 ∷ entity_is 5 (shown 2) 2 ∷ entity_is 5 (shown 3) 6 ∷
@@ -255,7 +257,8 @@ login_cases =
 unfoldable pub logout_cases : List Case
 logout_cases =
     -- screen, device and current roles go; authorised roles and clearance stay
-    expect [] (asking 1 13 [] [] 0 0 0) 0 (user_is 1 device 0 ∷ user_is 1 current 0 ∷ user_is 1 authorised 7 ∷ user_is 1 clearance highest ∷ entity_is 1 used 0 ∷
+    expect [] (asking 1 13 [] [] 0 0 0) 0 (user_is 1 device 0 ∷ user_is 1 current 0 ∷ user_is 1 authorised 7 ∷ user_is 1 clearance highest ∷ entity_is 1 used
+    0 ∷
     entity_is 1 (place 0) 0 ∷ entity_is 1 (place 1) 0 ∷ entity_is 1 (shown 0) 0 ∷ entity_is 1 (shown 1) 0 ∷ entity_is 1 level highest ∷ [])
     -- the notice stays
     ∷ expect [] (asking 4 13 [] [] 0 0 0) 0 (user_is 4 device 0 ∷ user_is 4 held 9 ∷ user_is 4 held_op 10 ∷ user_is 4 missed missed_most ∷ [])

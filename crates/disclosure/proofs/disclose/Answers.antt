@@ -21,13 +21,12 @@ returns-then-room-need c =
     end_short _ _ _ c.requires c.judge_all.ensures _ c.tally_all-n.ensures.0 _ (omega (arith, c.if-room-need.true))
 
 pub visit_all-requires : goal.visit_all-requires
-visit_all-requires c =
-    (
-      judged_guided _ _ _ (barred_admitted _ _ c.requires) c.judge_all.ensures,
-      c.tally_all-n.ensures.1,
-      end_fits _ _ _ c.requires
-          c.judge_all.ensures _ c.tally_all-n.ensures.0 c.args.room.now (omega (arith, c.if-room-need.false)),
-    )
+visit_all-requires c = (
+  judged_guided _ _ _ (barred_admitted _ _ c.requires) c.judge_all.ensures,
+  c.tally_all-n.ensures.1,
+  end_fits _ _ _ c.requires
+      c.judge_all.ensures _ c.tally_all-n.ensures.0 c.args.room.now (omega (arith, c.if-room-need.false)),
+)
 
 pub returns : goal.returns
 returns c =

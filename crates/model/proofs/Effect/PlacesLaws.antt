@@ -173,7 +173,8 @@ module _ (d : Tables) (w : WellFormed d) (s : Secure d) (e c : ℕ) (thing : Thi
 
   pub move_secure : Secure (move e c d)
   move_secure =
-      put_secure (leave e d) (leave_well_formed d w e) c e 0 takes (leave_secure d w e s) low (λ u q. absurd (on_none d w c u box q)) (λ q. absurd (omega arith))
+      put_secure (leave e d) (leave_well_formed d w e) c e 0 takes (leave_secure d w e s) low (λ u q. absurd (on_none d w c u box q))
+      (λ q. absurd (omega arith))
 
 -- 1 create
 module _ (d : Tables) (w : WellFormed d) (s : Secure d) (e c k t l : ℕ) (gone : kinds d e ≡ 0) (range : (1 ≤ e) × (e ≤ entity_count))

@@ -1,6 +1,6 @@
 -- The laws of a run on words: there is one result only, tables that fail the check stay, and a run that is cut in two is its two pieces one after another.
 -- (Of any number of pieces speak Run/ThroughLaws and, of the calls, the demands.)
-use Rattle.std.specs.Prelude.{Bool, List, [], ◌++◌, ◌≢◌, ◌≡◌, ◌%◌, ◌<◌, ◌≤◌, ℕ, get_or, take}
+use Rattle.std.specs.Prelude.{Bool, List, ◌++◌, ◌≢◌, ◌≡◌, ◌%◌, ◌<◌, ◌≤◌, ℕ, get_or, take}
 use Rattle.std.proofs.Math.Bool.{false, true}
 use Rattle.std.proofs.Common.{append_assoc, ◌∙◌, ap₂, arith, take_at}
 use Rattle.std.proofs.Math.Path.{ap, refl, sym}

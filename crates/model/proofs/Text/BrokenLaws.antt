@@ -195,7 +195,8 @@ reads_broken {s} {v} {u} {n} x =
     go (bad_line k) e a b c = (subst (FirstBad sorts s) (sym b) (broken_first s k e), c)
 
 -- and wherever a line is bad or missing, a reader with room for sixteen words answers so.
-pub broken_reads : {s v u : List ℕ} {a n k : ℕ} → FirstBad sorts s k → length v ≡ request_words → Reads s v a n u → (a ≡ refusal.not_a_request) × (n ≡ k) × (u ≡ v)
+pub broken_reads : {s v u : List ℕ} {a n k : ℕ} → FirstBad sorts s k → length v ≡ request_words → Reads s v a n u → (a ≡ refusal.not_a_request) × (n ≡ k) ×
+    (u ≡ v)
 unfolding read_answer read_number words_after
 broken_reads {s} {v} {u} {a} {n} {k} f h x =
     let e : read_text s ≡ bad_line k = first_broken s k f in (

@@ -159,7 +159,8 @@ request_may d w q x = after_each d q Accounts settled (λ l h b n. unmoved n) (�
         rw (effect_by d q a.0 (names_found q a.0 a.1.meant.named)) (λ b n. (e, may_drop d q x a.0 a.1 (b, n)))
 
 -- So it is on words, however many they are.
-pub words_may : (t q : List ℕ) (x : ℕ) → Both (tables_of t) (tables_of (after_of t q)) x → Drops (level_of (tables_of (after_of t q)) x) (level_of (tables_of t) x)
+pub words_may : (t q : List ℕ) (x : ℕ) → Both (tables_of t) (tables_of (after_of t q)) x → Drops (level_of (tables_of (after_of t q)) x)
+    (level_of (tables_of t) x)
     → (answer_of t q ≡ refusal.accepted) × MayDrop (tables_of t) (request_of q) x
 words_may t q x b n = go (sized t q) refl
   where

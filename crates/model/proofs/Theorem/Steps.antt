@@ -45,8 +45,11 @@ sized_agrees t q = agrees_and (agrees_eq (length t) word_count) (agrees_eq (leng
 -- Other sizes are answered 1, and nothing changes.
 pub unsized : (t q : List ℕ) → T (not (sized t q)) → (answer_of t q ≡ refusal.bad_length) × (after_of t q ≡ t)
 unfolding answer_of after_of
-unsized t q n =
-    (pick_false (sized t q) (answer (tables_of t) (request_of q)) refusal.bad_length n, pick_false (sized t q) (words_of (after (tables_of t) (request_of q))) t n)
+unsized t q n = (
+  pick_false (sized t q) (answer (tables_of t) (request_of q)) refusal.bad_length n,
+  pick_false (sized t q) (words_of (after (tables_of t) (request_of q)))
+      t n,
+)
 
 -- On lists of the right sizes the step is the ladder's.
 pub answer_of_sized : (t q : List ℕ) → T (sized t q) → answer_of t q ≡ answer (tables_of t) (request_of q)
@@ -90,7 +93,8 @@ low_refusal_words t q l h = go (sized t q) refl
     go true e =
         let s = is_true (sized t q) e in
         let a = answer_of_sized t q s in
-        after_of_sized t q s ∙ ap words_of (low_refusal (tables_of t) (request_of q) (omega arith) (omega arith)) ∙ words_of_tables_of t ((sized_agrees t q).to s).0
+        after_of_sized t q s ∙ ap words_of (low_refusal (tables_of t) (request_of q) (omega arith) (omega arith)) ∙ words_of_tables_of t
+        ((sized_agrees t q).to s).0
     go false e = (unsized t q (is_false (sized t q) e)).1
 
 -- Words that pass the state check pass it again after any request at all.

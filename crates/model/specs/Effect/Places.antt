@@ -8,7 +8,8 @@ use Rattle.model.specs.Tables.Words.{object_kind, place, places, plain_type, sho
 
 -- Rule 6, put last: e stands in the next place of c, with the sum s shown of it.
 abbrev pub putting : ℕ → ℕ → ℕ → Tables → Edit EntityWord
-putting c e s d = word used (suc (used_places d c)) and row place (replace (used_places d c) e (places d c)) and row shown (replace (used_places d c) s (sums d c))
+putting c e s d = word used (suc (used_places d c)) and row place (replace (used_places d c) e (places d c)) and row shown
+    (replace (used_places d c) s (sums d c))
 
 abbrev pub put : ℕ → ℕ → ℕ → Tables → Tables
 put c e s d = on_entity c (putting c e s d) d

@@ -103,7 +103,8 @@ module _ (d : Tables) (w : WellFormed d) (e : ℕ) where
   stayed x c = go (eqb (kinds d x) container_kind) (same (kinds d x) container_kind)
     where
       go : (b : Bool) → Same (kinds d x) container_kind b
-          → Member (λ i. pick b (without e (places d x) (used_places d x) i) (places d x i)) (pick b (left e (places d x) (used_places d x)) (used_places d x)) c
+          → Member (λ i. pick b (without e (places d x) (used_places d x) i) (places d x i))
+          (pick b (left e (places d x) (used_places d x)) (used_places d x)) c
           → Holds d x c × (kinds d x ≡ container_kind → c ≢ e)
       go true (it q) m = let y = without_member e (places d x) (used_places d x) (w.entities x).filled.packed c m in (y.0, λ z. y.1)
       go false (other q) m = (m, λ z. absurd (q z))

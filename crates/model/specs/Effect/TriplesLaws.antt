@@ -23,7 +23,8 @@ granted_access t n r g fits a = go (ltb (seek t r place_count) place_count) (bel
     z = first_zero r n a.packed
 
     go : (b : Bool) → Below (seek t r place_count) place_count b
-        → ((seek t r place_count < place_count) × (r (seek t r place_count) ≡ t)) ⊎ ((seek t r place_count ≡ place_count) × ((i : ℕ) → i < place_count → r i ≢ t))
+        → ((seek t r place_count < place_count) × (r (seek t r place_count) ≡ t)) ⊎
+        ((seek t r place_count ≡ place_count) × ((i : ℕ) → i < place_count → r i ≢ t))
         → (m : ℕ) × Access m (pick b r (replace (seek 0 r place_count) t r))
     go true (under h) s = (n, a)
     go false (over h) (inl s) = absurd (omega (arith, s.0))

@@ -89,7 +89,11 @@ rung_at_range (suc k) (r ∷ rs) d q e = omega (arith, rung_at_range k rs d q e)
 pub answer_range : (d : Tables) (q : Request) → answer d q ≤ last_noticed
 unfolding applies ladder
 answer_range d q =
-    let h : ¬ (last_noticed < answer d q) = λ l. omega (arith, rung_at_range (answer d q) (never ∷ never ∷ ladder) d q ((answer_is d q).applied (omega arith))) in
+    let h : ¬ (last_noticed < answer d q) = λ l. omega (
+      arith,
+      rung_at_range (answer d q) (never ∷ never ∷ ladder) d q
+          ((answer_is d q).applied (omega arith)),
+    ) in
     omega arith
 
 -- No rung of a list applies.

@@ -27,7 +27,8 @@ module _ {W : Type 0} (tag_of place_of : W → ℕ) (named : (g f : W) → tag_o
 
   -- every other word is as it was,
   set_away : (x : ℕ) (g : W) → (x ≡ e → g ≡ f → ⊥) → set_word x g ≡ r x g
-  set_away x g n = go (eqb (tag_of g) (tag_of f)) (eqb (place_of g) (place_of f)) (eqb x e) (same (tag_of g) (tag_of f)) (same (place_of g) (place_of f)) (same x e)
+  set_away x g n = go (eqb (tag_of g) (tag_of f)) (eqb (place_of g) (place_of f)) (eqb x e) (same (tag_of g) (tag_of f)) (same (place_of g) (place_of f))
+      (same x e)
     where
       go : (a b c : Bool) → Same (tag_of g) (tag_of f) a → Same (place_of g) (place_of f) b → Same x e c → pick (a && b) (pick c v (r x g)) (r x g) ≡ r x g
       go true true true (it p) (it q) (it s) = absurd (n s (named g f p q))

@@ -1,6 +1,7 @@
 -- The laws of requests in words: words of whole requests are cut in one way only, and requests put behind others are cut after them.
 use Rattle.std.specs.Prelude.{List, [], ◌++◌, ◌∷◌, ◌≡◌, refl, ◌%◌, ◌*◌, ◌+◌, ◌<◌, suc, zero, ℕ, drop, get_or, length, take}
-use Rattle.std.proofs.Common.{append_assoc, append-nil, ◌∙◌, ap, ap₂, sym, arith, length-append, length-drop, take-append-drop, drop_at, drop-drop, length-take-le, take_at}
+use Rattle.std.proofs.Common.{append_assoc, append-nil, ◌∙◌, ap, ap₂, sym, arith, length-append, length-drop, take-append-drop, drop_at, drop-drop}
+use Rattle.std.proofs.Common.{length-take-le, take_at}
 use Rattle.model.specs.Basics.Together.{together}
 use Rattle.model.specs.Request.Words.{request_words}
 use Rattle.model.specs.Run.Requests.{AllSixteen, Requests, first_requests, request_count, requests_in}

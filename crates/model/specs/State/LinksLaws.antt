@@ -121,7 +121,8 @@ module _ (k n : ℕ → ℕ) (at : ℕ → ℕ → ℕ) (dev : ℕ → ℕ) (l :
     pub vanish : Linked kind_ used_ place_ dev
     vanish = record {
       contents =
-          λ x c h. case (λ (y : ℕ). (object_kind ≤ y) × (y ≤ container_kind)) c e 0 (k c) (λ q. absurd (nowhere x (subst (Member (at x) (n x)) q (still x c h))))
+          λ x c h. case (λ (y : ℕ). (object_kind ≤ y) × (y ≤ container_kind)) c e 0 (k c)
+          (λ q. absurd (nowhere x (subst (Member (at x) (n x)) q (still x c h))))
           (λ q. l.contents x c (still x c h));
       one_container = λ c a b p q. l.one_container c a b (still_in a c p) (still_in b c q);
       no_loop = λ x p. l.no_loop x (fewer still_in p);

@@ -56,7 +56,8 @@ records_at zero w l i j h k = absurd (not-suc-le-zero h)
 records_at (suc n) w [] zero j h k = first_at w (padded w []) (padded_records n w []) (padded_length w []) j k ∙ padded_at w [] j k
 records_at (suc n) w [] (suc i) j h k = later_at w (padded w []) (padded_records n w []) (padded_length w []) i j ∙ records_at n w [] i j (le_of_suc-le-suc h) k
 records_at (suc n) w (r ∷ l) zero j h k = first_at w (padded w r) (padded_records n w l) (padded_length w r) j k ∙ padded_at w r j k
-records_at (suc n) w (r ∷ l) (suc i) j h k = later_at w (padded w r) (padded_records n w l) (padded_length w r) i j ∙ records_at n w l i j (le_of_suc-le-suc h) k
+records_at (suc n) w (r ∷ l) (suc i) j h k = later_at w (padded w r) (padded_records n w l) (padded_length w r) i j ∙ records_at n w l i j
+    (le_of_suc-le-suc h) k
 
 -- a sheet has 2,304 words
 pub sheet_words_length : (s : Sheet) → length (sheet_words s) ≡ word_count

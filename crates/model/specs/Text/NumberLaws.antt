@@ -1,5 +1,6 @@
 -- The laws of numbers as text: the two equations by which a number is written, and that reading and writing are inverse.
-use Rattle.std.specs.Prelude.{Bool, false, true, List, [], ◌++◌, ◌∷◌, ◌≡◌, refl, ◌%◌, ◌*◌, ◌+◌, ◌-◌, ◌/◌, ◌<◌, ◌^◌, ◌≤◌, pred, suc, zero, ℕ, eqb, leb, ltb, length}
+use Rattle.std.specs.Prelude.{Bool, false, true, List, [], ◌++◌, ◌∷◌, ◌≡◌, refl, ◌%◌, ◌*◌, ◌+◌, ◌-◌, ◌/◌, ◌<◌, ◌^◌, ◌≤◌, pred, suc, zero, ℕ, eqb, leb, ltb}
+use Rattle.std.specs.Prelude.{length}
 use Rattle.std.proofs.Common.{append_assoc, ◌∙◌, ap, sym, pow-suc, arith, length-append, eqb-true, le-leb, le-ltb, leb-true, lt-ltb, ltb-false, ne_eqb}
 use Rattle.model.specs.Basics.Cases.{cases, lt_or_le, true_or_false}
 use Rattle.model.specs.Text.Numbers.{bad, base, digit_count, digits, digits_end, got, is_digit, more, most, nine_byte, number, spell}

@@ -1,6 +1,6 @@
 -- Rule 9.8: the screen that a requester has after an accepted request shows, before it, nothing that the requester's screen did not show:
 -- it is the same device, or one that was idle, or none.
-use Rattle.std.specs.Prelude.{◌≢◌, ◌≡◌, ℕ, eqb}
+use Rattle.std.specs.Prelude.{◌≢◌, ℕ, eqb}
 use Rattle.std.proofs.Common.{arith}
 use Rattle.model.specs.Basics.Choice.{pick}
 use Rattle.model.specs.Request.Allowed.{Accepted}

@@ -14,13 +14,12 @@ returns-then-level_dropped c =
     (c.level_dropped.ensures ∙ rw c.level.ensures) c.if-level_dropped.true
 
 pub try_level-requires : goal.try_level-requires
-try_level-requires c =
-    (
-      (c.requires.0.climbed.ready.whole, c.requires.1.low, c.requires.1.high),
-      c.requires.0.climbed.ready.good,
-      (thing_agrees _ _).to
-          (is_true _ (sym c.is_entity.ensures ∙ c.if-not-is_entity.false)),
-    )
+try_level-requires c = (
+  (c.requires.0.climbed.ready.whole, c.requires.1.low, c.requires.1.high),
+  c.requires.0.climbed.ready.good,
+  (thing_agrees _ _).to
+      (is_true _ (sym c.is_entity.ensures ∙ c.if-not-is_entity.false)),
+)
 
 pub returns-then-not-try_level : goal.returns-then-not-try_level
 returns-then-not-try_level c =

@@ -25,17 +25,16 @@ bear-requires c =
     search rules
 
 pub put_last-requires : goal.put_last-requires
-put_last-requires c =
-    (
-      search rules,
-      create_room _ _ _ _ c.requires.0 c.requires.1 _ c.is_container.ensures (ap not c.if-not-is_container.false) _ _ c.level.ensures
-          (c.at_most.ensures ∙ rw c.b.ensures) (ap not c.if-not-at_most.false) _ _ c.vacant-n.ensures c.used.ensures c.if-n-used.false _
-          (c.bear.ensures ∙ rw (c.a.ensures, c.b.ensures)),
-      create_unshown _ _ _ _ c.requires.0 c.requires.1 _
-          c.is_container.ensures (ap not c.if-not-is_container.false) _ _ c.level.ensures (c.at_most.ensures ∙ rw c.b.ensures)
-          (ap not c.if-not-at_most.false) _ _ c.vacant-n.ensures c.used.ensures c.if-n-used.false _
-          (c.bear.ensures ∙ rw (c.a.ensures, c.b.ensures)),
-    )
+put_last-requires c = (
+  search rules,
+  create_room _ _ _ _ c.requires.0 c.requires.1 _ c.is_container.ensures (ap not c.if-not-is_container.false) _ _ c.level.ensures
+      (c.at_most.ensures ∙ rw c.b.ensures) (ap not c.if-not-at_most.false) _ _ c.vacant-n.ensures c.used.ensures c.if-n-used.false _
+      (c.bear.ensures ∙ rw (c.a.ensures, c.b.ensures)),
+  create_unshown _ _ _ _ c.requires.0 c.requires.1 _
+      c.is_container.ensures (ap not c.if-not-is_container.false) _ _ c.level.ensures (c.at_most.ensures ∙ rw c.b.ensures)
+      (ap not c.if-not-at_most.false) _ _ c.vacant-n.ensures c.used.ensures c.if-n-used.false _
+      (c.bear.ensures ∙ rw (c.a.ensures, c.b.ensures)),
+)
 
 pub returns : goal.returns
 returns c =

@@ -10,7 +10,8 @@ returns-then-not-is_entity-is_container c =
 
 pub returns-then-not-at_most : goal.returns-then-not-at_most
 returns-then-not-at_most c =
-    move_above_lem _ _ _ _ _ c.requires.0 c.requires.1 c.requires.2 _ _ c.is_entity.ensures c.is_container.ensures (ap not c.if-not-is_entity-is_container.false) _ _ _
+    move_above_lem _ _ _ _ _ c.requires.0 c.requires.1 c.requires.2 _ _ c.is_entity.ensures c.is_container.ensures
+    (ap not c.if-not-is_entity-is_container.false) _ _ _
     c.level.ensures c.level-2.ensures c.at_most.ensures (ap not c.if-not-at_most.true)
 
 pub holder-h-requires : goal.holder-h-requires
@@ -19,7 +20,8 @@ holder-h-requires c =
 
 pub returns-then-h-c : goal.returns-then-h-c
 returns-then-h-c c =
-    move_full_lem _ _ _ _ _ c.requires.0 c.requires.1 c.requires.2 _ _ c.is_entity.ensures c.is_container.ensures (ap not c.if-not-is_entity-is_container.false) _ _ _
+    move_full_lem _ _ _ _ _ c.requires.0 c.requires.1 c.requires.2 _ _ c.is_entity.ensures c.is_container.ensures
+    (ap not c.if-not-is_entity-is_container.false) _ _ _
     c.level.ensures c.level-2.ensures c.at_most.ensures (ap not c.if-not-at_most.false) _ _ c.holder-h.ensures c.used.ensures
     c.if-h-c.true
 
@@ -29,7 +31,8 @@ is_inside-requires c =
 
 pub returns-then-is_inside : goal.returns-then-is_inside
 returns-then-is_inside c =
-    move_inside_lem _ _ _ _ _ c.requires.0 c.requires.1 c.requires.2 _ _ c.is_entity.ensures c.is_container.ensures (ap not c.if-not-is_entity-is_container.false) _ _ _
+    move_inside_lem _ _ _ _ _ c.requires.0 c.requires.1 c.requires.2 _ _ c.is_entity.ensures c.is_container.ensures
+    (ap not c.if-not-is_entity-is_container.false) _ _ _
     c.level.ensures c.level-2.ensures c.at_most.ensures (ap not c.if-not-at_most.false) _ _ c.holder-h.ensures c.used.ensures
     c.if-h-c.false _ c.is_inside.ensures c.if-is_inside.true
 
@@ -38,18 +41,18 @@ leave-requires c =
     (c.requires.0.climbed.ready.whole, c.requires.0.climbed.ready.good.0, c.holder-h.ensures)
 
 pub put_last-requires : goal.put_last-requires
-put_last-requires c =
-    (
-      (c.leave.auto.t ∙ c.requires.0.climbed.ready.whole, c.requires.2.low, c.requires.2.high),
-      move_room _ _ _ _ _
-          c.requires.0 c.requires.1 c.requires.2 _ _ c.is_entity.ensures c.is_container.ensures (ap not c.if-not-is_entity-is_container.false) _ _ _ c.level.ensures
-          c.level-2.ensures c.at_most.ensures (ap not c.if-not-at_most.false) _ _ c.holder-h.ensures c.used.ensures c.if-h-c.false _
-          c.is_inside.ensures _ c.leave.ensures,
-      move_unshown _ _ _ _ _ c.requires.0 c.requires.1 c.requires.2 _ _
-          c.is_entity.ensures c.is_container.ensures (ap not c.if-not-is_entity-is_container.false) _ _ _ c.level.ensures c.level-2.ensures c.at_most.ensures
-          (ap not c.if-not-at_most.false) _ _ c.holder-h.ensures c.used.ensures c.if-h-c.false _ c.is_inside.ensures _
-          c.leave.ensures,
-    )
+put_last-requires c = (
+  (c.leave.auto.t ∙ c.requires.0.climbed.ready.whole, c.requires.2.low, c.requires.2.high),
+  move_room _ _ _ _ _
+      c.requires.0 c.requires.1 c.requires.2 _ _ c.is_entity.ensures c.is_container.ensures (ap not c.if-not-is_entity-is_container.false) _ _ _
+      c.level.ensures
+      c.level-2.ensures c.at_most.ensures (ap not c.if-not-at_most.false) _ _ c.holder-h.ensures c.used.ensures c.if-h-c.false _
+      c.is_inside.ensures _ c.leave.ensures,
+  move_unshown _ _ _ _ _ c.requires.0 c.requires.1 c.requires.2 _ _
+      c.is_entity.ensures c.is_container.ensures (ap not c.if-not-is_entity-is_container.false) _ _ _ c.level.ensures c.level-2.ensures c.at_most.ensures
+      (ap not c.if-not-at_most.false) _ _ c.holder-h.ensures c.used.ensures c.if-h-c.false _ c.is_inside.ensures _
+      c.leave.ensures,
+)
 
 pub returns : goal.returns
 returns c =

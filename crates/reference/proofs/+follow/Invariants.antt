@@ -1,4 +1,4 @@
-use Rattle.std.proofs.Common.{◌-◌, length}
+use Rattle.std.proofs.Common.{length}
 use Rattle.reference.proofs.+follow.Given as goal
 
 abbrev pub decreases-follow : goal.decreases-follow

@@ -1,4 +1,4 @@
-use Rattle.std.proofs.Common.{◌-◌, arith, sym, true, ◌∙◌}
+use Rattle.std.proofs.Common.{arith, sym, ◌∙◌}
 use Rattle.laws.specs.Loops.{every_none, every_more, every_fails, every_done}
 use Rattle.model.specs.Tables.Words.{place_count}
 use Rattle.reference.proofs.all_shut.Goals as goal

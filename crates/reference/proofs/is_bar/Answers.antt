@@ -1,5 +1,4 @@
 use Rattle.std.proofs.Common.{eq-eqb, ne_eqb}
-use Rattle.model.specs.Tables.Words.{mark}
 use Rattle.reference.specs.Ways.{bar}
 use Rattle.reference.proofs.is_bar.Goals as goal
 

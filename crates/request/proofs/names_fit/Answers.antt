@@ -39,12 +39,15 @@ returns-then-n-gt1 c =
 
 pub returns-then-q-k-ne0-3 : goal.returns-then-q-k-ne0-3
 returns-then-q-k-ne0-3 c =
-    fit_other c.args.q.now c.args.k 1 c.if-n-gt1.false c.if-q-k-ne0-3.true (two _ _ c.if-n-gt-THREE.false c.if-q-k-ne0.false c.if-n-gt-TWO.false c.if-q-k-ne0-2.false)
+    fit_other c.args.q.now c.args.k 1 c.if-n-gt1.false c.if-q-k-ne0-3.true
+    (two _ _ c.if-n-gt-THREE.false c.if-q-k-ne0.false c.if-n-gt-TWO.false c.if-q-k-ne0-2.false)
 
 pub returns-then-n-gt0 : goal.returns-then-n-gt0
 returns-then-n-gt0 c =
-    fit_names c.args.q.now c.args.k 1 c.if-n-gt0.true (one _ _ c.if-n-gt-THREE.false c.if-q-k-ne0.false c.if-n-gt-TWO.false c.if-q-k-ne0-2.false c.if-n-gt1.false c.if-q-k-ne0-3.false)
+    fit_names c.args.q.now c.args.k 1 c.if-n-gt0.true (one _ _ c.if-n-gt-THREE.false c.if-q-k-ne0.false c.if-n-gt-TWO.false c.if-q-k-ne0-2.false
+    c.if-n-gt1.false c.if-q-k-ne0-3.false)
 
 pub returns : goal.returns
 returns c =
-    fit_first c.args.q.now c.args.k c.if-n-gt0.false (one _ _ c.if-n-gt-THREE.false c.if-q-k-ne0.false c.if-n-gt-TWO.false c.if-q-k-ne0-2.false c.if-n-gt1.false c.if-q-k-ne0-3.false)
+    fit_first c.args.q.now c.args.k c.if-n-gt0.false (one _ _ c.if-n-gt-THREE.false c.if-q-k-ne0.false c.if-n-gt-TWO.false c.if-q-k-ne0-2.false
+    c.if-n-gt1.false c.if-q-k-ne0-3.false)

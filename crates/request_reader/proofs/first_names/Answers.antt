@@ -18,19 +18,22 @@ pub returns-then-s-next : goal.returns-then-s-next
 returns-then-s-next c =
     let pre = c.requires in
     let number = rw c.in-Value.is at c.read_number.ensures in
-    names_end c.loop-k.invariant.3 c.loop-k.invariant.0 (omega (arith, c.loop-k.invariant.2, pre.1)) number (further_end _ _ (further_most - c.loop-k.k) c.if-s-next.true)
+    names_end c.loop-k.invariant.3 c.loop-k.invariant.0 (omega (arith, c.loop-k.invariant.2, pre.1)) number
+    (further_end _ _ (further_most - c.loop-k.k) c.if-s-next.true)
 
 pub returns-then-s-next-ne-DOT : goal.returns-then-s-next-ne-DOT
 returns-then-s-next-ne-DOT c =
     let pre = c.requires in
     let number = rw c.in-Value.is at c.read_number.ensures in
-    names_end c.loop-k.invariant.3 c.loop-k.invariant.0 (omega (arith, c.loop-k.invariant.2, pre.1)) number (no_dot _ _ (further_most - c.loop-k.k) c.if-s-next.false c.if-s-next-ne-DOT.true)
+    names_end c.loop-k.invariant.3 c.loop-k.invariant.0 (omega (arith, c.loop-k.invariant.2, pre.1)) number
+    (no_dot _ _ (further_most - c.loop-k.k) c.if-s-next.false c.if-s-next-ne-DOT.true)
 
 pub loop-k-preserved : goal.loop-k-preserved
 loop-k-preserved c =
     let pre = c.requires in
     let number = rw c.in-Value.is at c.read_number.ensures in
-    let turn = names_turn c.loop-k.invariant.3 c.loop-k-test.true (omega (arith, c.loop-k.invariant.2, pre.1)) number c.if-s-next.false c.if-s-next-ne-DOT.false in
+    let turn = names_turn c.loop-k.invariant.3 c.loop-k-test.true (omega (arith, c.loop-k.invariant.2, pre.1)) number c.if-s-next.false
+    c.if-s-next-ne-DOT.false in
     (omega arith, omega arith, simp length-set c.loop-k.invariant.2, turn)
 
 pub returns-in_default-read_number : goal.returns-in_default-read_number

@@ -1,5 +1,4 @@
-use Rattle.std.proofs.Common.{◌-◌, arith, length, refl, sym, ◌≡◌}
-use Rattle.model.specs.Text.References.{joined}
+use Rattle.std.proofs.Common.{arith, refl, sym}
 use Rattle.request_writer.specs.NameLaws.{dotted_turn, taken_all, taken_most}
 use Rattle.request_writer.specs.NeedLaws.{digits_bound}
 use Rattle.request_writer.proofs.names_len.Goals as goal

@@ -30,8 +30,9 @@ pub write_text-n-requires : goal.write_text-n-requires
 write_text-n-requires c =
     let sixteen = has_sixteen _ c.if-request-ne-REQUEST_WORDS.false (sym c.has_text.ensures ∙ c.if-not-has_text.false) in
     let enough : length (text_of_words c.args.request.now) ≤ length c.args.room.now = elim c.if-room-lt-TEXT_MOST.branch [
-      then-room-lt-TEXT_MOST+else-room-n w ↦ omega (arith, w.need-n.ensures, w.if-room-n.false)
-      | else-room-lt-TEXT_MOST w ↦ omega (arith, w.if-room-lt-TEXT_MOST.false, need_most _ sixteen) ] in
+      | then-room-lt-TEXT_MOST+else-room-n w ↦ omega (arith, w.need-n.ensures, w.if-room-n.false)
+      | else-room-lt-TEXT_MOST w ↦ omega (arith, w.if-room-lt-TEXT_MOST.false, need_most _ sixteen)
+    ] in
     (sixteen, enough)
 
 pub overflow_cast-result-2 : goal.overflow_cast-result-2
@@ -44,6 +45,7 @@ returns c =
     let texted : has_text (request_of c.args.request.now) ≡ true = sym c.has_text.ensures ∙ c.if-not-has_text.false in
     let sixteen = has_sixteen _ c.if-request-ne-REQUEST_WORDS.false texted in
     let enough : length (text_of_words c.args.request.now) ≤ length c.args.room.now = elim c.if-room-lt-TEXT_MOST.branch [
-      then-room-lt-TEXT_MOST+else-room-n w ↦ omega (arith, w.need-n.ensures, w.if-room-n.false)
-      | else-room-lt-TEXT_MOST w ↦ omega (arith, w.if-room-lt-TEXT_MOST.false, need_most _ sixteen) ] in
+      | then-room-lt-TEXT_MOST+else-room-n w ↦ omega (arith, w.need-n.ensures, w.if-room-n.false)
+      | else-room-lt-TEXT_MOST w ↦ omega (arith, w.if-room-lt-TEXT_MOST.false, need_most _ sixteen)
+    ] in
     end_written _ _ c.if-request-ne-REQUEST_WORDS.false texted enough c.write_text-n.ensures

@@ -1,4 +1,4 @@
-use Rattle.std.proofs.Common.{◌-◌, arith, get_or, refl, take_all, ◌∙◌, ◌∷◌}
+use Rattle.std.proofs.Common.{arith, get_or, refl, take_all, ◌∙◌, ◌∷◌}
 use Rattle.lines.specs.OntoLaws.{empty, puts_room, wrote_none, wrote_puts}
 use Rattle.model.specs.Text.Numbers.{digits}
 use Rattle.model.specs.Text.References.{dot_byte}
@@ -28,14 +28,13 @@ put_part-at-requires c =
     ))
 
 pub loop-i-preserved : goal.loop-i-preserved
-loop-i-preserved c =
-    (
-      c.put_part-at.auto.out ∙ c.loop-i.invariant.0,
-      omega arith,
-      λ d w. rw
-          (joined_next c.args.names.now c.loop-i.i c.loop-i.invariant.1 c.loop-i-test.true)
-          (wrote_puts (c.loop-i.invariant.2 d w) c.put_part-at.ensures),
-    )
+loop-i-preserved c = (
+  c.put_part-at.auto.out ∙ c.loop-i.invariant.0,
+  omega arith,
+  λ d w. rw
+      (joined_next c.args.names.now c.loop-i.i c.loop-i.invariant.1 c.loop-i-test.true)
+      (wrote_puts (c.loop-i.invariant.2 d w) c.put_part-at.ensures),
+)
 
 pub returns : goal.returns
 returns c =

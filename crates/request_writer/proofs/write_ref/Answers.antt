@@ -33,7 +33,11 @@ pub overflow_add-end : goal.overflow_add-end
 overflow_add-end c = omega (arith, (line_wrote c.requires c.write_bytes-k.ensures c.write_names-n.ensures).room)
 
 pub bounds-out-end : goal.bounds-out-end
-bounds-out-end c = omega (arith, (line_wrote c.requires c.write_bytes-k.ensures c.write_names-n.ensures).room, (line_wrote c.requires c.write_bytes-k.ensures c.write_names-n.ensures).whole)
+bounds-out-end c = omega (
+  arith,
+  (line_wrote c.requires c.write_bytes-k.ensures c.write_names-n.ensures).room,
+  (line_wrote c.requires c.write_bytes-k.ensures c.write_names-n.ensures).whole,
+)
 
 pub overflow_add-result : goal.overflow_add-result
 overflow_add-result c = omega (arith, (line_wrote c.requires c.write_bytes-k.ensures c.write_names-n.ensures).room)

@@ -1,6 +1,5 @@
-use Rattle.std.proofs.Common.{◌-◌, arith, sym, true, ◌∙◌}
+use Rattle.std.proofs.Common.{arith, sym, ◌∙◌}
 use Rattle.laws.specs.Loops.{every_done, every_fails, every_more, every_none}
-use Rattle.rows.specs.Rows.{place_at_most}
 use Rattle.rows.proofs.all_at_most.Goals as goal
 
 pub loop-i-init : goal.loop-i-init

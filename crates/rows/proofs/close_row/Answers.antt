@@ -1,4 +1,4 @@
-use Rattle.std.proofs.Common.{◌-◌, arith, rules}
+use Rattle.std.proofs.Common.{arith, rules}
 use Rattle.model.specs.Tables.Layout.{tables_of}
 use Rattle.model.specs.Tables.LayoutLaws.{bounded}
 use Rattle.rows.specs.CloseLaws.{closing_end, closing_none, closing_step}

@@ -1,4 +1,4 @@
-use Rattle.std.proofs.Common.{◌-◌, arith}
+use Rattle.std.proofs.Common.{arith}
 use Rattle.rows.specs.SweepLaws.{sweep_more, sweep_none, swept}
 use Rattle.rows.proofs.holds.Goals as goal
 

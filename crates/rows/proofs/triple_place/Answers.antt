@@ -1,4 +1,4 @@
-use Rattle.std.proofs.Common.{◌-◌, arith, sym, ◌∙◌}
+use Rattle.std.proofs.Common.{arith, sym, ◌∙◌}
 use Rattle.laws.specs.Loops.{none_more, seek_here, seek_none}
 use Rattle.model.specs.Tables.Words.{place_count}
 use Rattle.rows.proofs.triple_place.Goals as goal

@@ -1,4 +1,4 @@
-use Rattle.std.proofs.Common.{◌-◌, arith, refl, ◌∙◌}
+use Rattle.std.proofs.Common.{arith, refl, ◌∙◌}
 use Rattle.run.specs.GoingLaws.{going_checked, going_end, going_length, going_more, going_on, going_start}
 use Rattle.run.proofs.answer_all.Goals as goal
 
@@ -35,11 +35,10 @@ pub loop-next-smaller : goal.loop-next-smaller
 loop-next-smaller c = omega (arith, c.loop-next-test.true, c.loop-next.invariant.0.ends)
 
 pub loop-next-preserved : goal.loop-next-preserved
-loop-next-preserved c =
-    (
-      going_on c.requires c.loop-next.invariant.0 (omega (arith, c.loop-next-test.true)) _ refl _ _ c.on_checked.ensures,
-      c.on_checked.auto.t ∙ c.loop-next.invariant.1,
-    )
+loop-next-preserved c = (
+  going_on c.requires c.loop-next.invariant.0 (omega (arith, c.loop-next-test.true)) _ refl _ _ c.on_checked.ensures,
+  c.on_checked.auto.t ∙ c.loop-next.invariant.1,
+)
 
 pub returns : goal.returns
 returns c = going_end c.requires c.loop-next.invariant.0 (omega (arith, c.loop-next-test.false))

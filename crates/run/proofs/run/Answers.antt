@@ -23,5 +23,10 @@ answer_all-requires c =
 
 pub returns : goal.returns
 returns c =
-    answered_ran _ _ _ _ _ (record { tables = c.if-t-ne-TABLE_WORDS.false; multiple = c.if-requests-ne0.false; places = omega (arith, c.if-answers-requests.false) })
+    answered_ran _ _ _ _ _ (record {
+      tables = c.if-t-ne-TABLE_WORDS.false;
+      multiple = c.if-requests-ne0.false;
+      places = omega
+          (arith, c.if-answers-requests.false);
+    })
     c.answer_all.ensures

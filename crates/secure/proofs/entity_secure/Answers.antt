@@ -4,13 +4,12 @@ use Rattle.model.specs.Tables.Words.{device_kind}
 use Rattle.secure.proofs.entity_secure.Goals as goal
 
 pub places_secure-requires : goal.places_secure-requires
-places_secure-requires c =
-    (
-      c.requires,
-      (c.level-l.ensures, c.is_screen-shows.ensures ∙ ap (λ (k : ℕ). eqb k device_kind) c.kind.ensures),
-      omega
-          (arith, capped_low c.used.result, c.capped-n.ensures),
-    )
+places_secure-requires c = (
+  c.requires,
+  (c.level-l.ensures, c.is_screen-shows.ensures ∙ ap (λ (k : ℕ). eqb k device_kind) c.kind.ensures),
+  omega
+      (arith, capped_low c.used.result, c.capped-n.ensures),
+)
 
 pub returns-then-not-places_secure : goal.returns-then-not-places_secure
 returns-then-not-places_secure c =

@@ -1,6 +1,5 @@
-use Rattle.std.proofs.Common.{◌-◌, arith, sym, true, ◌∙◌}
+use Rattle.std.proofs.Common.{arith, sym, ◌∙◌}
 use Rattle.laws.specs.Loops.{every_done, every_fails, every_more, every_none}
-use Rattle.secure.specs.Secured.{place_secure}
 use Rattle.secure.proofs.places_secure.Goals as goal
 
 pub loop-i-init : goal.loop-i-init

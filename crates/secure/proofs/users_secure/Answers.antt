@@ -1,4 +1,4 @@
-use Rattle.std.proofs.Common.{◌-◌, arith, sym, true, ◌∙◌}
+use Rattle.std.proofs.Common.{arith, sym, ◌∙◌}
 use Rattle.laws.specs.Loops.{each_fails, each_more, every_done, every_none}
 use Rattle.model.specs.Tables.Layout.{tables_of}
 use Rattle.secure.specs.Secured.{user_secure}
@@ -13,12 +13,11 @@ returns-then-not-user_secure c =
     (sym c.user_secure.ensures ∙ c.if-not-user_secure.true)
 
 pub loop-i-preserved : goal.loop-i-preserved
-loop-i-preserved c =
-    (
-      omega arith,
-      each_more _ (user_secure (tables_of c.args.t.now)) c.loop-i.invariant.1
-          (sym c.user_secure.ensures ∙ c.if-not-user_secure.false),
-    )
+loop-i-preserved c = (
+  omega arith,
+  each_more _ (user_secure (tables_of c.args.t.now)) c.loop-i.invariant.1
+      (sym c.user_secure.ensures ∙ c.if-not-user_secure.false),
+)
 
 pub returns : goal.returns
 returns c = every_done _ _ _ c.loop-i.invariant.1 c.loop-i.invariant.0 (omega arith)

@@ -1,4 +1,4 @@
-use Rattle.std.proofs.Common.{◌-◌, arith, sym, ◌∙◌}
+use Rattle.std.proofs.Common.{arith, sym, ◌∙◌}
 use Rattle.model.specs.Tables.Layout.{tables_of}
 use Rattle.standing.specs.LookLaws.{parent_here, parent_none, unheld_more}
 use Rattle.standing.proofs.holder.Goals as goal
@@ -12,12 +12,11 @@ returns-then-contains c =
     (sym c.contains.ensures ∙ c.if-contains.true)
 
 pub loop-i-preserved : goal.loop-i-preserved
-loop-i-preserved c =
-    (
-      omega arith,
-      unheld_more (tables_of c.args.t.now) _ _ c.loop-i.invariant.1
-          (sym c.contains.ensures ∙ c.if-contains.false),
-    )
+loop-i-preserved c = (
+  omega arith,
+  unheld_more (tables_of c.args.t.now) _ _ c.loop-i.invariant.1
+      (sym c.contains.ensures ∙ c.if-contains.false),
+)
 
 pub returns : goal.returns
 returns c = parent_none (tables_of c.args.t.now) _ c.loop-i.i (omega arith) c.loop-i.invariant.1

@@ -17,13 +17,12 @@ returns-then-y-eq0 c =
     (sym c.holder-y.ensures ∙ c.if-y-eq0.true) ∙ c.loop-i.invariant.2
 
 pub loop-i-preserved : goal.loop-i-preserved
-loop-i-preserved c =
-    (
-      omega arith,
-      omega (arith, c.if-y-eq0.false),
-      climb_on (parent_in (tables_of c.args.t.now)) _ _ _ _ _ (omega arith)
-          c.holder-y.ensures c.if-y-e.false c.if-y-eq0.false ∙ c.loop-i.invariant.2,
-    )
+loop-i-preserved c = (
+  omega arith,
+  omega (arith, c.if-y-eq0.false),
+  climb_on (parent_in (tables_of c.args.t.now)) _ _ _ _ _ (omega arith)
+      c.holder-y.ensures c.if-y-e.false c.if-y-eq0.false ∙ c.loop-i.invariant.2,
+)
 
 pub returns : goal.returns
 returns c = climb_end (parent_in (tables_of c.args.t.now)) _ (65 - c.loop-i.i) _ (omega arith) ∙ c.loop-i.invariant.2

@@ -1,4 +1,4 @@
-use Rattle.std.proofs.Common.{◌-◌, arith, sym, true, ◌∙◌}
+use Rattle.std.proofs.Common.{arith, sym, ◌∙◌}
 use Rattle.laws.specs.Loops.{every_none}
 use Rattle.standing.specs.SeenLaws.{seen_here, seen_nowhere, unseen_more}
 use Rattle.standing.proofs.on_screen.Goals as goal

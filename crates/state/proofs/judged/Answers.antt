@@ -52,8 +52,11 @@ returns-then-r-ne-ACCEPTED c =
     c.if-r-ne-ACCEPTED.true
 
 pub users_secure-requires : goal.users_secure-requires
-users_secure-requires c =
-    (c.requires, all_secure_lem (tables_of _) _ _ (all_sound (tables_of _) _ _ c.entities_judged-r.ensures c.if-r-eq-NOT_WELL_FORMED.false) c.if-r-ne-ACCEPTED.false)
+users_secure-requires c = (
+  c.requires,
+  all_secure_lem (tables_of _) _ _ (all_sound (tables_of _) _ _ c.entities_judged-r.ensures c.if-r-eq-NOT_WELL_FORMED.false)
+      c.if-r-ne-ACCEPTED.false,
+)
 
 pub returns-then-not-users_secure : goal.returns-then-not-users_secure
 returns-then-not-users_secure c =

@@ -2,7 +2,8 @@ use Rattle.std.proofs.Common.{eqb}
 use Rattle.ladder.specs.DispatchLaws.{none_left, numbers_of, of_arity}
 use Rattle.model.specs.Request.Form.{taken}
 use Rattle.step.specs.DispatchLaws.{taking}
-use Rattle.model.specs.Request.Operations.{operations, to_create, to_delete, to_device_level, to_edit, to_grant, to_level, to_login, to_mark, to_maximum, to_release, to_revoke, to_show}
+use Rattle.model.specs.Request.Operations.{operations, to_create, to_delete, to_device_level, to_edit, to_grant, to_level, to_login, to_mark, to_maximum}
+use Rattle.model.specs.Request.Operations.{to_release, to_revoke, to_show}
 use Rattle.step.proofs.act_one.Goals as goal
 
 pub create-requires : goal.create-requires

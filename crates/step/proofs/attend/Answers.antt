@@ -14,9 +14,8 @@ returns-then-o-device c =
     c.device.ensures c.if-o-device.true
 
 pub serve-requires : goal.serve-requires
-serve-requires c =
-    (
-      on _ _ _ c.requires _ c.well_made.ensures c.if-not-well_made.false _ _ (sym c.operation-o.ensures)
-          c.device.ensures c.if-o-device.false,
-      sym c.operation-o.ensures,
-    )
+serve-requires c = (
+  on _ _ _ c.requires _ c.well_made.ensures c.if-not-well_made.false _ _ (sym c.operation-o.ensures)
+      c.device.ensures c.if-o-device.false,
+  sym c.operation-o.ensures,
+)

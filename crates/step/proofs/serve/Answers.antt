@@ -40,9 +40,9 @@ acknowledge-requires c =
 
 pub serve_one-requires : goal.serve_one-requires
 unfolding numbers_of operations
-serve_one-requires c =
-    (
-      c.requires.0,
-      c.requires.1,
-      served_one _ _ (passed_lower _ _ refusal.bad_request refusal.not_logged_on (lit≤ tt) c.requires.0.passed) (rw (← c.requires.1) at c.in_default.in_default-own.rest),
-    )
+serve_one-requires c = (
+  c.requires.0,
+  c.requires.1,
+  served_one _ _ (passed_lower _ _ refusal.bad_request refusal.not_logged_on (lit≤ tt) c.requires.0.passed)
+      (rw (← c.requires.1) at c.in_default.in_default-own.rest),
+)

@@ -1,4 +1,4 @@
-use Rattle.std.proofs.Common.{◌-◌, ◌<◌, ap, arith, length, refl, suc, take, ℕ, ◌∙◌, ◌≡◌}
+use Rattle.std.proofs.Common.{◌<◌, ap, arith, length, refl, suc, take, ℕ, ◌∙◌, ◌≡◌}
 use Rattle.model.specs.Text.Unfinished.{ends}
 use Rattle.tables_reader.specs.WholeLaws.{ends_most, line_ends, line_goes}
 use Rattle.tables_reader.proofs.line_at.Goals.{else-s-i-eq-LINE_END, then-s-i-eq-LINE_END}
@@ -26,8 +26,9 @@ loop-i-preserved c =
     let l : c.loop-i.i < length c.args.s.now = omega (arith, c.loop-i-test.true, c.requires.0) in (
       omega (arith, c.loop-i-test.true),
       elim c.if-s-i-eq-LINE_END.branch [
-        then-s-i-eq-LINE_END w ↦ w.n-is ∙ line_ends c.args.s.now c.loop-i.i c.loop-i.n l c.loop-i.invariant.1 w.if-s-i-eq-LINE_END.true
-        | else-s-i-eq-LINE_END w ↦ w.n-is ∙ line_goes c.args.s.now c.loop-i.i c.loop-i.n l c.loop-i.invariant.1 w.if-s-i-eq-LINE_END.false ],
+        | then-s-i-eq-LINE_END w ↦ w.n-is ∙ line_ends c.args.s.now c.loop-i.i c.loop-i.n l c.loop-i.invariant.1 w.if-s-i-eq-LINE_END.true
+        | else-s-i-eq-LINE_END w ↦ w.n-is ∙ line_goes c.args.s.now c.loop-i.i c.loop-i.n l c.loop-i.invariant.1 w.if-s-i-eq-LINE_END.false
+      ],
     )
 
 pub returns : goal.returns

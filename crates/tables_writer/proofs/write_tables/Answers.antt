@@ -2,7 +2,8 @@ use Rattle.std.proofs.Common.{arith, length, ◌≤◌}
 use Rattle.tables_text.specs.Calls.{text_of_tables}
 use Rattle.tables_text.proofs.LongestCallLaws.{formed_longest}
 use Rattle.tables_writer.specs.EndLaws.{Formed, end_short, end_size, end_unformed, end_written, formed, writable}
-use Rattle.tables_writer.proofs.write_tables.Goals.{Else-judged-eq-NOT_WELL_FORMED, Joined-room-lt-TABLES_TEXT_MOST, else-room-lt-TABLES_TEXT_MOST, then-room-lt-TABLES_TEXT_MOST+else-room-n}
+use Rattle.tables_writer.proofs.write_tables.Goals.{Else-judged-eq-NOT_WELL_FORMED, Joined-room-lt-TABLES_TEXT_MOST, else-room-lt-TABLES_TEXT_MOST}
+use Rattle.tables_writer.proofs.write_tables.Goals.{then-room-lt-TABLES_TEXT_MOST+else-room-n}
 use Rattle.tables_writer.proofs.write_tables.Goals as goal
 
 pub returns-then-judged-eq-BAD_LENGTH : goal.returns-then-judged-eq-BAD_LENGTH
@@ -30,11 +31,16 @@ enough : (c : Joined-room-lt-TABLES_TEXT_MOST) → length (text_of_tables c.args
 enough c =
     let good = formed _ c.checked-judged.ensures c.if-judged-eq-BAD_LENGTH.false c.if-judged-eq-NOT_WELL_FORMED.false in
     elim c.if-room-lt-TABLES_TEXT_MOST.branch [
-      then-room-lt-TABLES_TEXT_MOST+else-room-n w ↦ omega (arith, w.need-n.ensures, w.if-room-n.false)
-      | else-room-lt-TABLES_TEXT_MOST w ↦ omega (arith, w.if-room-lt-TABLES_TEXT_MOST.false, formed_longest _ good.1) ]
+      | then-room-lt-TABLES_TEXT_MOST+else-room-n w ↦ omega (arith, w.need-n.ensures, w.if-room-n.false)
+      | else-room-lt-TABLES_TEXT_MOST w ↦ omega (arith, w.if-room-lt-TABLES_TEXT_MOST.false, formed_longest _ good.1)
+    ]
 
 pub write_text-n-requires : goal.write_text-n-requires
-write_text-n-requires c = (writable _ (good (goal.at.write_text-n-requires c).Else-judged-eq-NOT_WELL_FORMED), enough (goal.at.write_text-n-requires c).Joined-room-lt-TABLES_TEXT_MOST)
+write_text-n-requires c = (
+  writable _ (good (goal.at.write_text-n-requires c).Else-judged-eq-NOT_WELL_FORMED),
+  enough
+      (goal.at.write_text-n-requires c).Joined-room-lt-TABLES_TEXT_MOST,
+)
 
 pub overflow_cast-result-2 : goal.overflow_cast-result-2
 overflow_cast-result-2 c =
@@ -42,4 +48,5 @@ overflow_cast-result-2 c =
 
 pub returns : goal.returns
 returns c =
-    end_written _ (good (goal.at.returns c).Else-judged-eq-NOT_WELL_FORMED) _ (enough (goal.at.returns c).Joined-room-lt-TABLES_TEXT_MOST) c.write_text-n.ensures
+    end_written _ (good (goal.at.returns c).Else-judged-eq-NOT_WELL_FORMED) _ (enough (goal.at.returns c).Joined-room-lt-TABLES_TEXT_MOST)
+    c.write_text-n.ensures

@@ -1,4 +1,3 @@
-use borrow.Author.Tests.{not-false}
 use Rattle.model.specs.List.Ways.{showable}
 use Rattle.verdicts.proofs.is_showable.Goals as goal
 

@@ -1,4 +1,4 @@
-use Rattle.std.proofs.Common.{◌-◌, ap, arith, subst, ℕ, ◌∙◌, ◌≡◌}
+use Rattle.std.proofs.Common.{ap, arith, subst, ℕ, ◌∙◌, ◌≡◌}
 use Rattle.verdicts.specs.Verdicts.{Judged}
 use Rattle.verdicts.specs.VerdictLaws.{judged_more}
 use Rattle.model.specs.State.Agree.{device_range}
@@ -34,17 +34,16 @@ pub loop-i-init : goal.loop-i-init
 loop-i-init c = (omega arith, c.requires.1)
 
 pub judge-requires : goal.judge-requires
-judge-requires c =
-    (
-      record {
-        admitted = c.requires.0;
-        clearance = c.clearance-clearance.ensures;
-        screen = c.level-screen.ensures ∙ ap
-            (level_of (tables_of c.args.t.now)) c.device.ensures;
-      },
-      omega arith,
-      omega arith,
-    )
+judge-requires c = (
+  record {
+    admitted = c.requires.0;
+    clearance = c.clearance-clearance.ensures;
+    screen = c.level-screen.ensures ∙ ap
+        (level_of (tables_of c.args.t.now)) c.device.ensures;
+  },
+  omega arith,
+  omega arith,
+)
 
 pub loop-i-preserved : goal.loop-i-preserved
 loop-i-preserved c = (omega arith, judged_more _ _ _ _ _ c.loop-i-test.true c.loop-i.invariant.1 c.judge.ensures)

@@ -1,4 +1,4 @@
-use Rattle.std.proofs.Common.{◌+◌, ◌-◌, ap, arith, length, refl, ℕ, ◌∙◌, ◌≡◌}
+use Rattle.std.proofs.Common.{◌+◌, ap, arith, length, refl, ℕ, ◌∙◌, ◌≡◌}
 use Rattle.disclosure.specs.TallyLaws.{followed_few, tally_entity}
 use Rattle.disclosure.specs.Visited.{followed}
 use Rattle.model.specs.List.Walk.{through, walk}
@@ -37,13 +37,12 @@ pub loop-e-smaller : goal.loop-e-smaller
 loop-e-smaller c = omega (arith, c.loop-e-test.true)
 
 pub loop-e-preserved : goal.loop-e-preserved
-loop-e-preserved c =
-    (
-      omega (arith, c.loop-e-test.true),
-      tally_entity c.args.t.now c.args.v.now
-          c.tally_rows.new.b _ c.tally_rows.ensures c.loop-e.e _
-          c.loop-e-test.true (omega arith) c.loop-e.invariant.1,
-    )
+loop-e-preserved c = (
+  omega (arith, c.loop-e-test.true),
+  tally_entity c.args.t.now c.args.v.now
+      c.tally_rows.new.b _ c.tally_rows.ensures c.loop-e.e _
+      c.loop-e-test.true (omega arith) c.loop-e.invariant.1,
+)
 
 pub returns : goal.returns
 returns c =

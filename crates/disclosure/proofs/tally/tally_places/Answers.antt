@@ -1,4 +1,4 @@
-use Rattle.std.proofs.Common.{◌+◌, ◌-◌, arith, min, ◌∙◌}
+use Rattle.std.proofs.Common.{◌+◌, arith, min, ◌∙◌}
 use Rattle.disclosure.specs.TallyLaws.{inside_few, inside_first, inside_none, places_all, tally_place}
 use Rattle.verdicts.specs.VerdictLaws.{guided_held, some_lead}
 use Rattle.verdicts.specs.Verdicts.{leads}
@@ -68,14 +68,13 @@ pub loop-p-smaller : goal.loop-p-smaller
 loop-p-smaller c = omega (arith, c.loop-p-test.true)
 
 pub loop-p-preserved : goal.loop-p-preserved
-loop-p-preserved c =
-    (
-      omega (arith, c.loop-p-test.true),
-      tally_place c.args.t.now c.args.v.now c.args.b.now _
-          c.requires.1 c.requires.0 c.args.k c.args.e.0 c.loop-p.p _ _
-          (some_lead c.args.v.now c.args.e.0 (omega (arith, c.if-v-e-lt-WAY.false))) (omega arith)
-          c.place-c.ensures c.loop-p.invariant.1,
-    )
+loop-p-preserved c = (
+  omega (arith, c.loop-p-test.true),
+  tally_place c.args.t.now c.args.v.now c.args.b.now _
+      c.requires.1 c.requires.0 c.args.k c.args.e.0 c.loop-p.p _ _
+      (some_lead c.args.v.now c.args.e.0 (omega (arith, c.if-v-e-lt-WAY.false))) (omega arith)
+      c.place-c.ensures c.loop-p.invariant.1,
+)
 
 pub returns : goal.returns
 returns c =

@@ -1,4 +1,4 @@
-use Rattle.std.proofs.Common.{◌-◌, arith}
+use Rattle.std.proofs.Common.{arith}
 use Rattle.disclosure.specs.TallyLaws.{tallied_first, tallied_less, tallied_more}
 use Rattle.disclosure.proofs.tally.tally_row.Goals as goal
 
@@ -12,15 +12,14 @@ pub overflow_add-i : goal.overflow_add-i
 overflow_add-i c = omega (arith, c.loop-i-test.true)
 
 pub tally-requires : goal.tally-requires
-tally-requires c =
-    (
-      c.requires.0,
-      tallied_less c.args.t.now c.args.v.now c.loop-i.b _ _ (omega arith)
-          c.loop-i.invariant.1,
-      c.requires.2,
-      omega arith,
-      omega (arith, c.loop-i-test.true),
-    )
+tally-requires c = (
+  c.requires.0,
+  tallied_less c.args.t.now c.args.v.now c.loop-i.b _ _ (omega arith)
+      c.loop-i.invariant.1,
+  c.requires.2,
+  omega arith,
+  omega (arith, c.loop-i-test.true),
+)
 
 pub overflow_mul-b : goal.overflow_mul-b
 overflow_mul-b c = omega (arith, c.requires.2, c.loop-i-test.true)
@@ -44,13 +43,12 @@ pub loop-i-smaller : goal.loop-i-smaller
 loop-i-smaller c = omega (arith, c.requires.2, c.loop-i-test.true)
 
 pub loop-i-preserved : goal.loop-i-preserved
-loop-i-preserved c =
-    (
-      omega (arith, c.loop-i-test.true),
-      tallied_more c.args.t.now c.args.v.now c.loop-i.b
-          c.args.k c.loop-i.i _ c.requires.2 c.loop-i-test.true
-          c.loop-i.invariant.1 c.tally.ensures,
-    )
+loop-i-preserved c = (
+  omega (arith, c.loop-i-test.true),
+  tallied_more c.args.t.now c.args.v.now c.loop-i.b
+      c.args.k c.loop-i.i _ c.requires.2 c.loop-i-test.true
+      c.loop-i.invariant.1 c.tally.ensures,
+)
 
 pub returns : goal.returns
 returns c =

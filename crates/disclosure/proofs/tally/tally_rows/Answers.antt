@@ -1,4 +1,4 @@
-use Rattle.std.proofs.Common.{◌*◌, ◌-◌, arith}
+use Rattle.std.proofs.Common.{◌*◌, arith}
 use Rattle.disclosure.specs.Tallied.{row_words, tally_words}
 use Rattle.disclosure.specs.TallyLaws.{tallied_less}
 use Rattle.disclosure.proofs.tally.tally_rows.Goals as goal

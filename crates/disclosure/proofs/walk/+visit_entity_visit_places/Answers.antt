@@ -1,6 +1,7 @@
 use Rattle.std.proofs.Common.{arith, pos_of_ne-zero, refl, ◌-◌}
 use Rattle.verdicts.specs.Verdicts.{leads, listed}
-use Rattle.disclosure.specs.VisitLaws.{entity_ends, entity_last, entity_more, here_room, places_done, places_none, places_room, places_skip, places_turn, turn_room}
+use Rattle.disclosure.specs.VisitLaws.{entity_ends, entity_last, entity_more, here_room, places_done, places_none, places_room, places_skip, places_turn}
+use Rattle.disclosure.specs.VisitLaws.{turn_room}
 use Rattle.disclosure.specs.EntryLaws.{padded_more, take_more}
 use Rattle.disclosure.specs.TallyLaws.{tally_nothing}
 use Rattle.verdicts.specs.VerdictLaws.{guided_next, guided_place}
@@ -12,13 +13,12 @@ visit_entity-bounds-v-e t c = omega (arith, c.requires.0.high)
 
 pub visit_entity-visit_here-next-requires : goal.visit_entity-visit_here-next-requires
 unfolding listed
-visit_entity-visit_here-next-requires t c =
-    (
-      c.requires.0.few,
-      c.requires.0.padded,
-      here_room c.args.t.now c.args.v.now c.args.left c.args.e.0 _
-          c.args.room.now _ refl c.requires.1,
-    )
+visit_entity-visit_here-next-requires t c = (
+  c.requires.0.few,
+  c.requires.0.padded,
+  here_room c.args.t.now c.args.v.now c.args.left c.args.e.0 _
+      c.args.room.now _ refl c.requires.1,
+)
 
 pub visit_entity-returns-then-left-eq0 : goal.visit_entity-returns-then-left-eq0
 unfolding listed
@@ -27,18 +27,17 @@ visit_entity-returns-then-left-eq0 t c =
 
 pub visit_entity-visit_places-requires : goal.visit_entity-visit_places-requires
 unfolding leads listed
-visit_entity-visit_places-requires t c =
-    (
-      omega (arith, c.decreases),
-      (
-        c.requires.0,
-        pos_of_ne-zero c.if-left-eq0.false,
-        refl,
-        places_room c.args.t.now
-            c.args.v.now c.args.left c.args.e.0 _ _ c.if-left-eq0.false refl refl _ _ _ _ _ c.visit_here-next.ensures
-            c.requires.1,
-      ),
-    )
+visit_entity-visit_places-requires t c = (
+  omega (arith, c.decreases),
+  (
+    c.requires.0,
+    pos_of_ne-zero c.if-left-eq0.false,
+    refl,
+    places_room c.args.t.now
+        c.args.v.now c.args.left c.args.e.0 _ _ c.if-left-eq0.false refl refl _ _ _ _ _ c.visit_here-next.ensures
+        c.requires.1,
+  ),
+)
 
 pub visit_entity-returns : goal.visit_entity-returns
 unfolding leads listed
@@ -54,12 +53,11 @@ visit_places-loop-p-init t c = (
 )
 
 pub visit_places-place-c-requires : goal.visit_places-place-c-requires
-visit_places-place-c-requires t c =
-    (
-      (c.requires.0.guided.whole, c.requires.0.low, c.requires.0.high),
-      guided_place _ _ c.requires.0.guided _ _ _ c.requires.2
-          c.loop-p-test.true,
-    )
+visit_places-place-c-requires t c = (
+  (c.requires.0.guided.whole, c.requires.0.low, c.requires.0.high),
+  guided_place _ _ c.requires.0.guided _ _ _ c.requires.2
+      c.loop-p-test.true,
+)
 
 pub visit_places-bounds-v-c : goal.visit_places-bounds-v-c
 visit_places-bounds-v-c t c =
@@ -74,15 +72,14 @@ visit_places-overflow_add-p t c = omega (arith, c.loop-p-test.true)
 
 pub visit_places-visit_last-i-requires : goal.visit_places-visit_last-i-requires
 unfolding listed
-visit_places-visit_last-i-requires t c =
-    (
-      c.requires.1,
-      c.requires.0.few,
-      c.requires.0.padded,
-      here_room c.args.t.now c.args.v.now (c.args.left - 1)
-          c.place-c.result.0 _ c.loop-p.room _ refl (turn_room c.args.t.now c.args.v.now (c.args.left - 1) c.args.e.0 _ _
-          c.place-c.ensures _ _ _ _ _ _ c.loop-p-test.true c.loop-p.invariant.1 c.requires.3),
-    )
+visit_places-visit_last-i-requires t c = (
+  c.requires.1,
+  c.requires.0.few,
+  c.requires.0.padded,
+  here_room c.args.t.now c.args.v.now (c.args.left - 1)
+      c.place-c.result.0 _ c.loop-p.room _ refl (turn_room c.args.t.now c.args.v.now (c.args.left - 1) c.args.e.0 _ _
+      c.place-c.ensures _ _ _ _ _ _ c.loop-p-test.true c.loop-p.invariant.1 c.requires.3),
+)
 
 pub visit_places-overflow_add-p-then-w-left : goal.visit_places-overflow_add-p-then-w-left
 visit_places-overflow_add-p-then-w-left t c =
@@ -94,13 +91,12 @@ visit_places-loop-p-smaller-then-w-left t c =
 
 pub visit_places-loop-p-preserved-then-w-left : goal.visit_places-loop-p-preserved-then-w-left
 unfolding listed
-visit_places-loop-p-preserved-then-w-left t c =
-    (
-      omega (arith, c.loop-p-test.true),
-      places_turn c.args.t.now c.args.v.now (c.args.left - 1) c.args.e.0 _ _
-          c.place-c.ensures _ _ _ _ _ _ _ _ refl c.loop-p.invariant.1 (entity_ends c.args.t.now c.args.v.now c.args.left
-          c.place-c.result.0 _ _ _ _ _ _ c.if-w-left.true refl c.visit_last-i.ensures),
-    )
+visit_places-loop-p-preserved-then-w-left t c = (
+  omega (arith, c.loop-p-test.true),
+  places_turn c.args.t.now c.args.v.now (c.args.left - 1) c.args.e.0 _ _
+      c.place-c.ensures _ _ _ _ _ _ _ _ refl c.loop-p.invariant.1 (entity_ends c.args.t.now c.args.v.now c.args.left
+      c.place-c.result.0 _ _ _ _ _ _ c.if-w-left.true refl c.visit_last-i.ensures),
+)
 
 pub visit_places-overflow_sub-left : goal.visit_places-overflow_sub-left
 visit_places-overflow_sub-left t c =
@@ -195,14 +191,13 @@ visit_places-loop-p-smaller t c =
     omega (arith, c.loop-p-test.true)
 
 pub visit_places-loop-p-preserved : goal.visit_places-loop-p-preserved
-visit_places-loop-p-preserved t c =
-    (
-      omega (arith, c.loop-p-test.true),
-      places_turn c.args.t.now c.args.v.now (c.args.left - 1) c.args.e.0 _ _
-          c.place-c.ensures _ _ _ _ _ _ _ _ (take_more c.args.names (name_count - c.args.left) (name_count - (c.args.left - 1)) _
-          (omega (arith, c.requires.1, c.requires.0.few)) (omega (arith, c.requires.1, c.requires.0.few)) c.requires.0.padded)
-          c.loop-p.invariant.1 c.visit_entity-i.ensures,
-    )
+visit_places-loop-p-preserved t c = (
+  omega (arith, c.loop-p-test.true),
+  places_turn c.args.t.now c.args.v.now (c.args.left - 1) c.args.e.0 _ _
+      c.place-c.ensures _ _ _ _ _ _ _ _ (take_more c.args.names (name_count - c.args.left) (name_count - (c.args.left - 1)) _
+      (omega (arith, c.requires.1, c.requires.0.few)) (omega (arith, c.requires.1, c.requires.0.few)) c.requires.0.padded)
+      c.loop-p.invariant.1 c.visit_entity-i.ensures,
+)
 
 pub visit_places-returns : goal.visit_places-returns
 visit_places-returns t c =

@@ -1,4 +1,4 @@
-use Rattle.std.proofs.Common.{◌-◌, arith, sym, ◌∙◌}
+use Rattle.std.proofs.Common.{arith, sym, ◌∙◌}
 use Rattle.disclosure.specs.EntryLaws.{padded_one}
 use Rattle.disclosure.specs.TallyLaws.{last_row_lem}
 use Rattle.disclosure.specs.VisitLaws.{all_done, all_none, all_room, all_skip, all_turn}
@@ -23,31 +23,29 @@ pub loop-e-smaller-then-b-e-eq0 : goal.loop-e-smaller-then-b-e-eq0
 loop-e-smaller-then-b-e-eq0 c = omega (arith, c.loop-e-test.true)
 
 pub loop-e-preserved-then-b-e-eq0 : goal.loop-e-preserved-then-b-e-eq0
-loop-e-preserved-then-b-e-eq0 c =
-    (
-      omega (arith, c.loop-e-test.true),
-      all_skip c.args.t.now c.args.v.now _ _ _ _
-          (sym (last_row_lem c.args.t.now c.args.v.now c.args.b.now _ c.requires.1 _ c.loop-e-test.true
-          (omega arith)) ∙ c.if-b-e-eq0.true) c.loop-e.invariant.1,
-    )
+loop-e-preserved-then-b-e-eq0 c = (
+  omega (arith, c.loop-e-test.true),
+  all_skip c.args.t.now c.args.v.now _ _ _ _
+      (sym (last_row_lem c.args.t.now c.args.v.now c.args.b.now _ c.requires.1 _ c.loop-e-test.true
+      (omega arith)) ∙ c.if-b-e-eq0.true) c.loop-e.invariant.1,
+)
 
 pub overflow_add-e-in-loop-e : goal.overflow_add-e-in-loop-e
 overflow_add-e-in-loop-e c = omega (arith, c.loop-e-test.true)
 
 pub visit_entity-i-requires : goal.visit_entity-i-requires
-visit_entity-i-requires c =
-    (
-      record {
-        guided = c.requires.0;
-        tallied = c.requires.1;
-        low = omega arith;
-        high = omega (arith, c.loop-e-test.true);
-        few
-            = omega arith;
-        padded = padded_one _;
-      },
-      all_room _ _ _ _ _ _ _ c.loop-e-test.true c.loop-e.invariant.1 c.requires.2,
-    )
+visit_entity-i-requires c = (
+  record {
+    guided = c.requires.0;
+    tallied = c.requires.1;
+    low = omega arith;
+    high = omega (arith, c.loop-e-test.true);
+    few
+        = omega arith;
+    padded = padded_one _;
+  },
+  all_room _ _ _ _ _ _ _ c.loop-e-test.true c.loop-e.invariant.1 c.requires.2,
+)
 
 pub overflow_add-e-in-loop-e-2 : goal.overflow_add-e-in-loop-e-2
 overflow_add-e-in-loop-e-2 c = omega (arith, c.loop-e-test.true)

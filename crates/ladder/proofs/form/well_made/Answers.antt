@@ -1,7 +1,8 @@
 use Rattle.std.proofs.Common.{◌∙◌}
 use Rattle.ladder.specs.DispatchLaws.{fits_named, none_named, numbers_of}
 use Rattle.model.specs.Request.Ladder.{fits, length_fits, range_at}
-use Rattle.model.specs.Request.Operations.{to_acknowledge, to_authorised, to_clear, to_clearance, to_copy, to_create, to_current, to_delete, to_device_level, to_edit}
+use Rattle.model.specs.Request.Operations.{to_acknowledge, to_authorised, to_clear, to_clearance, to_copy, to_create, to_current, to_delete}
+use Rattle.model.specs.Request.Operations.{to_device_level, to_edit}
 use Rattle.model.specs.Request.Operations.{operations, to_grant, to_level, to_login, to_logout, to_mark, to_maximum, to_move, to_release, to_revoke, to_show}
 use Rattle.ladder.proofs.form.well_made.Goals as goal
 

@@ -13,13 +13,12 @@ first_names-requires c = (
 )
 
 pub resolve-requires : goal.resolve-requires
-resolve-requires c =
-    (
-      c.requires.0.ready.whole,
-      well_formed_ranged _ c.requires.0.ready.good.0,
-      let z = first_in _ _ _ _ c.requires.0 (lit≤ tt) 1 c.requires.2 in rw
-          c.first_names.ensures (names_some _ z.0 z.1),
-    )
+resolve-requires c = (
+  c.requires.0.ready.whole,
+  well_formed_ranged _ c.requires.0.ready.good.0,
+  let z = first_in _ _ _ _ c.requires.0 (lit≤ tt) 1 c.requires.2 in rw
+      c.first_names.ensures (names_some _ z.0 z.1),
+)
 
 pub returns-in_default : goal.returns-in_default
 returns-in_default c =
@@ -31,13 +30,12 @@ second_names-requires c =
     (c.requires.0.ready.request, (second_in _ _ _ _ c.requires.0 (lit≤ tt) 0 c.requires.2).1)
 
 pub resolve-requires-2 : goal.resolve-requires-2
-resolve-requires-2 c =
-    (
-      c.requires.0.ready.whole,
-      well_formed_ranged _ c.requires.0.ready.good.0,
-      let z = second_in _ _ _ _ c.requires.0 (lit≤ tt) 0 c.requires.2 in rw
-          c.second_names.ensures (names_some _ z.0 z.1),
-    )
+resolve-requires-2 c = (
+  c.requires.0.ready.whole,
+  well_formed_ranged _ c.requires.0.ready.good.0,
+  let z = second_in _ _ _ _ c.requires.0 (lit≤ tt) 0 c.requires.2 in rw
+      c.second_names.ensures (names_some _ z.0 z.1),
+)
 
 pub returns-in_default-resolve : goal.returns-in_default-resolve
 returns-in_default-resolve c =

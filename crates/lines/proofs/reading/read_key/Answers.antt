@@ -1,4 +1,4 @@
-use Rattle.std.proofs.Common.{◌-◌, arith, ◌∙◌}
+use Rattle.std.proofs.Common.{arith, ◌∙◌}
 use Rattle.lines.specs.LineAtLaws.{key_at_lem, key_end, key_nothing, key_short, key_start, key_turn}
 use Rattle.lines.proofs.reading.read_key.Goals as goal
 

@@ -1,4 +1,4 @@
-use Rattle.std.proofs.Common.{◌-◌, ap, arith, get_or, length, length-set, refl, set, take, ◌∙◌, ◌≡◌}
+use Rattle.std.proofs.Common.{ap, arith, get_or, length, length-set, refl, set, take, ◌∙◌, ◌≡◌}
 use lib.Seq.{take-length}
 use Rattle.lines.specs.Onto.{onto}
 use Rattle.lines.specs.OntoLaws.{onto_turn}
@@ -9,8 +9,7 @@ loop-i-init c = (omega arith, refl, refl)
 
 pub loop-i-preserved : goal.loop-i-preserved
 loop-i-preserved c =
-    let a = c.args in
-    (
+    let a = c.args in (
       omega arith,
       simp length-set c.loop-i.invariant.1,
       ap (λ d. set d c.loop-i.i (get_or a.src.now c.loop-i.i 0)) c.loop-i.invariant.2 ∙ onto_turn a.src.now

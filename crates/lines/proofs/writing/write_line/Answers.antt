@@ -26,13 +26,25 @@ slice_bounds-write_number-start c =
 
 pub write_number-n-requires : goal.write_number-n-requires
 write_number-n-requires c =
-    omega (arith, c.requires, c.write_bytes-k.ensures.many, c.write_bytes-k.auto.out, length_line c.args.key.now (digits c.args.v), length_part c.write_bytes-k.new.out c.write_bytes-k.result)
+    omega (
+      arith,
+      c.requires,
+      c.write_bytes-k.ensures.many,
+      c.write_bytes-k.auto.out,
+      length_line c.args.key.now (digits c.args.v),
+      length_part
+          c.write_bytes-k.new.out c.write_bytes-k.result,
+    )
 
 pub overflow_add-end : goal.overflow_add-end
 overflow_add-end c = omega (arith, (line_wrote c.requires c.write_bytes-k.ensures c.write_number-n.ensures).room)
 
 pub bounds-out-end : goal.bounds-out-end
-bounds-out-end c = omega (arith, (line_wrote c.requires c.write_bytes-k.ensures c.write_number-n.ensures).room, (line_wrote c.requires c.write_bytes-k.ensures c.write_number-n.ensures).whole)
+bounds-out-end c = omega (
+  arith,
+  (line_wrote c.requires c.write_bytes-k.ensures c.write_number-n.ensures).room,
+  (line_wrote c.requires c.write_bytes-k.ensures c.write_number-n.ensures).whole,
+)
 
 pub overflow_add-result : goal.overflow_add-result
 overflow_add-result c = omega (arith, (line_wrote c.requires c.write_bytes-k.ensures c.write_number-n.ensures).room)

@@ -1,4 +1,4 @@
-use Rattle.std.proofs.Common.{◌%◌, ◌+◌, ◌/◌, arith, length, ◌≤◌}
+use Rattle.std.proofs.Common.{◌%◌, ◌/◌, arith}
 use Rattle.lines.specs.OntoLaws.{length_part}
 use Rattle.lines.specs.WritingLaws.{four_long, length_more, more_room, wrote_more, wrote_one}
 use Rattle.model.specs.Text.NumberLaws.{length_most, length_small}

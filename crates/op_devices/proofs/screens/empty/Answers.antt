@@ -1,4 +1,4 @@
-use Rattle.std.proofs.Common.{◌-◌, arith, rules, ◌∙◌, ◌≡◌}
+use Rattle.std.proofs.Common.{arith, rules, ◌∙◌, ◌≡◌}
 use Rattle.op_devices.specs.WipeLaws.{wipe_all, wipe_more, wipe_none}
 use Rattle.op_devices.proofs.screens.empty.Goals as goal
 

@@ -41,14 +41,13 @@ returns-then-not-is_labelled c =
     c.if-not-is_labelled.true
 
 pub put_on-requires : goal.put_on-requires
-put_on-requires c =
-    (
-      device_in _ _ _ _ c.requires.0 refl _ c.device-v.ensures,
-      c.used-n.ensures,
-      c.place_of-k.ensures ∙ rw c.used-n.ensures,
-      room_in _ _ _ _
-          (used_in _ _ _ c.requires.0 _ _ c.used-n.ensures) c.place_of-k.ensures c.if-n-k.false,
-    )
+put_on-requires c = (
+  device_in _ _ _ _ c.requires.0 refl _ c.device-v.ensures,
+  c.used-n.ensures,
+  c.place_of-k.ensures ∙ rw c.used-n.ensures,
+  room_in _ _ _ _
+      (used_in _ _ _ c.requires.0 _ _ c.used-n.ensures) c.place_of-k.ensures c.if-n-k.false,
+)
 
 pub returns : goal.returns
 returns c =

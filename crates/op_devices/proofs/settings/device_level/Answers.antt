@@ -14,13 +14,12 @@ returns-then-device_dropped c =
     (c.device_dropped.ensures ∙ rw c.level.ensures) c.if-device_dropped.true
 
 pub try_device_level-requires : goal.try_device_level-requires
-try_device_level-requires c =
-    (
-      (c.requires.0.climbed.ready.whole, c.requires.1.low, c.requires.1.high),
-      c.requires.0.climbed.ready.good,
-      (device_agrees _ _).to
-          (is_true _ (sym c.is_device.ensures ∙ c.if-not-is_device.false)),
-    )
+try_device_level-requires c = (
+  (c.requires.0.climbed.ready.whole, c.requires.1.low, c.requires.1.high),
+  c.requires.0.climbed.ready.good,
+  (device_agrees _ _).to
+      (is_true _ (sym c.is_device.ensures ∙ c.if-not-is_device.false)),
+)
 
 pub returns-then-not-try_device_level : goal.returns-then-not-try_device_level
 returns-then-not-try_device_level c =

@@ -1,4 +1,4 @@
-use Rattle.std.proofs.Common.{◌-◌, arith, sym, true, ◌∙◌}
+use Rattle.std.proofs.Common.{arith, sym, ◌∙◌}
 use Rattle.laws.specs.Loops.{each_fails, each_more, every_done, every_none}
 use Rattle.model.specs.Tables.Layout.{tables_of}
 use Rattle.model.specs.Tables.Words.{user_count}
@@ -15,12 +15,11 @@ returns-then-not-screen_admits c =
     (sym c.screen_admits.ensures ∙ c.if-not-screen_admits.true)
 
 pub loop-i-preserved : goal.loop-i-preserved
-loop-i-preserved c =
-    (
-      omega arith,
-      each_more _ (screen_admits (tables_of c.args.t.now) c.args.e.0 c.args.a.0)
-          c.loop-i.invariant.1 (sym c.screen_admits.ensures ∙ c.if-not-screen_admits.false),
-    )
+loop-i-preserved c = (
+  omega arith,
+  each_more _ (screen_admits (tables_of c.args.t.now) c.args.e.0 c.args.a.0)
+      c.loop-i.invariant.1 (sym c.screen_admits.ensures ∙ c.if-not-screen_admits.false),
+)
 
 pub returns : goal.returns
 unfolding screens_admit

@@ -1,4 +1,4 @@
-use Rattle.std.proofs.Common.{◌-◌, arith, sym, ◌∙◌}
+use Rattle.std.proofs.Common.{arith, sym, ◌∙◌}
 use Rattle.model.specs.Tables.Layout.{tables_of}
 use Rattle.op_places.specs.VacantLaws.{present_more, vacant_here, vacant_none}
 use Rattle.op_places.proofs.filling.vacant.Goals as goal
@@ -12,12 +12,11 @@ returns-then-kind-eq-ABSENT c =
     (sym c.kind.ensures ∙ c.if-kind-eq-ABSENT.true)
 
 pub loop-i-preserved : goal.loop-i-preserved
-loop-i-preserved c =
-    (
-      omega arith,
-      present_more (tables_of c.args.t.now) _ c.loop-i.invariant.1
-          (λ z. c.if-kind-eq-ABSENT.false (c.kind.ensures ∙ z)),
-    )
+loop-i-preserved c = (
+  omega arith,
+  present_more (tables_of c.args.t.now) _ c.loop-i.invariant.1
+      (λ z. c.if-kind-eq-ABSENT.false (c.kind.ensures ∙ z)),
+)
 
 pub returns : goal.returns
 returns c = vacant_none (tables_of c.args.t.now) c.loop-i.i (omega arith) c.loop-i.invariant.1

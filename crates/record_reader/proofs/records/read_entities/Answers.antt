@@ -1,4 +1,4 @@
-use Rattle.std.proofs.Common.{◌-◌, arith, ◌∙◌}
+use Rattle.std.proofs.Common.{arith, ◌∙◌}
 use Rattle.model.specs.Tables.Words.{entity_count}
 use Rattle.record_reader.specs.NumberedLaws.{inside, records_next, records_none, records_out, records_past, records_stuck, entities_are}
 use Rattle.record_reader.proofs.records.read_entities.Goals as goal

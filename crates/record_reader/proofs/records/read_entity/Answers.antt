@@ -6,15 +6,14 @@ pub read_singles-requires : goal.read_singles-requires
 read_singles-requires c = c.requires
 
 pub read_rows-requires : goal.read_rows-requires
-read_rows-requires c =
-    (
-      (rw c.in-Past.is at c.read_singles.ensures).within,
-      (
-        c.read_singles.auto.t ∙ c.requires.1.0,
-        c.requires.1.1,
-        c.requires.1.2,
-      ),
-    )
+read_rows-requires c = (
+  (rw c.in-Past.is at c.read_singles.ensures).within,
+  (
+    c.read_singles.auto.t ∙ c.requires.1.0,
+    c.requires.1.1,
+    c.requires.1.2,
+  ),
+)
 
 pub returns-in-Stuck : goal.returns-in-Stuck
 returns-in-Stuck c = staged (entity_record_lem _ _ _) (onward_stuck _ (rw c.in-Stuck.is at c.read_singles.ensures))

@@ -14,16 +14,15 @@ read_places-requires c =
     (f.within, (c.set_used.auto.t ∙ c.requires.1.0, c.requires.1.1, c.requires.1.2), field_fits f)
 
 pub read_access-requires : goal.read_access-requires
-read_access-requires c =
-    (
-      (rw c.in-Past.is at c.read_places.ensures).within,
-      (
-        c.read_places.auto.t ∙ c.set_used.auto.t ∙
-            c.requires.1.0,
-        c.requires.1.1,
-        c.requires.1.2,
-      ),
-    )
+read_access-requires c = (
+  (rw c.in-Past.is at c.read_places.ensures).within,
+  (
+    c.read_places.auto.t ∙ c.set_used.auto.t ∙
+        c.requires.1.0,
+    c.requires.1.1,
+    c.requires.1.2,
+  ),
+)
 
 pub returns-in-Stuck : goal.returns-in-Stuck
 returns-in-Stuck c =

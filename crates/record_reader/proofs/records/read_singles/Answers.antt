@@ -1,4 +1,4 @@
-use Rattle.std.proofs.Common.{◌-◌, arith, refl, ◌∙◌}
+use Rattle.std.proofs.Common.{arith, refl, ◌∙◌}
 use Rattle.record_reader.specs.RecordLaws.{entity_next, entity_past, entity_stuck}
 use Rattle.record_reader.proofs.records.read_singles.Goals as goal
 

@@ -1,4 +1,4 @@
-use Rattle.std.proofs.Common.{◌-◌, arith, refl, ◌∙◌}
+use Rattle.std.proofs.Common.{arith, refl, ◌∙◌}
 use Rattle.record_reader.specs.RecordLaws.{user_next, user_past, user_stuck}
 use Rattle.record_reader.specs.StageLaws.{staged, user_record_lem}
 use Rattle.record_reader.proofs.records.read_user.Goals as goal

@@ -1,4 +1,4 @@
-use Rattle.std.proofs.Common.{◌-◌, ap, arith, ◌∙◌}
+use Rattle.std.proofs.Common.{ap, arith, ◌∙◌}
 use Rattle.model.specs.Tables.Edits.{on_entity, word}
 use Rattle.model.specs.Tables.Words.{shown}
 use Rattle.record_reader.specs.RecordLaws.{places_next, places_past, places_start, places_stuck}
@@ -20,12 +20,11 @@ set_place-requires c =
     ((c.loop-k.invariant.size, c.requires.1.1, c.requires.1.2), omega (arith, c.loop-k-test.true, c.requires.2))
 
 pub set_shown-requires : goal.set_shown-requires
-set_shown-requires c =
-    (
-      (c.set_place.auto.t ∙ c.loop-k.invariant.size, c.requires.1.1, c.requires.1.2),
-      omega
-          (arith, c.loop-k-test.true, c.requires.2),
-    )
+set_shown-requires c = (
+  (c.set_place.auto.t ∙ c.loop-k.invariant.size, c.requires.1.1, c.requires.1.2),
+  omega
+      (arith, c.loop-k-test.true, c.requires.2),
+)
 
 pub overflow_add-k : goal.overflow_add-k
 overflow_add-k c =

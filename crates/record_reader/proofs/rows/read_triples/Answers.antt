@@ -1,4 +1,4 @@
-use Rattle.std.proofs.Common.{◌-◌, arith, ◌∙◌}
+use Rattle.std.proofs.Common.{arith, ◌∙◌}
 use Rattle.record_reader.specs.RecordLaws.{triples_next, triples_past, triples_start, triples_stuck}
 use Rattle.record_reader.proofs.rows.read_triples.Goals as goal
 

@@ -18,22 +18,20 @@ put_line-a-requires c =
     (λ q. c.if-kind-eq-ABSENT.false (c.kind.ensures ∙ q)) c.requires.2
 
 pub put_entity_lines-b-requires : goal.put_entity_lines-b-requires
-put_entity_lines-b-requires c =
-    (
-      c.requires.0,
-      entity_room2 (tables_of c.args.tables.now) c.args.e.0 c.args.out.now c.args.at
-          (λ q. c.if-kind-eq-ABSENT.false (c.kind.ensures ∙ q)) c.requires.2 c.put_line-a.ensures,
-    )
+put_entity_lines-b-requires c = (
+  c.requires.0,
+  entity_room2 (tables_of c.args.tables.now) c.args.e.0 c.args.out.now c.args.at
+      (λ q. c.if-kind-eq-ABSENT.false (c.kind.ensures ∙ q)) c.requires.2 c.put_line-a.ensures,
+)
 
 pub put_places-c-requires : goal.put_places-c-requires
-put_places-c-requires c =
-    (
-      c.requires.0,
-      rw c.used.ensures c.requires.1,
-      rw c.used.ensures (entity_room3 (tables_of c.args.tables.now) c.args.e.0
-          c.args.out.now c.args.at (λ q. c.if-kind-eq-ABSENT.false (c.kind.ensures ∙ q)) c.requires.2 c.put_line-a.ensures
-          c.put_entity_lines-b.ensures),
-    )
+put_places-c-requires c = (
+  c.requires.0,
+  rw c.used.ensures c.requires.1,
+  rw c.used.ensures (entity_room3 (tables_of c.args.tables.now) c.args.e.0
+      c.args.out.now c.args.at (λ q. c.if-kind-eq-ABSENT.false (c.kind.ensures ∙ q)) c.requires.2 c.put_line-a.ensures
+      c.put_entity_lines-b.ensures),
+)
 
 pub put_line-d-requires : goal.put_line-d-requires
 put_line-d-requires c =
@@ -42,15 +40,14 @@ put_line-d-requires c =
     (rw c.used.ensures at c.put_places-c.ensures))
 
 pub put_triples-requires : goal.put_triples-requires
-put_triples-requires c =
-    (
-      c.requires.0,
-      rw c.triple_place-n.ensures (count_most (triples (tables_of c.args.tables.now) c.args.e.0)),
-      rw c.triple_place-n.ensures
-          (entity_room5 (tables_of c.args.tables.now) c.args.e.0 c.args.out.now c.args.at
-          (λ q. c.if-kind-eq-ABSENT.false (c.kind.ensures ∙ q)) c.requires.2 c.put_line-a.ensures c.put_entity_lines-b.ensures
-          (rw c.used.ensures at c.put_places-c.ensures) (rw c.triple_place-n.ensures at c.put_line-d.ensures)),
-    )
+put_triples-requires c = (
+  c.requires.0,
+  rw c.triple_place-n.ensures (count_most (triples (tables_of c.args.tables.now) c.args.e.0)),
+  rw c.triple_place-n.ensures
+      (entity_room5 (tables_of c.args.tables.now) c.args.e.0 c.args.out.now c.args.at
+      (λ q. c.if-kind-eq-ABSENT.false (c.kind.ensures ∙ q)) c.requires.2 c.put_line-a.ensures c.put_entity_lines-b.ensures
+      (rw c.used.ensures at c.put_places-c.ensures) (rw c.triple_place-n.ensures at c.put_line-d.ensures)),
+)
 
 pub returns : goal.returns
 returns c =

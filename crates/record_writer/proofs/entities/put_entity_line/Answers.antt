@@ -71,5 +71,6 @@ put_line-requires-2 c =
 pub returns : goal.returns
 unfolding entity_line
 returns c =
-    rw (last_single_lem c.args.j c.requires.0 c.if-j-eq-KIND.false c.if-j-eq-TYPE.false c.if-j-eq-LEVEL.false c.if-j-eq-MARK.false c.if-j-eq-VALUE.false c.if-j-eq-RELEASER.false
+    rw (last_single_lem c.args.j c.requires.0 c.if-j-eq-KIND.false c.if-j-eq-TYPE.false c.if-j-eq-LEVEL.false c.if-j-eq-MARK.false c.if-j-eq-VALUE.false
+    c.if-j-eq-RELEASER.false
     c.if-j-eq-MAXIMUM.false) c.put_line-2.ensures

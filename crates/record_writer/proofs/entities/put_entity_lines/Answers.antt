@@ -1,4 +1,4 @@
-use Rattle.std.proofs.Common.{◌-◌, arith, ◌≡◌}
+use Rattle.std.proofs.Common.{arith, ◌≡◌}
 use Rattle.model.specs.Tables.Layout.{tables_of}
 use Rattle.record_writer.specs.SeriesLaws.{series_puts, series_room, series_start}
 use Rattle.tables.specs.Singles.{single_count}
@@ -13,22 +13,20 @@ pub entity_at-requires : goal.entity_at-requires
 entity_at-requires c = (c.requires.0, omega arith)
 
 pub put_entity_line-i-requires : goal.put_entity_line-i-requires
-put_entity_line-i-requires c =
-    (
-      c.loop-j-test.true,
-      rw c.entity_at.ensures (series_room single_count c.loop-j.j 0
-          (entity_line_at (tables_of c.args.tables.now) c.args.e.0) (omega arith) c.loop-j-test.true
-          (rw (entity_fields_lem (tables_of c.args.tables.now) c.args.e.0) at c.requires.1) c.loop-j.invariant.1),
-    )
+put_entity_line-i-requires c = (
+  c.loop-j-test.true,
+  rw c.entity_at.ensures (series_room single_count c.loop-j.j 0
+      (entity_line_at (tables_of c.args.tables.now) c.args.e.0) (omega arith) c.loop-j-test.true
+      (rw (entity_fields_lem (tables_of c.args.tables.now) c.args.e.0) at c.requires.1) c.loop-j.invariant.1),
+)
 
 pub loop-j-preserved : goal.loop-j-preserved
-loop-j-preserved c =
-    (
-      omega arith,
-      series_puts c.loop-j.j 0 (entity_line_at (tables_of c.args.tables.now) c.args.e.0) (omega arith)
-          (omega (arith, c.requires.1)) c.loop-j.invariant.1 (rw c.entity_at.ensures at
-          c.put_entity_line-i.ensures),
-    )
+loop-j-preserved c = (
+  omega arith,
+  series_puts c.loop-j.j 0 (entity_line_at (tables_of c.args.tables.now) c.args.e.0) (omega arith)
+      (omega (arith, c.requires.1)) c.loop-j.invariant.1 (rw c.entity_at.ensures at
+      c.put_entity_line-i.ensures),
+)
 
 pub returns : goal.returns
 returns c =

@@ -1,4 +1,4 @@
-use Rattle.std.proofs.Common.{◌-◌, arith, ◌≡◌}
+use Rattle.std.proofs.Common.{arith, ◌≡◌}
 use Rattle.model.specs.Tables.Layout.{tables_of}
 use Rattle.record_writer.specs.SeriesLaws.{series_puts, series_room, series_start}
 use Rattle.tables_text.specs.TextOf.{triple_at}
@@ -17,12 +17,11 @@ put_triple-i-requires c =
     c.loop-k.invariant.1)
 
 pub loop-k-preserved : goal.loop-k-preserved
-loop-k-preserved c =
-    (
-      omega arith,
-      series_puts c.loop-k.k 0 (triple_at (tables_of c.args.tables.now) c.args.e.0) (omega arith)
-          (omega (arith, c.requires.2)) c.loop-k.invariant.1 (rw c.triple.ensures at c.put_triple-i.ensures),
-    )
+loop-k-preserved c = (
+  omega arith,
+  series_puts c.loop-k.k 0 (triple_at (tables_of c.args.tables.now) c.args.e.0) (omega arith)
+      (omega (arith, c.requires.2)) c.loop-k.invariant.1 (rw c.triple.ensures at c.put_triple-i.ensures),
+)
 
 pub returns : goal.returns
 returns c = let q : c.loop-k.k ≡ c.args.n = omega arith in rw q at c.loop-k.invariant.1

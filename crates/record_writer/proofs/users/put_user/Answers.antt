@@ -19,12 +19,11 @@ put_line-i-requires c =
     (λ q. c.if-present-eq0.false (c.present.ensures ∙ q)) c.requires.1
 
 pub put_user_lines-requires : goal.put_user_lines-requires
-put_user_lines-requires c =
-    (
-      c.requires.0,
-      user_room2 (tables_of c.args.tables.now) c.args.u.0 c.args.out.now c.args.at
-          (λ q. c.if-present-eq0.false (c.present.ensures ∙ q)) c.requires.1 c.put_line-i.ensures,
-    )
+put_user_lines-requires c = (
+  c.requires.0,
+  user_room2 (tables_of c.args.tables.now) c.args.u.0 c.args.out.now c.args.at
+      (λ q. c.if-present-eq0.false (c.present.ensures ∙ q)) c.requires.1 c.put_line-i.ensures,
+)
 
 pub returns : goal.returns
 returns c =

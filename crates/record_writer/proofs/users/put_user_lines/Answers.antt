@@ -12,15 +12,14 @@ pub user_at-requires : goal.user_at-requires
 user_at-requires c = (c.requires.0, omega arith)
 
 pub put_user_line-i-requires : goal.put_user_line-i-requires
-put_user_line-i-requires c =
-    (
-      c.loop-j.invariant.0,
-      c.loop-j-test.true,
-      rw c.user_at.ensures
-          (series_room user_field_count (c.loop-j.j - 1) 1 (user_line_at (tables_of c.args.tables.now) c.args.u.0)
-          (omega arith) (omega arith) (rw (user_fields_lem (tables_of c.args.tables.now) c.args.u.0) at c.requires.1)
-          c.loop-j.invariant.2),
-    )
+put_user_line-i-requires c = (
+  c.loop-j.invariant.0,
+  c.loop-j-test.true,
+  rw c.user_at.ensures
+      (series_room user_field_count (c.loop-j.j - 1) 1 (user_line_at (tables_of c.args.tables.now) c.args.u.0)
+      (omega arith) (omega arith) (rw (user_fields_lem (tables_of c.args.tables.now) c.args.u.0) at c.requires.1)
+      c.loop-j.invariant.2),
+)
 
 pub loop-j-preserved : goal.loop-j-preserved
 loop-j-preserved c =

@@ -1,4 +1,4 @@
-use Rattle.std.proofs.Common.{◌-◌, arith, get_or, rules}
+use Rattle.std.proofs.Common.{arith, get_or, rules}
 use Rattle.script.specs.EndsLaws.{ends_line_one, ends_more, ends_none}
 use Rattle.script.proofs.runs.line_ends.Goals as goal
 

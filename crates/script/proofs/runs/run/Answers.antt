@@ -1,4 +1,4 @@
-use Rattle.std.proofs.Common.{◌-◌, arith, refl, ◌∙◌}
+use Rattle.std.proofs.Common.{arith, refl, ◌∙◌}
 use Rattle.script.specs.GoingLaws.{going_end, going_full, going_halt, going_length, going_start, going_turn, turn_further}
 use Rattle.script.proofs.StaysLaws.{turn_stays}
 use Rattle.script.proofs.runs.run.Goals as goal
@@ -35,13 +35,12 @@ loop-at-smaller c =
     omega (arith, f.0, f.1)
 
 pub loop-at-preserved : goal.loop-at-preserved
-loop-at-preserved c =
-    (
-      going_turn c.loop-at.invariant.0 _ _ _ _ c.loop-at-test.true (omega (arith, going_length c.loop-at.invariant.0, c.if-out-n-lt-REPORT_MOST.false))
-          c.one_turn-t.ensures (omega (arith, c.if-next-ne0.false)) c.put_report-n.ensures,
-      c.one_turn-t.auto.tables ∙ c.loop-at.invariant.1,
-      turn_stays c.one_turn-t.ensures c.loop-at.invariant.2,
-    )
+loop-at-preserved c = (
+  going_turn c.loop-at.invariant.0 _ _ _ _ c.loop-at-test.true (omega (arith, going_length c.loop-at.invariant.0, c.if-out-n-lt-REPORT_MOST.false))
+      c.one_turn-t.ensures (omega (arith, c.if-next-ne0.false)) c.put_report-n.ensures,
+  c.one_turn-t.auto.tables ∙ c.loop-at.invariant.1,
+  turn_stays c.one_turn-t.ensures c.loop-at.invariant.2,
+)
 
 pub returns : goal.returns
 returns c = going_end c.loop-at.invariant.0 (omega (arith, c.loop-at-test.false))

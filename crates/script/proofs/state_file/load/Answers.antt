@@ -1,5 +1,4 @@
-use Rattle.std.proofs.Common.{◌-◌, arith, length-set}
-use Rattle.model.specs.Script.State.{word_in}
+use Rattle.std.proofs.Common.{arith, length-set}
 use Rattle.script.specs.LoadLaws.{filled_all, filled_more, filled_none, filled_other}
 use Rattle.script.proofs.state_file.load.Goals as goal
 

@@ -1,4 +1,4 @@
-use Rattle.std.proofs.Common.{◌-◌, arith, rules}
+use Rattle.std.proofs.Common.{arith, rules}
 use Rattle.script.specs.MoveLaws.{moved_all, moved_more, moved_start}
 use Rattle.script.proofs.windows.keep.Goals as goal
 

@@ -1,4 +1,4 @@
-use Rattle.std.proofs.Common.{◌-◌, arith}
+use Rattle.std.proofs.Common.{arith}
 use Rattle.model.specs.Tables.Layout.{tables_of}
 use Rattle.state.specs.JudgingLaws.{judging_stops, sound_all, sound_more, sound_none}
 use Rattle.state.specs.NotedLaws.{noted_next}
@@ -14,12 +14,11 @@ pub returns-then-x-eq-NOT_WELL_FORMED : goal.returns-then-x-eq-NOT_WELL_FORMED
 returns-then-x-eq-NOT_WELL_FORMED c = judging_stops (tables_of _) _ _ _ _ c.entity_judged-x.ensures c.if-x-eq-NOT_WELL_FORMED.true
 
 pub loop-i-preserved : goal.loop-i-preserved
-loop-i-preserved c =
-    (
-      omega arith,
-      sound_more (tables_of _) _ _ _ _ _ _ c.loop-i.invariant.1 c.entity_judged-x.ensures c.if-x-eq-NOT_WELL_FORMED.false
-          c.worse-r.ensures,
-    )
+loop-i-preserved c = (
+  omega arith,
+  sound_more (tables_of _) _ _ _ _ _ _ c.loop-i.invariant.1 c.entity_judged-x.ensures c.if-x-eq-NOT_WELL_FORMED.false
+      c.worse-r.ensures,
+)
 
 pub returns : goal.returns
 returns c = sound_all (tables_of _) _ _ _ c.loop-i.invariant.1 c.loop-i.invariant.0 (omega arith)

@@ -26,15 +26,14 @@ returns-then-not-places_fine c =
     c.used_fine.ensures c.if-not-used_fine.false _ c.places_fine.ensures c.if-not-places_fine.true
 
 pub places_new-requires : goal.places_new-requires
-places_new-requires c =
-    (
-      c.requires.0,
-      own_room _ (bounded _) _ _ c.requires.1 _ c.words_fine.ensures c.if-not-words_fine.false _ c.used-n.ensures _
-          c.used_fine.ensures c.if-not-used_fine.false,
-      c.used-n.ensures,
-      sym c.places_fine.ensures ∙
-          c.if-not-places_fine.false,
-    )
+places_new-requires c = (
+  c.requires.0,
+  own_room _ (bounded _) _ _ c.requires.1 _ c.words_fine.ensures c.if-not-words_fine.false _ c.used-n.ensures _
+      c.used_fine.ensures c.if-not-used_fine.false,
+  c.used-n.ensures,
+  sym c.places_fine.ensures ∙
+      c.if-not-places_fine.false,
+)
 
 pub returns-then-not-places_new : goal.returns-then-not-places_new
 returns-then-not-places_new c =

@@ -1,4 +1,4 @@
-use Rattle.std.proofs.Common.{◌-◌, arith, sym, true, ◌∙◌}
+use Rattle.std.proofs.Common.{arith, sym, ◌∙◌}
 use Rattle.laws.specs.Loops.{every_done, every_fails, every_more, every_none}
 use Rattle.state.proofs.entities.places_fine.Goals as goal
 

@@ -1,4 +1,4 @@
-use Rattle.std.proofs.Common.{◌-◌, arith}
+use Rattle.std.proofs.Common.{arith}
 use Rattle.state.specs.JumpLaws.{jumped_end, jumped_more, jumped_none}
 use Rattle.state.proofs.tree.jump.Goals as goal
 

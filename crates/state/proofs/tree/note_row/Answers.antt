@@ -1,4 +1,4 @@
-use Rattle.std.proofs.Common.{◌-◌, arith}
+use Rattle.std.proofs.Common.{arith}
 use Rattle.model.specs.Basics.TestLaws.{is_true}
 use Rattle.model.specs.Tables.Layout.{tables_of}
 use Rattle.model.specs.Tables.LayoutLaws.{bounded}
@@ -37,14 +37,13 @@ bounds-h-x-in-loop-i c =
     )
 
 pub loop-i-preserved : goal.loop-i-preserved
-loop-i-preserved c =
-    (
-      omega arith,
-      c.loop-i.invariant.1,
-      noted_put (tables_of _) (bounded _) _ _ _ _ (slot_at (tables_of _) _ _ _ _ _ c.requires.0.1
-          c.kind.ensures c.if-kind-ne-CONTAINER.false c.used-n.ensures c.loop-i-test.true c.place-x.ensures)
-          c.if-h-x-ne0.false c.loop-i.invariant.2,
-    )
+loop-i-preserved c = (
+  omega arith,
+  c.loop-i.invariant.1,
+  noted_put (tables_of _) (bounded _) _ _ _ _ (slot_at (tables_of _) _ _ _ _ _ c.requires.0.1
+      c.kind.ensures c.if-kind-ne-CONTAINER.false c.used-n.ensures c.loop-i-test.true c.place-x.ensures)
+      c.if-h-x-ne0.false c.loop-i.invariant.2,
+)
 
 pub returns : goal.returns
 returns c =

@@ -1,4 +1,4 @@
-use Rattle.std.proofs.Common.{◌-◌, arith, sym, true, ◌∙◌}
+use Rattle.std.proofs.Common.{arith, sym, ◌∙◌}
 use Rattle.laws.specs.Loops.{each_fails, each_more, every_done, every_none}
 use Rattle.model.specs.Tables.Layout.{tables_of}
 use Rattle.state.specs.Passes.{on_device}
@@ -13,12 +13,11 @@ returns-then-not-device_fine c =
     (sym c.device_fine.ensures ∙ c.if-not-device_fine.true)
 
 pub loop-i-preserved : goal.loop-i-preserved
-loop-i-preserved c =
-    (
-      omega arith,
-      each_more _ (on_device (tables_of c.args.t.now)) c.loop-i.invariant.1
-          (sym c.device_fine.ensures ∙ c.if-not-device_fine.false),
-    )
+loop-i-preserved c = (
+  omega arith,
+  each_more _ (on_device (tables_of c.args.t.now)) c.loop-i.invariant.1
+      (sym c.device_fine.ensures ∙ c.if-not-device_fine.false),
+)
 
 pub returns : goal.returns
 returns c = every_done _ _ _ c.loop-i.invariant.1 c.loop-i.invariant.0 (omega arith)

@@ -1,4 +1,4 @@
-use Rattle.std.proofs.Common.{◌-◌, arith, sym, ◌∙◌}
+use Rattle.std.proofs.Common.{arith, sym, ◌∙◌}
 use Rattle.model.specs.Tables.Layout.{tables_of}
 use Rattle.laws.specs.Loops.{every_gather, every_gathered, every_none}
 use Rattle.state.specs.UserLaws.{spare_zero_lem}
@@ -8,12 +8,11 @@ pub loop-f-init : goal.loop-f-init
 loop-f-init c = (omega arith, sym (every_none _))
 
 pub loop-f-preserved : goal.loop-f-preserved
-loop-f-preserved c =
-    (
-      omega arith,
-      every_gather _ _ _ _ (c.word_zero-blank.ensures ∙ spare_zero_lem (tables_of c.args.t.now) c.args.u.0
-          c.loop-f.f) c.loop-f.invariant.1,
-    )
+loop-f-preserved c = (
+  omega arith,
+  every_gather _ _ _ _ (c.word_zero-blank.ensures ∙ spare_zero_lem (tables_of c.args.t.now) c.args.u.0
+      c.loop-f.f) c.loop-f.invariant.1,
+)
 
 pub returns : goal.returns
 returns c = every_gathered _ _ _ _ c.loop-f.invariant.1 c.loop-f.invariant.0 (omega arith)

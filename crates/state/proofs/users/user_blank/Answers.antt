@@ -1,4 +1,4 @@
-use Rattle.std.proofs.Common.{◌-◌, arith, sym}
+use Rattle.std.proofs.Common.{arith, sym}
 use Rattle.laws.specs.Loops.{every_gather, every_gathered, every_none}
 use Rattle.state.specs.Passes.{user_blank}
 use Rattle.state.proofs.users.user_blank.Goals as goal

@@ -1,4 +1,4 @@
-use Rattle.std.proofs.Common.{◌-◌, arith, eqb, not, sym, true, ◌∙◌}
+use Rattle.std.proofs.Common.{arith, eqb, not, sym, ◌∙◌}
 use Rattle.laws.specs.Loops.{each_fails, each_more, every_done, every_none}
 use Rattle.model.specs.Tables.Layout.{tables_of}
 use Rattle.model.specs.Tables.Words.{devices}
@@ -13,12 +13,11 @@ returns-then-not-not_on c =
     (sym c.not_on.ensures ∙ c.if-not-not_on.true)
 
 pub loop-i-preserved : goal.loop-i-preserved
-loop-i-preserved c =
-    (
-      omega arith,
-      each_more _ (λ v. not (eqb (devices (tables_of c.args.t.now) v) c.args.e.0))
-          c.loop-i.invariant.1 (sym c.not_on.ensures ∙ c.if-not-not_on.false),
-    )
+loop-i-preserved c = (
+  omega arith,
+  each_more _ (λ v. not (eqb (devices (tables_of c.args.t.now) v) c.args.e.0))
+      c.loop-i.invariant.1 (sym c.not_on.ensures ∙ c.if-not-not_on.false),
+)
 
 pub returns : goal.returns
 returns c = every_done _ _ _ c.loop-i.invariant.1 c.loop-i.invariant.0 (omega arith)

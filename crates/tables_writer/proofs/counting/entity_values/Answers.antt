@@ -1,4 +1,4 @@
-use Rattle.std.proofs.Common.{◌-◌, arith, ◌≡◌}
+use Rattle.std.proofs.Common.{arith, ◌≡◌}
 use Rattle.model.specs.Tables.Layout.{tables_of}
 use Rattle.record_writer.specs.SeriesLaws.{series_more, series_zero}
 use Rattle.tables.specs.Singles.{single_count}
@@ -24,13 +24,12 @@ overflow_add-n c =
     )
 
 pub loop-j-preserved : goal.loop-j-preserved
-loop-j-preserved c =
-    (
-      omega arith,
-      rw (c.loop-j.invariant.1, c.number_len-n.ensures, c.entity_at.ensures)
-          (series_more c.loop-j.j 0 (digits_at (entity_words (tables_of c.args.tables.now) c.args.e.0))
-          (omega arith)),
-    )
+loop-j-preserved c = (
+  omega arith,
+  rw (c.loop-j.invariant.1, c.number_len-n.ensures, c.entity_at.ensures)
+      (series_more c.loop-j.j 0 (digits_at (entity_words (tables_of c.args.tables.now) c.args.e.0))
+      (omega arith)),
+)
 
 pub returns : goal.returns
 returns c = let q : c.loop-j.j ≡ single_count = omega arith in rw q at c.loop-j.invariant.1

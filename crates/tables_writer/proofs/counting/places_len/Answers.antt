@@ -1,4 +1,4 @@
-use Rattle.std.proofs.Common.{◌-◌, arith, ◌≡◌}
+use Rattle.std.proofs.Common.{arith, ◌≡◌}
 use Rattle.model.specs.Tables.Layout.{tables_of}
 use Rattle.record_writer.specs.SeriesLaws.{series_more, series_zero}
 use Rattle.model.specs.Tables.Words.{places, sums}
@@ -34,21 +34,20 @@ overflow_add-n-in-loop-i-2 c =
     )
 
 pub loop-i-preserved : goal.loop-i-preserved
-loop-i-preserved c =
-    (
-      omega arith,
-      omega (
-        arith,
-        c.loop-i.invariant.1,
-        rw c.place.ensures at c.number_len-standing.ensures,
-        rw
-            c.shown.ensures at c.number_len-sum.ensures,
-        place_length (places (tables_of c.args.tables.now) c.args.e.0
-            c.loop-i.i) (sums (tables_of c.args.tables.now) c.args.e.0 c.loop-i.i),
-        series_more c.loop-i.i 0 {m = c.loop-i.i}
-            (place_at (tables_of c.args.tables.now) c.args.e.0) (omega arith),
-      ),
-    )
+loop-i-preserved c = (
+  omega arith,
+  omega (
+    arith,
+    c.loop-i.invariant.1,
+    rw c.place.ensures at c.number_len-standing.ensures,
+    rw
+        c.shown.ensures at c.number_len-sum.ensures,
+    place_length (places (tables_of c.args.tables.now) c.args.e.0
+        c.loop-i.i) (sums (tables_of c.args.tables.now) c.args.e.0 c.loop-i.i),
+    series_more c.loop-i.i 0 {m = c.loop-i.i}
+        (place_at (tables_of c.args.tables.now) c.args.e.0) (omega arith),
+  ),
+)
 
 pub returns : goal.returns
 returns c = let q : c.loop-i.i ≡ c.args.k = omega arith in rw q at c.loop-i.invariant.1

@@ -1,4 +1,4 @@
-use Rattle.std.proofs.Common.{◌-◌, arith, ◌≡◌}
+use Rattle.std.proofs.Common.{arith, ◌≡◌}
 use Rattle.model.specs.Tables.Layout.{tables_of}
 use Rattle.record_writer.specs.SeriesLaws.{series_more, series_zero}
 use Rattle.model.specs.Tables.Words.{triples}
@@ -26,12 +26,11 @@ overflow_add-n c =
     )
 
 pub loop-i-preserved : goal.loop-i-preserved
-loop-i-preserved c =
-    (
-      omega arith,
-      rw (c.loop-i.invariant.1, c.triple_len-n.ensures, c.triple.ensures)
-          (series_more c.loop-i.i 0 (triple_at (tables_of c.args.tables.now) c.args.e.0) (omega arith)),
-    )
+loop-i-preserved c = (
+  omega arith,
+  rw (c.loop-i.invariant.1, c.triple_len-n.ensures, c.triple.ensures)
+      (series_more c.loop-i.i 0 (triple_at (tables_of c.args.tables.now) c.args.e.0) (omega arith)),
+)
 
 pub returns : goal.returns
 returns c = let q : c.loop-i.i ≡ c.args.k = omega arith in rw q at c.loop-i.invariant.1

@@ -1,4 +1,4 @@
-use Rattle.std.proofs.Common.{◌+◌, ◌-◌, arith, ◌≡◌}
+use Rattle.std.proofs.Common.{◌+◌, arith, ◌≡◌}
 use Rattle.model.specs.Tables.Layout.{tables_of}
 use Rattle.record_writer.specs.SeriesLaws.{series_more, series_zero}
 use Rattle.model.specs.Tables.Words.{user_count}
@@ -23,12 +23,11 @@ overflow_add-n c =
     )
 
 pub loop-k-preserved : goal.loop-k-preserved
-loop-k-preserved c =
-    (
-      omega arith,
-      rw (c.loop-k.invariant.1, c.user_len-n.ensures) (series_more c.loop-k.k 1
-          (user_text (tables_of c.args.tables.now)) (omega arith)),
-    )
+loop-k-preserved c = (
+  omega arith,
+  rw (c.loop-k.invariant.1, c.user_len-n.ensures) (series_more c.loop-k.k 1
+      (user_text (tables_of c.args.tables.now)) (omega arith)),
+)
 
 pub returns : goal.returns
 returns c = let q : c.loop-k.k ≡ user_count = omega arith in rw q at c.loop-k.invariant.1
