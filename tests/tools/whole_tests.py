@@ -1,4 +1,6 @@
-"""bind on every proof of the repository: short lines, the same after a second run, and the same answers."""
+"""bind on every proof that the repository had in the older form: short lines, the same after a second run, and the same answers.
+
+They stand in tests/tools/older, each under its crate and function, as they were when they were the proofs."""
 
 import glob
 import os
@@ -8,8 +10,8 @@ from parts.binding import bound_text, undone_text
 from parts.clauses import clauses
 from parts.paths import one_line
 
-ROOT = os.path.join(os.path.dirname(os.path.abspath(__file__)), "..", "..")
-PROOFS = sorted(glob.glob(os.path.join(ROOT, "crates", "*", "proofs", "**", "Proof.antt"), recursive=True))
+ROOT = os.path.join(os.path.dirname(os.path.abspath(__file__)), "older")
+PROOFS = sorted(glob.glob(os.path.join(ROOT, "**", "*.txt"), recursive=True))
 
 
 def said(text):
