@@ -3,8 +3,10 @@
 #![tactic(auto)]
 
 ghost use Rattle.std.specs.Prelude.{true, ◌≡◌, ◌<◌, ◌≤◌, length, take};
+ghost use Rattle.names.specs.Refusals.{answer_number};
 ghost use Rattle.desk.specs.Serving.{ServeReady};
 
+use names::refusal::Refusal;
 use names::size;
 use std::io::{Read, Write};
 use std::rt::Files;
@@ -82,7 +84,7 @@ fn fail(rt: &impl Eprint, what: &str, error: &io::Error) {
 }
 
 // Runs what arrives of the script, piece by piece, and writes the reports of each piece before it asks for the next. A loop must be seen to
-// end, and nothing says that input does. So it counts down from a number that no script uses up. What the check has said of the tables, c, goes
+// end, and nothing says that input does. So it has a number of turns that no script uses up. What the check has said of the tables, c, goes
 // from run to run.
 fn serve<I: Read>(
     rt: &(impl Print + Eprint),
@@ -90,15 +92,14 @@ fn serve<I: Read>(
     tables: &mut [u32],
     window: &mut [u8],
     out: &mut [u8],
-    c: u32,
+    c: Result<(), Refusal>,
 )
-    requires { ServeReady tables.old window.old c }
+    requires { ServeReady tables.old window.old (answer_number c) }
 {
-    let mut turns = u64::MAX;
     let mut len: usize = 0;
     let mut wanted = true;
     let mut last = false;
-    while turns > 0 {
+    for _ in 0..u64::MAX {
         let filled = fetch(rt, input, window, len, wanted);
         last = last | wanted & (filled == len);
         let r = script::runs::run(tables, &window[..filled], last, out, c);
@@ -111,7 +112,6 @@ fn serve<I: Read>(
         }
         wanted = script::windows::had_room(r.bytes, out.len());
         len = script::windows::keep(window, place.at, filled);
-        turns -= 1;
     }
 }
 

@@ -5,6 +5,7 @@ use Rattle.std.proofs.Common.{◌∙◌, ap, subst, sym, zero-add, arith}
 use Rattle.std.proofs.lemmas.List.Edits.{sets, sets-eq}
 use Rattle.verdicts.specs.VerdictLaws.{judged_found}
 use Rattle.verdicts.specs.Verdicts.{Judged}
+use Rattle.verdicts.specs.declared.Verdict.{Verdict}
 use Rattle.disclosure.specs.Visited.{Fits, followed}
 use Rattle.model.proofs.List.AdmittedLaws.{barred_admitted}
 use Rattle.model.specs.List.Listing.{Lists, barred, entries, entry_words}
@@ -26,7 +27,7 @@ empty : (l : List (List ℕ)) → length l ≡ 0 → l ≡ []
 empty [] h = refl
 empty (r ∷ l) h = absurd (omega arith)
 
-module _ (t : List ℕ) (u : ℕ) (v : List ℕ) (b : barred t u ≡ 0) (j : Judged (tables_of t) u entity_count v) where
+module _ (t : List ℕ) (u : ℕ) (v : List Verdict) (b : barred t u ≡ 0) (j : Judged (tables_of t) u entity_count v) where
   same_list : followed t v entity_count ≡ found (tables_of t) u
   same_list = judged_found t u v (barred_admitted t u b) j
 

@@ -2,13 +2,15 @@
 use Rattle.std.specs.Prelude.{Bool, false, true, List, ◌∷◌, map, ◌≢◌, ◌≡◌, eqb, ltb, replicate, set}
 use Rattle.std.proofs.Common.{◌∙◌, ap, length-set, get_or-set_other, get_or-set_same}
 use Rattle.std.proofs.Math.Path.{refl, sym}
-use Prim.Native.Nat.{◌%◌, ◌*◌, ◌+◌, ◌-◌, ◌/◌, ◌<◌, ◌≤◌, min, suc, zero, ℕ}
+use Prim.Native.Nat.{◌*◌, ◌+◌, ◌-◌, ◌<◌, ◌≤◌, min, suc, zero, ℕ}
 use native.Mathlib.Omega.{arith}
 use Rattle.std.proofs.Math.ListN.{get_or, length, length-append}
+use Rattle.std.specs.Int.{from_bool}
 use Rattle.std.proofs.lemmas.List.{length-map, length-replicate}
 use Rattle.disclosure.specs.Tallied.{Tallied, last_row, row_words, tally_words}
 use Rattle.verdicts.specs.VerdictLaws.{guided_next}
-use Rattle.verdicts.specs.Verdicts.{Guided, leads, listed, way_weight}
+use Rattle.verdicts.specs.Verdicts.{Guided, leads, listed}
+use Rattle.verdicts.specs.declared.Verdict.{Verdict}
 use Rattle.disclosure.specs.VisitLaws.{followed_more, inside_more, visit_last, visit_more}
 use Rattle.disclosure.specs.Visited.{followed, further_most, inside, under}
 use Rattle.laws.specs.Lists.{getD_zeros}
@@ -28,7 +30,7 @@ unfolding through
 through_least zero f g h = omega arith
 through_least (suc n) f g h = simp (length-append, length-map) (omega (arith, through_least n f g h, h (suc n)))
 
-module _ (t v : List ℕ) where
+module _ (t : List ℕ) (v : List Verdict) where
   -- one name more finds no less
   under_grows : (k e : ℕ) → length (under t v k e) ≤ length (under t v (suc k) e)
   unfolding visit
@@ -78,12 +80,10 @@ module _ (t v : List ℕ) where
 
   -- ---- what one entity has
 
-  -- a verdict that weighs less than a place: none leads on
-  pub inside_none : (k e : ℕ) → get_or v e 0 < way_weight → 0 ≡ length (inside t v k e (leads v e))
-  unfolding leads through
-  inside_none k e h =
-      let z : get_or v e 0 / way_weight ≡ 0 = omega arith in
-      sym (ap (λ (n : ℕ). length (inside t v k e n)) z)
+  -- no place leads on
+  pub inside_none : (k e : ℕ) → leads v e ≡ 0 → 0 ≡ length (inside t v k e (leads v e))
+  unfolding through
+  inside_none k e h = sym (ap (λ (n : ℕ). length (inside t v k e n)) h)
 
   -- before the first place
   pub inside_first : (k e : ℕ) → 0 ≡ length (inside t v k e (min 0 (leads v e)))
@@ -92,22 +92,17 @@ module _ (t v : List ℕ) where
       let z : min 0 (leads v e) ≡ 0 = omega arith in
       sym (ap (λ (n : ℕ). length (inside t v k e n)) z)
 
-  -- the last bit of a verdict counts the entity itself
-  bit_here : (e : ℕ) → get_or v e 0 % way_weight ≡ length (here (listed v e))
-  unfolding listed
-  bit_here e = go (get_or v e 0 % way_weight) (omega arith)
-    where
-      go : (x : ℕ) → x < way_weight → x ≡ length (here (eqb x 1))
-      go zero h = refl
-      go (suc zero) h = refl
-      go (suc (suc x)) h = absurd (omega arith)
+  -- the flag of a verdict counts the entity itself
+  counted_here : (b : Bool) → from_bool b ≡ length (here b)
+  counted_here true = refl
+  counted_here false = refl
 
-  pub tally_last : (k e : ℕ) → k ≡ 0 → get_or v e 0 % way_weight ≡ length (under t v k e)
-  tally_last k e z = bit_here e ∙ ap length (sym (visit_last t v k e z))
+  pub tally_last : (k e : ℕ) → k ≡ 0 → from_bool (listed v e) ≡ length (under t v k e)
+  tally_last k e z = counted_here (listed v e) ∙ ap length (sym (visit_last t v k e z))
 
-  pub tally_more : (k e s : ℕ) → k ≢ 0 → s ≡ length (inside t v (k - 1) e (leads v e)) → get_or v e 0 % way_weight + s ≡ length (under t v k e)
+  pub tally_more : (k e s : ℕ) → k ≢ 0 → s ≡ length (inside t v (k - 1) e (leads v e)) → from_bool (listed v e) + s ≡ length (under t v k e)
   tally_more k e s z h =
-      omega (arith, bit_here e, ap length (visit_more t v k e z), length-append (here (listed v e)) (inside t v (k - 1) e (leads v e)))
+      omega (arith, counted_here (listed v e), ap length (visit_more t v k e z), length-append (here (listed v e)) (inside t v (k - 1) e (leads v e)))
 
   -- ---- rows of tallies
 

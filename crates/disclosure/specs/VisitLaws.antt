@@ -1,5 +1,5 @@
 -- What a visit says and writes, put together from the visits in it.
-use Rattle.std.specs.Prelude.{Bool, ◌||◌, false, true, ◌≢◌, ◌≡◌, eqb, ltb, get_or, length}
+use Rattle.std.specs.Prelude.{Bool, ◌||◌, false, true, ◌≢◌, ◌≡◌, eqb, length}
 use mathlib.Core.List.{List, [], ◌++◌, ◌∷◌, append-nil, map}
 use Rattle.std.proofs.Common.{◌∙◌, subst, sym, add-zero, length-append}
 use Rattle.std.proofs.Math.Path.{ap, refl}
@@ -9,9 +9,10 @@ use native.Mathlib.Omega.{arith}
 use Rattle.std.proofs.lemmas.List.{length-map}
 use Rattle.std.proofs.Math.Seq.{length-sets}
 use Rattle.std.proofs.lemmas.List.Edits.{sets}
-use borrow.Author.Tests.{eqb-true, ltb-true}
+use borrow.Author.Tests.{eqb-true}
 use Rattle.disclosure.specs.EntryLaws.{entries_of_under, entries_of_whole, stored_both}
-use Rattle.verdicts.specs.Verdicts.{leads, listed, way_weight}
+use Rattle.verdicts.specs.Verdicts.{leads, listed}
+use Rattle.verdicts.specs.declared.Verdict.{Verdict}
 use Rattle.disclosure.specs.Visited.{Fits, Visited, entries_of, followed, further_most, inside, under}
 use Rattle.laws.specs.Bools.{or_cases}
 use Rattle.model.specs.Basics.Cases.{cases}
@@ -91,7 +92,7 @@ here_yes b pre l r i h q =
 
 -- ---- an entity and its places
 
-module _ (t v : List ℕ) where
+module _ (t : List ℕ) (v : List Verdict) where
   pub visit_last : (k e : ℕ) → k ≡ 0 → under t v k e ≡ here (listed v e)
   unfolding visit
   visit_last k e z = rw z refl
@@ -117,15 +118,14 @@ module _ (t v : List ℕ) where
   visit_alone (suc k) e z =
       visit_more (suc k) e (λ q. omega arith) ∙ ap (λ (m : ℕ). here (listed v e) ++ inside t v (suc k - 1) e m) z ∙ append-nil (here (listed v e))
 
-  -- a verdict that weighs less than a place, or no name left after the entity's own: the entity itself is all
-  visit_ends : (left e : ℕ) → (ltb (get_or v e 0) way_weight || eqb left 1) ≡ true → under t v (left - 1) e ≡ here (listed v e)
-  unfolding leads
+  -- no place that leads on, or no name left after the entity's own: the entity itself is all
+  visit_ends : (left e : ℕ) → (eqb (leads v e) 0 || eqb left 1) ≡ true → under t v (left - 1) e ≡ here (listed v e)
   visit_ends left e w =
-      cases (or_cases (ltb (get_or v e 0) way_weight) (eqb left 1) w)
-      (λ q. visit_alone (left - 1) e (omega (arith, ltb-true (get_or v e 0) way_weight q)))
+      cases (or_cases (eqb (leads v e) 0) (eqb left 1) w)
+      (λ q. visit_alone (left - 1) e (eqb-true (leads v e) 0 q))
       (λ q. visit_last (left - 1) e (omega (arith, eqb-true left 1 q)))
 
-  pub entity_ends : (left e : ℕ) (b : Bool) (pre l r : List ℕ) (i n : ℕ) → (ltb (get_or v e 0) way_weight || eqb left 1) ≡ true → b ≡ listed v e
+  pub entity_ends : (left e : ℕ) (b : Bool) (pre l r : List ℕ) (i n : ℕ) → (eqb (leads v e) 0 || eqb left 1) ≡ true → b ≡ listed v e
       → Visited pre l i (here b) n r → Visited pre l i (under t v (left - 1) e) n r
   entity_ends left e b pre l r i n w s h = visited_as pre l r i n (here b) (under t v (left - 1) e) (ap here s ∙ sym (visit_ends left e w)) h
 

@@ -2,6 +2,7 @@
 use Rattle.std.specs.Prelude.{List, ◌++◌, map, ◌≡◌, ◌*◌, ◌+◌, ◌≤◌, pred, ℕ, get_or, length}
 use Rattle.std.proofs.lemmas.List.Edits.{sets}
 use Rattle.verdicts.specs.Verdicts.{leads, listed}
+use Rattle.verdicts.specs.declared.Verdict.{Verdict}
 use Rattle.model.specs.List.Listing.{entries, entry_words}
 use Rattle.model.specs.List.Walk.{through, visit, walk}
 use Rattle.model.specs.Request.Reference.{standing}
@@ -9,11 +10,11 @@ use Rattle.model.specs.Request.Words.{name_count}
 use Rattle.model.specs.Tables.Layout.{tables_of}
 
 -- the continuations from e by at most k names, in the tables t, as the verdicts v tell
-abbrev pub under : List ℕ → List ℕ → ℕ → ℕ → List (List ℕ)
+abbrev pub under : List ℕ → List Verdict → ℕ → ℕ → List (List ℕ)
 under t v k e = visit (leads v) (standing (tables_of t)) (listed v) k e
 
 -- those by the first n places of e, and at most k names after that
-abbrev pub inside : List ℕ → List ℕ → ℕ → ℕ → ℕ → List (List ℕ)
+abbrev pub inside : List ℕ → List Verdict → ℕ → ℕ → ℕ → List (List ℕ)
 inside t v k e n = through n (λ p. under t v k (standing (tables_of t) e p))
 
 -- so many names may follow the first
@@ -21,7 +22,7 @@ abbrev pub further_most : ℕ
 further_most = pred name_count
 
 -- the references whose first name is one of 1 to n
-abbrev pub followed : List ℕ → List ℕ → ℕ → List (List ℕ)
+abbrev pub followed : List ℕ → List Verdict → ℕ → List (List ℕ)
 followed t v n = walk (leads v) (standing (tables_of t)) (listed v) further_most n
 
 -- the words of the references that begin with the names of pre and go on as the list says

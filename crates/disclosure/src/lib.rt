@@ -5,77 +5,64 @@
 ghost use Rattle.std.specs.Prelude.{◌≡◌};
 ghost use Rattle.disclosure.specs.Contract.{Listing};
 ghost use Rattle.model.specs.List.Listing.{barred};
+ghost use Rattle.names.specs.Refusals.{answer_number};
 
-use names::{refusal, size};
+use names::refusal::{Refusal, Refused};
+use names::size;
 use tables::User;
+use walk::Guide;
 
 mod sizes;
 mod tally;
 mod walk;
 
-// The answer, and how many entries there are: none with a refusal, but for that for want of room.
-#[derive(Clone, Copy)]
-pub struct Listed {
-    pub answer: u32,
-    pub entries: u32,
-}
-
 // The first refusal that applies: that of the state check, of an unknown requester, or of one who is not logged on.
-fn admit(t: &[u32], user: u32) -> u32
-    ensures { result ≡ barred t.now user }
+fn admit(t: &[u32], user: u32) -> Result<(), Refusal>
+    ensures { answer_number result ≡ barred t.now user }
 {
-    let n = state::checked(t);
-    if n != refusal::ACCEPTED {
-        return n;
-    }
+    state::checked(t)?;
     if !tables::is_known(t, user) {
-        return refusal::UNKNOWN_REQUESTER;
+        return Err(Refusal::UnknownRequester);
     }
     if tables::device(t, User(user)).0 == 0 {
-        return refusal::NOT_LOGGED_ON;
+        return Err(Refusal::NotLoggedOn);
     }
-    refusal::ACCEPTED
+    Ok(())
 }
 
-// The list of a user who was let in. Nothing is written where the room is too short, and nothing is walked where there are no entries.
-fn disclose(t: &[u32], u: User, room: &mut [u32]) -> Listed
+// The list of a user who was let in, and how many entries there are: in the room, or needed. Nothing is written where the room is too short,
+// and nothing is walked where there are no entries.
+fn disclose(t: &[u32], u: User, room: &mut [u32]) -> Result<u32, Refused>
     requires { barred t.now u.0 ≡ 0 }
     ensures { Listing t.now u.0 room.old result room.new }
 {
-    let mut v = [0u32; size::ENTITY_NUMBERS];
+    let mut v = [verdicts::NONE; size::ENTITY_NUMBERS];
     verdicts::judge_all(t, u, &mut v);
     let mut b = [0u32; sizes::TALLIES];
     let n = tally::tally_all(t, &v, &mut b);
     if n == 0 {
-        return Listed {
-            answer: refusal::ACCEPTED,
-            entries: 0,
-        };
+        return Ok(0);
     }
     let need = n as usize * size::ENTRY_WORDS;
     if room.len() < need {
-        return Listed {
-            answer: refusal::TOO_SHORT,
-            entries: n,
-        };
+        return Err(Refused {
+            by: Refusal::TooShort,
+            number: n,
+        });
     }
-    walk::visit_all(t, &v, &b, room);
-    Listed {
-        answer: refusal::ACCEPTED,
-        entries: n,
-    }
+    let guide = Guide {
+        tables: t,
+        verdicts: &v,
+        tallies: &b,
+    };
+    walk::visit_all(&guide, room);
+    Ok(n)
 }
 
-// The list of any words, any number of a user and any room.
-pub fn list(t: &[u32], user: u32, room: &mut [u32]) -> Listed
+// The list of any words, any number of a user and any room: how many entries were written, or the refusal, with the need where the room is too short.
+pub fn list(t: &[u32], user: u32, room: &mut [u32]) -> Result<u32, Refused>
     ensures { Listing t.now user room.old result room.new }
 {
-    let n = admit(t, user);
-    if n != refusal::ACCEPTED {
-        return Listed {
-            answer: n,
-            entries: 0,
-        };
-    }
+    admit(t, user)?;
     disclose(t, User(user), room)
 }

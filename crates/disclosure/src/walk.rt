@@ -1,5 +1,5 @@
 // The walk: one function looks at an entity, the other goes through its places and hands each back to the first, as long as names are left.
-// The verdicts v say what is listed and how many places lead on, the tallies b from where nothing can be listed. The entries are stored one
+// The verdicts say what is listed and how many places lead on, the tallies from where nothing can be listed. The entries are stored one
 // after the other, in a room that has space for them all.
 ghost use Rattle.std.specs.Prelude.{[], ◌++◌, ◌∷◌, ◌≡◌, ◌+◌, ◌-◌, ◌<◌, ◌≤◌, length, take};
 ghost use Rattle.std.proofs.lemmas.List.Edits.{sets};
@@ -14,6 +14,15 @@ ghost use Rattle.model.specs.Tables.Words.{entity_count};
 use crate::sizes;
 use names::size;
 use tables::Entity;
+use verdicts::Verdict;
+
+// What the walk goes by: the tables, the verdicts on their entities, and the tallies that the verdicts give.
+#[derive(Clone, Copy)]
+pub struct Guide<'a> {
+    pub tables: &'a [u32],
+    pub verdicts: &'a [Verdict; size::ENTITY_NUMBERS],
+    pub tallies: &'a [u32; sizes::TALLIES],
+}
 
 // Stores the number n, and all four names after it.
 fn put_names(n: usize, names: [u32; sizes::NAMES], room: &mut [u32], at: usize)
@@ -85,34 +94,32 @@ fn visit_last(
 // Visits entity e, which the names before the last `left` lead to, and what they lead to by further names.
 #[cycle(visit_entity_visit_places)]
 fn visit_entity(
-    t: &[u32],
-    v: &[u32; size::ENTITY_NUMBERS],
-    b: &[u32; sizes::TALLIES],
+    g: &Guide,
     e: Entity,
     left: usize,
     names: [u32; sizes::NAMES],
     room: &mut [u32],
     at: usize,
 ) -> usize
-    requires { Arrived t.now v.now b.now e.0 left names × Fits room.old at (under t.now v.now left e.0) }
-    ensures { Visited (take (name_count - left) names) room.old at
-        (under t.now v.now left e.0) result room.new }
+    requires { let t = g.now.tables.now in let v = g.now.verdicts.now in
+        Arrived t v g.now.tallies.now e.0 left names × Fits room.old at (under t v left e.0) }
+    ensures { let t = g.now.tables.now in let v = g.now.verdicts.now in
+        Visited (take (name_count - left) names) room.old at (under t v left e.0) result room.new }
 {
-    let w = v[e.0 as usize];
-    let next = visit_here(w % verdicts::WAY == 1, left, names, room, at);
+    let w = &g.verdicts[e.0 as usize];
+    let next = visit_here(w.shown, left, names, room, at);
     if left == 0 {
         return next;
     }
-    visit_places(t, v, b, e, w / verdicts::WAY, left, names, room, next)
+    visit_places(g, e, w.ways, left, names, room, next)
 }
 
 // Visits the places of entity e that lead on, but for those from which nothing can be listed. What nothing follows, for want of places that
-// lead on or of names, is done with at once and before all else: most visits are of that kind.
+// lead on or of names, is done with at once and before all else: most visits are of that kind. What the guide refers to is taken out of it
+// first, since a loop that stores into the room would read it again in each turn.
 #[cycle(visit_entity_visit_places)]
 fn visit_places(
-    t: &[u32],
-    v: &[u32; size::ENTITY_NUMBERS],
-    b: &[u32; sizes::TALLIES],
+    g: &Guide,
     e: Entity,
     n: u32,
     left: usize,
@@ -120,53 +127,43 @@ fn visit_places(
     room: &mut [u32],
     at: usize,
 ) -> usize
-    requires { Arrived t.now v.now b.now e.0 left names × (0 < left) × (n ≡ leads v.now e.0)
-        × Fits room.old at (inside t.now v.now (left - 1) e.0 n) }
-    ensures { Visited (take (name_count - left) names) room.old at
-        (inside t.now v.now (left - 1) e.0 n) result room.new }
+    requires { let t = g.now.tables.now in let v = g.now.verdicts.now in
+        Arrived t v g.now.tallies.now e.0 left names × (0 < left) × (n ≡ leads v e.0) × Fits room.old at (inside t v (left - 1) e.0 n) }
+    ensures { let t = g.now.tables.now in let v = g.now.verdicts.now in
+        Visited (take (name_count - left) names) room.old at (inside t v (left - 1) e.0 n) result room.new }
 {
+    let Guide {
+        tables,
+        verdicts,
+        tallies,
+    } = *g;
     let mut i = at;
-    let mut p: u32 = 0;
-    while p < n {
-        let c = tables::place(t, e, p);
-        let w = v[c.0 as usize];
-        if (w < verdicts::WAY) | (left == 1) {
-            i = visit_last(w % verdicts::WAY == 1, left, names, p + 1, room, i);
-            p += 1;
-            continue;
+    for p in 0..n {
+        let c = tables::place(tables, e, p);
+        let w = &verdicts[c.0 as usize];
+        if (w.ways == 0) | (left == 1) {
+            i = visit_last(w.shown, left, names, p + 1, room, i);
+        } else if tallies[(left - 1) * sizes::ROW + c.0 as usize] != 0 {
+            let mut longer = names;
+            longer[sizes::NAMES - left] = p + 1;
+            i = visit_entity(g, c, left - 1, longer, room, i);
         }
-        if b[(left - 1) * sizes::ROW + c.0 as usize] == 0 {
-            p += 1;
-            continue;
-        }
-        let mut longer = names;
-        longer[sizes::NAMES - left] = p + 1;
-        i = visit_entity(t, v, b, c, left - 1, longer, room, i);
-        p += 1;
     }
     i
 }
 
 // Visits every entity from which something can be listed, by its number, and so writes the whole list from the front of the room.
-pub fn visit_all(
-    t: &[u32],
-    v: &[u32; size::ENTITY_NUMBERS],
-    b: &[u32; sizes::TALLIES],
-    room: &mut [u32],
-)
-    requires { Guided t.now v.now × Tallied t.now v.now tally_words b.now × Fits room.old 0 (followed t.now v.now entity_count) }
-    ensures { room.new ≡ sets room.old 0 (entries (followed t.now v.now entity_count)) }
+pub fn visit_all(g: &Guide, room: &mut [u32])
+    requires { let t = g.now.tables.now in let v = g.now.verdicts.now in
+        Guided t v × Tallied t v tally_words g.now.tallies.now × Fits room.old 0 (followed t v entity_count) }
+    ensures { room.new ≡ sets room.old 0 (entries (followed g.now.tables.now g.now.verdicts.now entity_count)) }
 {
     let mut i: usize = 0;
-    let mut e: u32 = 0;
-    while e < size::ENTITIES {
-        if b[sizes::LAST_ROW + e as usize] == 0 {
-            e += 1;
-            continue;
+    for e in 0..size::ENTITIES {
+        if g.tallies[sizes::LAST_ROW + e as usize] != 0 {
+            let mut names = [0u32; sizes::NAMES];
+            names[0] = e + 1;
+            i = visit_entity(g, Entity(e + 1), sizes::FURTHER, names, room, i);
         }
-        let mut names = [0u32; sizes::NAMES];
-        names[0] = e + 1;
-        i = visit_entity(t, v, b, Entity(e + 1), sizes::FURTHER, names, room, i);
-        e += 1;
     }
 }

@@ -1,5 +1,5 @@
--- The choice of an operation by its number, over lists: what an arm may rely on, and what is left over when no arm fits. One operation more
--- is one element more of `operations`.
+-- The choice of an operation by its number: what an arm may rely on, and what a number says that is no operation's. The arms are those of a type, so
+-- that none is left over.
 use Rattle.std.specs.Prelude.{Bool, false, not, true, List, [], ◌∷◌, ◌≢◌, ◌≡◌, refl, suc, ℕ, eqb}
 use Rattle.std.proofs.Math.Option.{Option, none, some}
 use Rattle.std.proofs.Common.{◌∙◌, ap, sym, arith, eq-eqb, eqb-true}
@@ -21,6 +21,18 @@ named_as q o e = ap op_of e ∙ number_op_of o
 -- the form of the operation that the number names
 pub fits_named : (q : Request) (o : Op) → q.operation ≡ number_of o → fits o q ≡ of_op q (λ p. fits p q)
 fits_named q o e = sym (of_op_some q o (named_as q o e) (λ p. fits p q))
+
+-- the number of no operation: the request names none
+pub none_meant : (p : Op → Bool) (q : Request) → op_of q.operation ≡ none → false ≡ of_op q p
+unfolding of_op
+none_meant p q e = rw (e, of_op)
+
+-- how many operands the operation of a number takes
+pub arity_named : (q : Request) (o : Op) → q.operation ≡ number_of o → arity_of q ≡ taken o
+unfolding arity_of
+arity_named q o e = rw (named_as q o e, arity_of)
+
+-- ---- a choice by the number itself, over lists of numbers
 
 -- n is none of a list of numbers, as a match leaves it: the arms in their order
 abbrev pub NoneFrom : Type 0 → List ℕ → ℕ → Type 0

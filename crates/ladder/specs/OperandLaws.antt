@@ -6,10 +6,8 @@ use Rattle.std.proofs.Common.{◌∙◌, sym, arith, eq-eqb, ne_eqb}
 use Rattle.std.proofs.Math.Path.{ap}
 use Rattle.std.proofs.Math.Dec.{eqb}
 use Rattle.laws.specs.Bools.{either, joined}
-use Rattle.ladder.specs.Path.{arity_of, operand_of, pair_of, path_answer}
+use Rattle.ladder.specs.Path.{arity_of, path_answer}
 use Rattle.ladder.specs.PathLaws.{path_barred, path_nowhere, path_open, path_shut}
-use Rattle.ladder.specs.declared.operands.Operand.TheVariants.{Fine, No}
-use Rattle.ladder.specs.declared.operands.Pair.TheVariants.{Both, Neither}
 use Rattle.tables.specs.declared.Entity.{Entity}
 use Rattle.model.specs.Basics.TestLaws.{only}
 use Rattle.model.proofs.Request.FitLaws.{operands_taken}
@@ -98,6 +96,17 @@ module _ (d : Tables) (l : ℕ) (r : Reference) (ns : List ℕ) (hn : ns ≡ nam
         twice true = refl
         twice false = refl
 
+-- where the request's references lead are its operands
+module _ (d : Tables) (q : Request) (l : ℕ) (ns : List ℕ) (f : Found) (hf : f ≡ leading (resolve d ns) (not (bars d l (basis d ns))))
+    (e : Entity) (o : Bool) (h : f ≡ At e o) where
+  pub first_is : ns ≡ names q.first → e.0 ≡ (asked d q).first
+  unfolding asked
+  first_is hn = sym (found_is d l q.first ns hn f hf e o h)
+
+  pub second_is : ns ≡ names q.second → e.0 ≡ (asked d q).second
+  unfolding asked
+  second_is hn = sym (found_is d l q.second ns hn f hf e o h)
+
 module _ (d : Tables) (q : Request) (u op l : ℕ) (hu : q.user ≡ u) (ho : q.operation ≡ op) (hl : l ≡ d.user u clearance) where
   -- the clearance that was read is the requester's
   own_clearance : d.user q.user clearance ≡ l
@@ -124,8 +133,8 @@ module _ (d : Tables) (q : Request) (u op l : ℕ) (hu : q.user ≡ u) (ho : q.o
 
     module _ (ns : List ℕ) (hn : ns ≡ names q.first) (f : Found) (hf : f ≡ leading (resolve d ns) (not (bars d l (basis d ns)))) where
       -- the reference leads nowhere
-      pub one_nowhere : f ≡ Nowhere → No refusal.no_such_name ≡ operand_of (path_answer d q) (asked d q).first
-      one_nowhere h = rw (path_nowhere d q (one_7 ∙ nowhere d l q.first ns hn f hf h))
+      pub one_nowhere : f ≡ Nowhere → refusal.no_such_name ≡ path_answer d q
+      one_nowhere h = sym (path_nowhere d q (one_7 ∙ nowhere d l q.first ns hn f hf h))
 
       module _ (e : Entity) (o : Bool) (h : f ≡ At e o) (p : Bool) (hp : p ≡ permits d u op 1 e.0) where
         leads : leads_nowhere d q ≡ false
@@ -138,18 +147,16 @@ module _ (d : Tables) (q : Request) (u op l : ℕ) (hu : q.user ≡ u) (ho : q.o
         way = one_9 ∙ way_is d l q.first ns hn f hf e o h
 
         -- its triples do not permit the request
-        pub one_shut : p ≡ false → No refusal.no_access ≡ operand_of (path_answer d q) (asked d q).first
-        one_shut x = rw (path_shut d q leads (access ∙ ap not x))
+        pub one_shut : p ≡ false → refusal.no_access ≡ path_answer d q
+        one_shut x = sym (path_shut d q leads (access ∙ ap not x))
 
         -- something on the way is marked, and the requester is not cleared for it
-        pub one_barred : p ≡ true → o ≡ false → No refusal.marked ≡ operand_of (path_answer d q) (asked d q).first
-        one_barred x y = rw (path_barred d q leads (access ∙ ap not x) (way ∙ ap not y))
+        pub one_barred : p ≡ true → o ≡ false → refusal.marked ≡ path_answer d q
+        one_barred x y = sym (path_barred d q leads (access ∙ ap not x) (way ∙ ap not y))
 
         -- it may be had
-        pub one_fine : p ≡ true → o ≡ true → Fine e ≡ operand_of (path_answer d q) (asked d q).first
-        unfolding asked
-        one_fine x y = rw (path_open d q leads (access ∙ ap not x) (way ∙ ap not y))
-            (ap (λ (n : ℕ). Fine (record { 0 = n })) (sym (found_is d l q.first ns hn f hf e o h)))
+        pub one_fine : p ≡ true → o ≡ true → refusal.accepted ≡ path_answer d q
+        one_fine x y = sym (path_open d q leads (access ∙ ap not x) (way ∙ ap not y))
 
   -- ---- two operands: each rung is asked of both before the next
 
@@ -173,14 +180,14 @@ module _ (d : Tables) (q : Request) (u op l : ℕ) (hu : q.user ≡ u) (ho : q.o
 
     module _ (ns : List ℕ) (hn : ns ≡ names q.first) (f : Found) (hf : f ≡ leading (resolve d ns) (not (bars d l (basis d ns)))) where
       -- the first reference leads nowhere
-      pub two_nowhere : f ≡ Nowhere → Neither refusal.no_such_name ≡ pair_of (path_answer d q) (asked d q).first (asked d q).second
-      two_nowhere h = rw (path_nowhere d q (two_7 ∙ rw (nowhere d l q.first ns hn f hf h)))
+      pub two_nowhere : f ≡ Nowhere → refusal.no_such_name ≡ path_answer d q
+      two_nowhere h = sym (path_nowhere d q (two_7 ∙ rw (nowhere d l q.first ns hn f hf h)))
 
       module _ (e : Entity) (o : Bool) (h : f ≡ At e o)
           (ms : List ℕ) (hm : ms ≡ names q.second) (g : Found) (hg : g ≡ leading (resolve d ms) (not (bars d l (basis d ms)))) where
         -- the second one does
-        pub two_nowhere₂ : g ≡ Nowhere → Neither refusal.no_such_name ≡ pair_of (path_answer d q) (asked d q).first (asked d q).second
-        two_nowhere₂ k = rw (path_nowhere d q (two_7 ∙ rw (nowhere d l q.second ms hm g hg k, somewhere d l q.first ns hn f hf e o h)))
+        pub two_nowhere₂ : g ≡ Nowhere → refusal.no_such_name ≡ path_answer d q
+        two_nowhere₂ k = sym (path_nowhere d q (two_7 ∙ rw (nowhere d l q.second ms hm g hg k, somewhere d l q.first ns hn f hf e o h)))
 
         module _ (c : Entity) (w : Bool) (k : g ≡ At c w) (p : Bool) (hp : p ≡ permits d u op 1 e.0) where
           both_lead : leads_nowhere d q ≡ false
@@ -190,23 +197,21 @@ module _ (d : Tables) (q : Request) (u op l : ℕ) (hu : q.user ≡ u) (ho : q.o
           access_both r hr = two_8 ∙ rw (found_is d l q.first ns hn f hf e o h, found_is d l q.second ms hm g hg c w k, hp, hr)
 
           -- the first operand's triples do not permit the request
-          pub two_shut : p ≡ false → Neither refusal.no_access ≡ pair_of (path_answer d q) (asked d q).first (asked d q).second
-          two_shut x = rw (path_shut d q both_lead (access_both (permits d u op 2 c.0) refl ∙ rw x))
+          pub two_shut : p ≡ false → refusal.no_access ≡ path_answer d q
+          two_shut x = sym (path_shut d q both_lead (access_both (permits d u op 2 c.0) refl ∙ rw x))
 
           module _ (x : p ≡ true) (r : Bool) (hr : r ≡ permits d u op 2 c.0) where
             -- the second one's do not
-            pub two_shut₂ : r ≡ false → Neither refusal.no_access ≡ pair_of (path_answer d q) (asked d q).first (asked d q).second
-            two_shut₂ y = rw (path_shut d q both_lead (access_both r hr ∙ rw (x, y)))
+            pub two_shut₂ : r ≡ false → refusal.no_access ≡ path_answer d q
+            two_shut₂ y = sym (path_shut d q both_lead (access_both r hr ∙ rw (x, y)))
 
             way_both : not_cleared d q ≡ not (o && w)
             way_both = two_9 ∙ rw (way_is d l q.first ns hn f hf e o h, way_is d l q.second ms hm g hg c w k) (joined o w)
 
             -- one of the ways is not open
-            pub two_barred : r ≡ true → (o && w) ≡ false → Neither refusal.marked ≡ pair_of (path_answer d q) (asked d q).first (asked d q).second
-            two_barred y z = rw (path_barred d q both_lead (access_both r hr ∙ rw (x, y)) (way_both ∙ ap not z))
+            pub two_barred : r ≡ true → (o && w) ≡ false → refusal.marked ≡ path_answer d q
+            two_barred y z = sym (path_barred d q both_lead (access_both r hr ∙ rw (x, y)) (way_both ∙ ap not z))
 
             -- both may be had
-            pub two_fine : r ≡ true → (o && w) ≡ true → Both e c ≡ pair_of (path_answer d q) (asked d q).first (asked d q).second
-            unfolding asked
-            two_fine y z = rw (path_open d q both_lead (access_both r hr ∙ rw (x, y)) (way_both ∙ ap not z))
-                (rw (found_is d l q.first ns hn f hf e o h, found_is d l q.second ms hm g hg c w k))
+            pub two_fine : r ≡ true → (o && w) ≡ true → refusal.accepted ≡ path_answer d q
+            two_fine y z = sym (path_open d q both_lead (access_both r hr ∙ rw (x, y)) (way_both ∙ ap not z))

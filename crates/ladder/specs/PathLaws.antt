@@ -11,6 +11,9 @@ use Rattle.model.specs.Request.Ladder.{Rung, answer, applies, ladder, leads_nowh
 use Rattle.model.specs.Request.Refusals as refusal
 use Rattle.model.specs.Request.Words.{Request}
 use Rattle.model.specs.Tables.Words.{Tables, first_noticed}
+use Rattle.names.specs.RefusalLaws.{refusal_some}
+use Rattle.names.specs.Refusals.{number_of}
+use Rattle.names.specs.declared.refusal.Refusal.{Refusal}
 
 -- the first rung of a list applies, or is passed over
 lowest_yes : (n : ℕ) (r : Rung) (rs : List Rung) (d : Tables) (q : Request) → r d q ≡ true → lowest n (r ∷ rs) d q ≡ n
@@ -76,3 +79,8 @@ module _ (d : Tables) (q : Request) where
   -- where none of the three applies the ladder is passed up to rung 9
   pub path_pass : Passed refusal.not_logged_on d q → path_answer d q ≡ 0 → Passed refusal.marked d q
   path_pass p h = (told p).pass h
+
+  -- the same of the refusal that the answer is the number of
+  pub path_refused : (r : Refusal) → Passed refusal.not_logged_on d q → number_of r ≡ path_answer d q
+      → (number_of r ≡ answer d q) × (first_noticed ≤ number_of r)
+  path_refused r p e = rw e (path_hit p (subst (λ (n : ℕ). 1 ≤ n) e (refusal_some r)))

@@ -5,6 +5,7 @@ use Rattle.std.proofs.Common.{◌∙◌, sym, lit<, lit≤}
 use Rattle.std.proofs.Math.Path.{ap}
 use Rattle.ladder.specs.Contract.{First, Judged, Passed, Taking}
 use Rattle.ladder.specs.JudgeLaws.{accepted, asked_of, free, kinds_none, pass, skip, stop, user_is_lem}
+use Rattle.model.specs.Basics.Choice.{pick}
 use Rattle.model.specs.Basics.Tests.{every}
 use Rattle.model.specs.Effect.Words.{set_level}
 use Rattle.model.specs.Level.{officer}
@@ -17,6 +18,7 @@ use Rattle.model.specs.State.Check.{secure_test}
 use Rattle.model.specs.Tables.Layout.{tables_of}
 use Rattle.model.specs.Tables.Words.{Tables, present}
 use Rattle.ladder.specs.Rungs.{OfOfficers, OnTrial}
+use Rattle.ladder.specs.Trial.{Tried}
 use Rattle.model.specs.Request.Refusals as refusal
 
 -- ---- the operations that have them
@@ -92,6 +94,16 @@ module _ (o : Op) (z : OnTrial o) (t q : List ℕ) (u : ℕ) (k : Taking o t q u
   pub trial_done : s ≡ true → (n : List ℕ) → tables_of n ≡ new → Judged t q refusal.accepted n
   trial_done v n j = accepted k n (skip k 3 refusal.level_or_roles (lit≤ tt) (lit≤ tt)
       (pass k refusal.role_missing (lit≤ tt) (lit< tt) p (trial_is ∙ ap not v)) z.last) (j ∙ sym e)
+
+-- the operation's own answer is that of the trial
+pub trial_judged : (t q : List ℕ) (new : Tables) → (secure_test new ≡ false → Judged t q refusal.level_or_roles t)
+    → (secure_test new ≡ true → (n : List ℕ) → tables_of n ≡ new → Judged t q refusal.accepted n) → (r : ℕ) (n : List ℕ) → Tried new t r n → Judged t q r n
+trial_judged t q new f g r n h = go (secure_test new) h.answer f g
+  where
+    go : (s : Bool) → r ≡ pick s refusal.accepted refusal.level_or_roles → (s ≡ false → Judged t q refusal.level_or_roles t)
+        → (s ≡ true → (n : List ℕ) → tables_of n ≡ new → Judged t q refusal.accepted n) → Judged t q r n
+    go true i f g = rw i (g refl n (h.kept i))
+    go false i f g = rw (i, h.unchanged i) (f refl)
 
 -- the effect of operations 6 and 18, as they were read
 pub level_effect_lem : (t q : List ℕ) (e a : ℕ) → First t q e → a ≡ (request_of q).a → level_effect (asked_of t q) (tables_of t) ≡ set_level e a (tables_of t)

@@ -7,6 +7,7 @@ ghost use Rattle.tables.specs.Singles.{EntityIn};
 use tables::Entity;
 
 // Whether entity e is an object or a container.
+#[tactic(auto, unfolding(model::specs::Request::Conditions::is_entity))]
 pub fn is_entity(t: &[u32], e: Entity) -> bool
     requires { EntityIn t.now e.0 }
     ensures { result ≡ is_entity (tables_of t.now) e.0 }
@@ -16,6 +17,7 @@ pub fn is_entity(t: &[u32], e: Entity) -> bool
 }
 
 // Whether entity e is a container.
+#[tactic(auto, unfolding(model::specs::Request::Conditions::is_container))]
 pub fn is_container(t: &[u32], e: Entity) -> bool
     requires { EntityIn t.now e.0 }
     ensures { result ≡ is_container (tables_of t.now) e.0 }
@@ -24,6 +26,7 @@ pub fn is_container(t: &[u32], e: Entity) -> bool
 }
 
 // Whether entity e is a device.
+#[tactic(auto, unfolding(model::specs::Request::Conditions::is_device))]
 pub fn is_device(t: &[u32], e: Entity) -> bool
     requires { EntityIn t.now e.0 }
     ensures { result ≡ is_device (tables_of t.now) e.0 }
@@ -32,6 +35,7 @@ pub fn is_device(t: &[u32], e: Entity) -> bool
 }
 
 // Whether entity e is a draft.
+#[tactic(auto, unfolding(model::specs::Request::Conditions::is_draft))]
 pub fn is_draft(t: &[u32], e: Entity) -> bool
     requires { EntityIn t.now e.0 }
     ensures { result ≡ is_draft (tables_of t.now) e.0 }
@@ -40,6 +44,7 @@ pub fn is_draft(t: &[u32], e: Entity) -> bool
 }
 
 // Whether entity e is anything that is there.
+#[tactic(auto, unfolding(model::specs::Request::Conditions::is_any))]
 pub fn is_any(t: &[u32], e: Entity) -> bool
     requires { EntityIn t.now e.0 }
     ensures { result ≡ is_any (tables_of t.now) e.0 }

@@ -2,3 +2,4 @@
 pub mod Bools
 pub mod Loops
 pub mod Lists
+pub mod Ranges

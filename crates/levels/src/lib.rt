@@ -7,7 +7,7 @@ ghost use Rattle.model.specs.Level.{at_most, bit, compartment_count, role_count,
 use names::size;
 
 // A level: a rank and a set of compartments in one number.
-#[derive(Clone, Copy)]
+#[derive(Clone, Copy, Debug, PartialEq, Eq)]
 pub struct Level(pub u32);
 
 // Whether bit i is in n.
@@ -24,7 +24,9 @@ fn bits_within(k: u32, a: u32, b: u32) -> bool
     ensures { result ≡ subset k a b }
 {
     let w = 1u32 << k;
-    (a % w) & (b % w) == a % w
+    let x = a % w;
+    let y = b % w;
+    x & y == x
 }
 
 // Whether each role of a is in b.
@@ -42,7 +44,8 @@ fn compartments_within(a: u32, b: u32) -> bool
 }
 
 // Whether a is at most b: no higher rank, and no compartment that b lacks. Where b lacks none, the greater number has the higher rank or the same one,
-// so the whole numbers are compared and no rank is taken out of them.
+// so the whole numbers are compared and no rank is taken out of them. It is not `<=` of levels: a derived order would be that of the numbers, and an
+// order by hand would ask both directions.
 pub fn at_most(a: Level, b: Level) -> bool
     ensures { result ≡ at_most a.0 b.0 }
 {

@@ -1,11 +1,10 @@
 -- Reading a number at an index, by the tests of its bytes.
-use Rattle.std.specs.Prelude.{◌||◌, false, true, List, ◌≡◌, ◌*◌, ◌+◌, ◌-◌, ◌<◌, ◌≤◌, ℕ, eqb, ltb, drop, get_or, length}
+use Rattle.std.specs.Prelude.{◌⊎◌, false, true, List, ◌≡◌, refl, Some, None, ◌*◌, ◌+◌, ◌-◌, ◌<◌, ◌≤◌, ℕ, eqb, drop, get_or, length}
 use Rattle.std.proofs.Common.{◌∙◌, sym, zero-le, add-one, arith, drop_of_length-le, drop-cons, eqb-true, le-leb, le-ltb, lt-ltb, ne_eqb}
 use Rattle.std.proofs.lemmas.Bool.{eqb-false, lt-leb}
 use Rattle.lines.specs.NumberAt.{NumberAt}
 use Rattle.lines.specs.declared.reading.Number.{Number}
-use Rattle.lines.specs.declared.reading.Number.TheVariants.{Bad, Value}
-use Rattle.model.specs.Basics.Cases.{cases, lt_or_le, true_or_false}
+use Rattle.model.specs.Basics.Cases.{cases, true_or_false}
 use Rattle.model.specs.Text.Numbers.{bad, got, is_digit, more, most, nine_byte, number, zero_byte}
 
 -- the byte at an index
@@ -22,26 +21,15 @@ high b h = rw (le-ltb b zero_byte (omega arith), lt-leb b nine_byte h)
 pub digit : (b : ℕ) → zero_byte ≤ b → b ≤ nine_byte → is_digit b ≡ true
 digit b h l = rw (le-ltb b zero_byte h, le-leb b nine_byte l)
 
--- both tests in one
-pub other : (b : ℕ) → ltb b zero_byte || ltb nine_byte b ≡ true → is_digit b ≡ false
-other b e =
-    cases (lt_or_le b zero_byte) (λ l. low b l)
-    (λ h. cases (lt_or_le nine_byte b) (λ l. high b l)
-    (λ g. let y : false ≡ true = rw (le-ltb b zero_byte h, le-ltb nine_byte b g) at e in let z : ◌≡◌ {A = ℕ} 0 1 = cc in absurd (omega arith)))
-
-pub range : (b : ℕ) → ltb b zero_byte || ltb nine_byte b ≡ false → (zero_byte ≤ b) × (b ≤ nine_byte)
-range b e =
-    cases (lt_or_le b zero_byte)
-    (λ l. let y : true ≡ false = rw (lt-ltb b zero_byte l) at e in let z : ◌≡◌ {A = ℕ} 0 1 = cc in absurd (omega arith))
-    (λ h. cases (lt_or_le nine_byte b)
-    (λ l. let y : true ≡ false = rw (le-ltb b zero_byte h, lt-ltb nine_byte b l) at e in let z : ◌≡◌ {A = ℕ} 0 1 = cc in absurd (omega arith))
-    (λ g. (h, g)))
+pub other : (b : ℕ) → (b < zero_byte) ⊎ (nine_byte < b) → is_digit b ≡ false
+other b h = cases h (low b) (high b)
 
 -- no number is read, or one is
-pub number_bad : {s : List ℕ} {at : ℕ} → number (drop at s) ≡ bad → NumberAt s at Bad
+pub number_bad : {s : List ℕ} {at : ℕ} → number (drop at s) ≡ bad → NumberAt s at None
 number_bad e = record { is = sym e; within = zero-le }
 
-pub number_got : {s : List ℕ} {at v i : ℕ} {r : Number} → r ≡ Value v i → i ≤ length s → number (drop at s) ≡ got v (drop i s) → NumberAt s at r
+pub number_got : {s : List ℕ} {at v i : ℕ} {r : Number} → r ≡ record { v = v; next = i } → i ≤ length s → number (drop at s) ≡ got v (drop i s)
+    → NumberAt s at (Some r)
 number_got e h g = rw e (record { is = sym g; within = h })
 
 module _ (s : List ℕ) (i : ℕ) where
@@ -57,9 +45,9 @@ module _ (s : List ℕ) (i : ℕ) where
   number_zero l e = rw (add-one, drop-cons s i 0 l, e)
 
   -- or another digit, and then more may follow
-  pub number_first : i < length s → zero_byte ≤ byte s i → byte s i ≤ nine_byte → (byte s i ≡ zero_byte → ⊥)
-      → number (drop i s) ≡ more (byte s i - zero_byte) (drop (i + 1) s)
-  number_first l h g n = rw (add-one, drop-cons s i 0 l, digit (byte s i) h g, ne_eqb (byte s i) zero_byte n)
+  pub number_first : {b : ℕ} → i < length s → b ≡ byte s i → zero_byte ≤ b → b ≤ nine_byte → (b ≡ zero_byte → ⊥)
+      → number (drop i s) ≡ more (b - zero_byte) (drop (i + 1) s)
+  number_first {b} l e h g n = rw (add-one, drop-cons s i 0 l, ← e, digit b h g, ne_eqb b zero_byte n)
 
   -- a further byte: there is none, or it is no digit
   pub more_end : (v : ℕ) → length s ≤ i → more v (drop i s) ≡ got v (drop i s)
@@ -84,4 +72,4 @@ pub number_one : (s : List ℕ) (i : ℕ) → i + 1 < length s → zero_byte ≤
 number_one s i l h g e =
     cases (true_or_false (eqb (byte s i) zero_byte))
     (λ z. let q : byte s i ≡ zero_byte = eqb-true (byte s i) zero_byte z in number_zero s i (omega arith) q ∙ rw q)
-    (λ n. number_first s i (omega arith) h g (eqb-false (byte s i) zero_byte n) ∙ more_other s (i + 1) (byte s i - zero_byte) l e)
+    (λ n. number_first s i (omega arith) refl h g (eqb-false (byte s i) zero_byte n) ∙ more_other s (i + 1) (byte s i - zero_byte) l e)

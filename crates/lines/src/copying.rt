@@ -6,9 +6,5 @@ pub fn copy_words(out: &mut [u32], src: &[u32])
     requires { length out.old ≡ length src.now }
     ensures { out.new ≡ src.now }
 {
-    let mut i = 0;
-    while i < src.len() {
-        out[i] = src[i];
-        i += 1;
-    }
+    out.copy_from_slice(src);
 }

@@ -1,45 +1,63 @@
-// Writes bytes and numbers at an index of the output (rule 11.3). Each writer answers the index after what it wrote, and leaves what stands before and
-// after that.
-ghost use Rattle.std.specs.Prelude.{[], ◌∷◌, ◌+◌, ◌<◌, ◌≤◌, length};
-ghost use Rattle.lines.specs.Onto.{Puts};
+// Writes bytes, numbers and lines one after another in a lent room (rule 11.3). Each writer leaves what stands before and after what it writes.
+ghost use Rattle.std.specs.Prelude.{[], ◌∷◌};
+ghost use Rattle.lines.specs.Adds.{Adds, Room};
+ghost use Rattle.model.specs.Text.Lines.{line};
 ghost use Rattle.model.specs.Text.Numbers.{digits};
 ghost use Rattle.model.specs.Text.References.{dot_byte};
 
-use crate::writing::{write_bytes, write_number};
+use crate::writing::{write_bytes, write_line, write_number};
 use names::text;
 
-// Writes one byte.
-pub fn put_byte(out: &mut [u8], at: usize, b: u8) -> usize
-    requires { at < length out.old }
-    ensures { Puts (b ∷ []) out.old at out.new result }
-{
-    out[at] = b;
-    at + 1
+// A room, and the index up to which it is written.
+#[derive(Drop)]
+pub struct Output<'a> {
+    pub room: &'a mut [u8],
+    pub at: usize,
 }
 
-// Writes some bytes as they are.
-pub fn put_bytes(out: &mut [u8], at: usize, src: &[u8]) -> usize
-    requires { at + length src.now ≤ length out.old }
-    ensures { Puts src.now out.old at out.new result }
-{
-    let n = write_bytes(&mut out[at..], src);
-    at + n
-}
+impl Output<'_> {
+    // Writes one byte.
+    pub fn put_byte(&mut self, b: u8)
+        requires { Room (b ∷ []) self.old }
+        ensures { Adds (b ∷ []) self.old self.new }
+    {
+        self.room[self.at] = b;
+        self.at += 1;
+    }
 
-// Writes the digits of a number.
-pub fn put_number(out: &mut [u8], at: usize, v: u32) -> usize
-    requires { at + length (digits v) ≤ length out.old }
-    ensures { Puts (digits v) out.old at out.new result }
-{
-    let n = write_number(&mut out[at..], v);
-    at + n
-}
+    // Writes some bytes as they are.
+    pub fn put_bytes(&mut self, src: &[u8])
+        requires { Room src.now self.old }
+        ensures { Adds src.now self.old self.new }
+    {
+        let n = write_bytes(&mut self.room[self.at..], src);
+        self.at += n;
+    }
 
-// Writes a dot and the digits of a number.
-pub fn put_part(out: &mut [u8], at: usize, v: u32) -> usize
-    requires { at + length (dot_byte ∷ digits v) ≤ length out.old }
-    ensures { Puts (dot_byte ∷ digits v) out.old at out.new result }
-{
-    let a = put_byte(out, at, text::DOT);
-    put_number(out, a, v)
+    // Writes the digits of a number.
+    pub fn put_number(&mut self, v: u32)
+        requires { Room (digits v) self.old }
+        ensures { Adds (digits v) self.old self.new }
+    {
+        let n = write_number(&mut self.room[self.at..], v);
+        self.at += n;
+    }
+
+    // Writes a dot and the digits of a number.
+    pub fn put_part(&mut self, v: u32)
+        requires { Room (dot_byte ∷ digits v) self.old }
+        ensures { Adds (dot_byte ∷ digits v) self.old self.new }
+    {
+        self.put_byte(text::DOT);
+        self.put_number(v);
+    }
+
+    // Writes a line: a key with its equals sign, the number directly after it in the same bytes, and LF.
+    pub fn put_line(&mut self, key: &[u8], v: u32)
+        requires { Room (line key.now (digits v)) self.old }
+        ensures { Adds (line key.now (digits v)) self.old self.new }
+    {
+        let n = write_line(&mut self.room[self.at..], key, v);
+        self.at += n;
+    }
 }

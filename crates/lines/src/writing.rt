@@ -97,17 +97,16 @@ pub fn write_number(out: &mut [u8], v: u32) -> usize
     n + m
 }
 
-// Writes some bytes as they are.
+// Writes some bytes as they are, one after another: where they are a key that the call spells, the compiler makes a move or two of the loop, and of
+// `copy_from_slice` it makes moves after a test whether the two places overlap.
 pub fn write_bytes(out: &mut [u8], src: &[u8]) -> usize
     requires { length src.now ≤ length out.old }
     ensures { Wrote src.now out.old out.new result }
 {
-    let mut i = 0;
-    while i < src.len() {
+    for i in 0..src.len() {
         out[i] = src[i];
-        i += 1;
     }
-    i
+    src.len()
 }
 
 // Writes a line: a key with its equals sign, the number directly after it in the same bytes, and LF.

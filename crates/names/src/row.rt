@@ -1,6 +1,18 @@
-// The rows of an entity, in the order in which they follow its single words (rule 2.3).
-pub const PLACES: usize = 0;
+// The rows of an entity, in the order in which they follow its single words (rule 2.3), each with its number.
+ghost use Rattle.std.specs.Prelude.{◌≡◌};
+ghost use Rattle.names.specs.Rows.{row_number};
 
-pub const SUMS: usize = 1;
+#[derive(Clone, Copy, Debug, PartialEq, Eq)]
+pub enum Row {
+    Places = 0,
+    Sums = 1,
+    Triples = 2,
+}
 
-pub const TRIPLES: usize = 2;
+impl From<Row> for usize {
+    ghost from_gives = { λ r n. n ≡ row_number r };
+
+    fn from(r: Row) -> usize {
+        r as usize
+    }
+}

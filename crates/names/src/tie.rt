@@ -10,9 +10,9 @@ ghost use Rattle.model.specs.Script.Windows.{report_bytes};
 ghost use Rattle.model.specs.Tables.Layout.{entities_from, entity_width, offset, user_offset, user_width, word_count};
 ghost use Rattle.model.specs.Tables.Words.{absent_kind, authorised, clearance, container_kind, current, device, device_kind, draft_type, entity_count};
 ghost use Rattle.model.specs.Tables.Words.{first_noticed, held, held_op, kind, label_bit, last_noticed, level, mark, maximum, missed, missed_most};
-ghost use Rattle.model.specs.Tables.Words.{object_kind, operation_count, operation_weight, place, place_count, plain_type, position_count, present, released_type};
-ghost use Rattle.model.specs.Tables.Words.{releaser, shown, spare, spare_count, sum_most, triple, type, used, user_count, value, value_bit, who_most};
-ghost use Rattle.model.specs.Tables.Words.{who_role, who_weight};
+ghost use Rattle.model.specs.Tables.Words.{object_kind, operation_count, operation_weight, place, place_count, plain_type, position_count, present};
+ghost use Rattle.model.specs.Tables.Words.{released_type, releaser, shown, spare, spare_count, sum_most, triple, type, used, user_count, value, value_bit};
+ghost use Rattle.model.specs.Tables.Words.{who_most, who_role, who_weight};
 ghost use Rattle.model.specs.Text.Lines.{line_end};
 ghost use Rattle.model.specs.Text.Numbers.{most, nine_byte, zero_byte};
 ghost use Rattle.model.specs.Text.References.{dot_byte};
@@ -20,7 +20,10 @@ ghost use Rattle.model.specs.Text.Unfinished.{line_total, longest};
 ghost use Rattle.model.specs.Text.Wording.{a_key, b_key, c_key, op_key, ref2_key, ref_key, user_key};
 ghost use Rattle.names.specs.Listed.{answers, numbers};
 
-use crate::{kind, op, range, refusal, role, row, shown, size, sort, text, types, weight, word};
+use crate::op::{Op, Position};
+use crate::refusal::Refusal;
+use crate::row::Row;
+use crate::{kind, op, range, refusal, role, shown, size, sort, text, types, weight, word};
 
 fn counts_are() -> [u32; 8]
     ensures { result ≡ user_count ∷ entity_count ∷ suc entity_count ∷ place_count ∷ place_count ∷ name_count ∷ compartment_count ∷ role_count ∷ [] }
@@ -38,8 +41,8 @@ fn counts_are() -> [u32; 8]
 }
 
 fn lengths_are() -> [usize; 12]
-    ensures { result ≡ place_count ∷ spare_count ∷ place_count ∷ user_width ∷ entity_width ∷ entities_from ∷ word_count ∷ request_words ∷ entry_words ∷ word_bytes
-        ∷ file_bytes ∷ suc entity_count ∷ [] }
+    ensures { result ≡ place_count ∷ spare_count ∷ place_count ∷ user_width ∷ entity_width ∷ entities_from ∷ word_count ∷ request_words ∷ entry_words
+        ∷ word_bytes ∷ file_bytes ∷ suc entity_count ∷ [] }
 {
     [
         size::SINGLES,
@@ -90,33 +93,33 @@ fn operations_are() -> [u32; 20]
     ensures { result ≡ numbers operations }
 {
     [
-        op::CREATE,
-        op::DELETE,
-        op::MOVE,
-        op::EDIT,
-        op::COPY,
-        op::SET_LEVEL,
-        op::SET_MARK,
-        op::GRANT,
-        op::REVOKE,
-        op::SHOW,
-        op::CLEAR,
-        op::LOGIN,
-        op::LOGOUT,
-        op::CURRENT_ROLES,
-        op::CLEARANCE,
-        op::AUTHORISED_ROLES,
-        op::MAXIMUM,
-        op::DEVICE_LEVEL,
-        op::RELEASE,
-        op::ACKNOWLEDGE,
+        Op::Create as u32,
+        Op::Delete as u32,
+        Op::Move as u32,
+        Op::Edit as u32,
+        Op::Copy as u32,
+        Op::SetLevel as u32,
+        Op::SetMark as u32,
+        Op::Grant as u32,
+        Op::Revoke as u32,
+        Op::Show as u32,
+        Op::Clear as u32,
+        Op::Login as u32,
+        Op::Logout as u32,
+        Op::CurrentRoles as u32,
+        Op::Clearance as u32,
+        Op::AuthorisedRoles as u32,
+        Op::Maximum as u32,
+        Op::DeviceLevel as u32,
+        Op::Release as u32,
+        Op::Acknowledge as u32,
     ]
 }
 
 fn positions_are() -> [u32; 3]
     ensures { result ≡ 1 ∷ position_count ∷ 0 ∷ [] }
 {
-    [op::FIRST, op::SECOND, op::NONE]
+    [Position::First as u32, Position::Second as u32, op::NONE]
 }
 
 fn answers_are() -> [u32; 19]
@@ -124,24 +127,24 @@ fn answers_are() -> [u32; 19]
 {
     [
         refusal::ACCEPTED,
-        refusal::BAD_LENGTH,
-        refusal::NOT_WELL_FORMED,
-        refusal::NOT_SECURE,
-        refusal::UNKNOWN_REQUESTER,
-        refusal::BAD_REQUEST,
-        refusal::NOT_LOGGED_ON,
-        refusal::NO_SUCH_NAME,
-        refusal::NO_ACCESS,
-        refusal::MARKED,
-        refusal::WRONG_KIND,
-        refusal::NO_SUCH_USER,
-        refusal::ROLE_MISSING,
-        refusal::LEVEL_OR_ROLES,
-        refusal::NO_ROOM,
-        refusal::ARRANGEMENT,
-        refusal::NOT_ACKNOWLEDGED,
-        refusal::TOO_SHORT,
-        refusal::NOT_A_REQUEST,
+        Refusal::BadLength as u32,
+        Refusal::NotWellFormed as u32,
+        Refusal::NotSecure as u32,
+        Refusal::UnknownRequester as u32,
+        Refusal::BadRequest as u32,
+        Refusal::NotLoggedOn as u32,
+        Refusal::NoSuchName as u32,
+        Refusal::NoAccess as u32,
+        Refusal::Marked as u32,
+        Refusal::WrongKind as u32,
+        Refusal::NoSuchUser as u32,
+        Refusal::RoleMissing as u32,
+        Refusal::LevelOrRoles as u32,
+        Refusal::NoRoom as u32,
+        Refusal::Arrangement as u32,
+        Refusal::NotAcknowledged as u32,
+        Refusal::TooShort as u32,
+        Refusal::NotARequest as u32,
     ]
 }
 
@@ -221,7 +224,11 @@ fn rows_are() -> [usize; 3]
     ensures { result ≡ (offset (place 0) - place_count) / place_count ∷ (offset (shown 0) - place_count) / place_count
         ∷ (offset (triple 0) - place_count) / place_count ∷ [] }
 {
-    [row::PLACES, row::SUMS, row::TRIPLES]
+    [
+        Row::Places as usize,
+        Row::Sums as usize,
+        Row::Triples as usize,
+    ]
 }
 
 fn bytes_are() -> [u8; 4]

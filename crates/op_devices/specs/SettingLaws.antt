@@ -16,7 +16,8 @@ use Rattle.model.specs.Request.Conditions.{device_above, device_dropped, is_devi
 use Rattle.model.specs.Request.Operations.{to_device_level, to_maximum}
 use Rattle.model.specs.State.Check.{secure_test}
 use Rattle.model.specs.Tables.Words.{device, level}
-use Rattle.ladder.specs.RungLaws.{device_level_trial, lacks_is, level_effect_lem, trial_done, trial_failed}
+use Rattle.ladder.specs.RungLaws.{device_level_trial, lacks_is, level_effect_lem, trial_done, trial_failed, trial_judged}
+use Rattle.ladder.specs.Trial.{Tried}
 use Rattle.model.specs.Request.Refusals as refusal
 
 -- ---- operation 17, maximum
@@ -76,15 +77,20 @@ module _ (t q : List ℕ) (u e : ℕ) (k : Taking to_device_level t q u) (g : Fi
     unfolding refused
     device_level_12 w = stop k refusal.no_such_user (lit≤ tt) (lit< tt) device_level_11 (dropped_is ∙ w)
 
-    module _ (w : x ≡ false) (s : Bool) (m : s ≡ secure_test (set_level e a (tables_of t))) where
+    module _ (w : x ≡ false) where
       device_level_passed : Passed refusal.role_missing (tables_of t) (request_of q)
       unfolding refused
       device_level_passed = pass k refusal.no_such_user (lit≤ tt) (lit< tt) device_level_11 (dropped_is ∙ w)
 
-      pub device_level_13 : s ≡ false → Judged t q refusal.level_or_roles t
-      device_level_13 = trial_failed to_device_level device_level_trial t q u k device_level_passed (set_level e a (tables_of t))
-          (level_effect_lem t q e a g i) s m
+      module _ (s : Bool) (m : s ≡ secure_test (set_level e a (tables_of t))) where
+        pub device_level_13 : s ≡ false → Judged t q refusal.level_or_roles t
+        device_level_13 = trial_failed to_device_level device_level_trial t q u k device_level_passed (set_level e a (tables_of t))
+            (level_effect_lem t q e a g i) s m
 
-      pub device_level_done : s ≡ true → (n : List ℕ) → tables_of n ≡ set_level e a (tables_of t) → Judged t q refusal.accepted n
-      device_level_done = trial_done to_device_level device_level_trial t q u k device_level_passed (set_level e a (tables_of t))
-          (level_effect_lem t q e a g i) s m
+        pub device_level_done : s ≡ true → (n : List ℕ) → tables_of n ≡ set_level e a (tables_of t) → Judged t q refusal.accepted n
+        device_level_done = trial_done to_device_level device_level_trial t q u k device_level_passed (set_level e a (tables_of t))
+            (level_effect_lem t q e a g i) s m
+
+      pub device_level_tried : (r : ℕ) (n : List ℕ) → Tried (set_level e a (tables_of t)) t r n → Judged t q r n
+      device_level_tried = trial_judged t q (set_level e a (tables_of t)) (device_level_13 (secure_test (set_level e a (tables_of t))) refl)
+          (device_level_done (secure_test (set_level e a (tables_of t))) refl)

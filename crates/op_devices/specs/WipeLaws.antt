@@ -6,7 +6,7 @@ use Rattle.model.specs.Tables.Edits.{◌and◌, on_entity, on_user, row, user_wo
 use Rattle.model.specs.Tables.Layout.{tables_of}
 use Rattle.model.specs.Tables.LayoutLaws.{bounded}
 use Rattle.model.specs.Tables.StoreLaws.{twice, user_alike, user_twice}
-use Rattle.model.specs.Tables.Words.{Tables, UserWord, authorised, clearance, used, current, device, held, held_op, missed, place, places}
+use Rattle.model.specs.Tables.Words.{Tables, UserWord, authorised, clearance, used, current, device, held, held_op, missed, place, place_count, places}
 use Rattle.model.specs.Tables.Words.{present, shown, spare}
 use Rattle.op_devices.specs.Wipe.{wiped_to}
 use Rattle.rows.specs.EditLaws.{row_apart}
@@ -33,10 +33,10 @@ module _ (t : List ℕ) (v : ℕ) where
       ∙ ap (on_entity v (row place (up_to (i + 1) (λ j. 0) (places (tables_of t) v)))) (stored_more shown shown_row v (λ j. 0) (tables_of t) i 0 refl)
 
   -- all of them are, and no place is used
-  pub wipe_all : (n : Tables) → n ≡ wiped_to v (tables_of t) 8 → on_entity v (word used 0) n ≡ clear v (tables_of t)
+  pub wipe_all : (n : Tables) → n ≡ wiped_to v (tables_of t) place_count → on_entity v (word used 0) n ≡ clear v (tables_of t)
   wipe_all n p = ap (on_entity v (word used 0)) (p
-      ∙ stored_whole place place_row v (λ j. 0) (sums_to 8) 8 (λ j h. sym ((bounded t).places_out v j h))
-      ∙ ap (on_entity v (row place (λ j. 0))) (stored_whole shown shown_row v (λ j. 0) (tables_of t) 8 (λ j h. sym ((bounded t).shown_out v j h)))
+      ∙ stored_whole place place_row v (λ j. 0) (sums_to place_count) place_count (λ j h. sym ((bounded t).places_out v j h))
+      ∙ ap (on_entity v (row place (λ j. 0))) (stored_whole shown shown_row v (λ j. 0) (tables_of t) place_count (λ j h. sym ((bounded t).shown_out v j h)))
       ∙ twice v (row place (λ j. 0)) (row shown (λ j. 0)) (tables_of t))
       ∙ twice v (word used 0) (row place (λ j. 0) and row shown (λ j. 0)) (tables_of t)
 

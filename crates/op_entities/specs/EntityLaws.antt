@@ -16,7 +16,8 @@ use Rattle.model.specs.Request.Conditions.{first_above, is_container, is_draft, 
 use Rattle.model.specs.Request.Operations.{to_copy, to_edit, to_level, to_mark, to_release}
 use Rattle.model.specs.State.Check.{secure_test}
 use Rattle.model.specs.Tables.Words.{level, value}
-use Rattle.ladder.specs.RungLaws.{lacks_is, level_effect_lem, level_trial, trial_done, trial_failed}
+use Rattle.ladder.specs.RungLaws.{lacks_is, level_effect_lem, level_trial, trial_done, trial_failed, trial_judged}
+use Rattle.ladder.specs.Trial.{Tried}
 use Rattle.model.specs.Request.Refusals as refusal
 
 -- ---- operation 4, edit
@@ -87,16 +88,21 @@ module _ (t q : List ℕ) (u e : ℕ) (k : Taking to_level t q u) (g : First t q
     unfolding refused
     level_12 w = stop k refusal.no_such_user (lit≤ tt) (lit< tt) level_11 (dropped_is ∙ w)
 
-    module _ (w : x ≡ false) (s : Bool) (m : s ≡ secure_test (set_level e a (tables_of t))) where
+    module _ (w : x ≡ false) where
       passed_12 : Passed refusal.role_missing (tables_of t) (request_of q)
       unfolding refused
       passed_12 = pass k refusal.no_such_user (lit≤ tt) (lit< tt) level_11 (dropped_is ∙ w)
 
-      pub level_13 : s ≡ false → Judged t q refusal.level_or_roles t
-      level_13 = trial_failed to_level level_trial t q u k passed_12 (set_level e a (tables_of t)) (level_effect_lem t q e a g i) s m
+      module _ (s : Bool) (m : s ≡ secure_test (set_level e a (tables_of t))) where
+        pub level_13 : s ≡ false → Judged t q refusal.level_or_roles t
+        level_13 = trial_failed to_level level_trial t q u k passed_12 (set_level e a (tables_of t)) (level_effect_lem t q e a g i) s m
 
-      pub level_done : s ≡ true → (n : List ℕ) → tables_of n ≡ set_level e a (tables_of t) → Judged t q refusal.accepted n
-      level_done = trial_done to_level level_trial t q u k passed_12 (set_level e a (tables_of t)) (level_effect_lem t q e a g i) s m
+        pub level_done : s ≡ true → (n : List ℕ) → tables_of n ≡ set_level e a (tables_of t) → Judged t q refusal.accepted n
+        level_done = trial_done to_level level_trial t q u k passed_12 (set_level e a (tables_of t)) (level_effect_lem t q e a g i) s m
+
+      pub level_tried : (r : ℕ) (n : List ℕ) → Tried (set_level e a (tables_of t)) t r n → Judged t q r n
+      level_tried = trial_judged t q (set_level e a (tables_of t)) (level_13 (secure_test (set_level e a (tables_of t))) refl)
+          (level_done (secure_test (set_level e a (tables_of t))) refl)
 
 -- ---- operation 19, release
 

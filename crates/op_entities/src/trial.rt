@@ -7,10 +7,12 @@ ghost use Rattle.model.specs.State.Secure.{Good};
 ghost use Rattle.model.specs.State.WellFormed.{Thing, WellFormed};
 ghost use Rattle.model.specs.Tables.Layout.{tables_of, word_count};
 ghost use Rattle.model.specs.Tables.Words.{level};
+ghost use Rattle.names.specs.Refusals.{answer_number};
 ghost use Rattle.op_entities.specs.Held.{container_admits, contents_stay, holders_stay, screen_admits, screens_admit};
 ghost use Rattle.tables.specs.Singles.{EntityIn, UserIn};
 
 use levels::Level;
+use names::refusal::Refusal;
 use names::size;
 use tables::{Entity, User};
 
@@ -45,12 +47,10 @@ fn screens_admit(t: &[u32], e: Entity, a: Level) -> bool
     requires { (length t.now ≡ word_count) × WellFormed (tables_of t.now) × (1 ≤ e.0) }
     ensures { result ≡ screens_admit (tables_of t.now) e.0 a.0 }
 {
-    let mut i: u32 = 0;
-    while i < size::USERS {
+    for i in 0..size::USERS {
         if !screen_admits(t, e, a, User(i + 1)) {
             return false;
         }
-        i += 1;
     }
     true
 }
@@ -81,18 +81,18 @@ fn holders_stay(t: &[u32], e: Entity, old: Level, a: Level) -> bool
     container_admits(t, e, a)
 }
 
-// Sets the level of object or container e to a, if the tables are secure then. Returns whether they are; if not, nothing has changed.
-pub fn try_level(t: &mut [u32], e: Entity, a: Level) -> bool
+// Sets the level of object or container e to a, if the tables are secure then. If they are not, it refuses, and nothing has changed.
+pub fn try_level(t: &mut [u32], e: Entity, a: Level) -> Result<(), Refusal>
     requires { EntityIn t.old e.0 × Good (tables_of t.old) × Thing (tables_of t.old) e.0 }
-    ensures { Tried (set_level e.0 a.0 (tables_of t.old)) t.old result t.new }
+    ensures { Tried (set_level e.0 a.0 (tables_of t.old)) t.old (answer_number result) t.new }
 {
     let old = tables::level(t, e);
     if !contents_stay(t, e, old, a) {
-        return false;
+        return Err(Refusal::LevelOrRoles);
     }
     if !holders_stay(t, e, old, a) {
-        return false;
+        return Err(Refusal::LevelOrRoles);
     }
     tables::set_level(t, e, a);
-    true
+    Ok(())
 }

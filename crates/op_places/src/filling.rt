@@ -40,12 +40,10 @@ pub fn vacant(t: &[u32]) -> Entity
     requires { length t.now ≡ word_count }
     ensures { result.0 ≡ vacant (tables_of t.now) }
 {
-    let mut i: u32 = 0;
-    while i < size::ENTITIES {
+    for i in 0..size::ENTITIES {
         if tables::kind(t, Entity(i + 1)) == kind::ABSENT {
             return Entity(i + 1);
         }
-        i += 1;
     }
     Entity(size::PAST_ENTITIES)
 }
@@ -55,11 +53,9 @@ fn copy_triples(t: &mut [u32], e: Entity, c: Entity)
     requires { EntityIn t.old e.0 × EntityIn t.old c.0 }
     ensures { tables_of t.new ≡ on_entity e.0 (row triple (triples (tables_of t.old) c.0)) (tables_of t.old) }
 {
-    let mut i: u32 = 0;
-    while i < size::TRIPLES {
+    for i in 0..size::TRIPLES {
         let x = tables::triple(t, c, i);
         tables::set_triple(t, e, i, x);
-        i += 1;
     }
 }
 
@@ -99,9 +95,7 @@ pub fn erase(t: &mut [u32], e: Entity)
     requires { EntityIn t.old e.0 }
     ensures { tables_of t.new ≡ erase e.0 (tables_of t.old) }
 {
-    let mut f: usize = 0;
-    while f < size::ENTITY_WORDS {
-        tables::set_entity_at(t, e, f, 0);
-        f += 1;
+    for f in 0..size::ENTITY_WORDS {
+        tables::set_word_at(t, e, f, 0);
     }
 }

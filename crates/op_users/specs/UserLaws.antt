@@ -3,6 +3,7 @@ use Rattle.std.specs.Prelude.{Bool, ◌&&◌, ◌||◌, false, true, List, ◌�
 use Rattle.std.proofs.Math.Bool.{not}
 use Rattle.std.proofs.Common.{◌∙◌, sym, lit<, lit≤}
 use Rattle.std.proofs.Math.Path.{ap}
+use Rattle.ladder.specs.ArgumentLaws.{arguments_in}
 use Rattle.ladder.specs.Contract.{Judged, Passed, Taking}
 use Rattle.ladder.specs.JudgeLaws.{accepted, asked_of, free, kinds_none, pass, skip, stop, user_is_lem}
 use Rattle.model.specs.Basics.Tests.{every}
@@ -18,12 +19,25 @@ use Rattle.model.specs.State.Check.{secure_test}
 use Rattle.model.specs.Tables.Edits.{◌and◌, on_user, user_word}
 use Rattle.model.specs.Tables.StoreLaws.{user_twice}
 use Rattle.model.specs.Tables.Words.{authorised, current, device, held, held_op, missed, present, user_count}
-use Rattle.ladder.specs.RungLaws.{authorised_officers, by_officer, clearance_officers, clearance_trial, trial_done, trial_failed}
+use Rattle.op_users.specs.Officers.{OfOfficer, PastOfficer}
+use Rattle.tables.specs.Singles.{UserIn}
+use Rattle.ladder.specs.RungLaws.{authorised_officers, clearance_officers, clearance_trial, trial_done, trial_failed, trial_judged}
+use Rattle.ladder.specs.Trial.{Tried}
 use Rattle.model.specs.Request.Refusals as refusal
 
 -- the user that a request speaks of has a record
 pub spoken : (q : List ℕ) (a : ℕ) → a ≡ (request_of q).a → (1 ≤ (request_of q).a) × ((request_of q).a ≤ user_count) → (1 ≤ a) × (a ≤ user_count)
 spoken q a i h = rw i h
+
+module _ (t q : List ℕ) (u a : ℕ) (i : a ≡ (request_of q).a) where
+  pub current_in : Taking to_current t q u → UserIn t a
+  current_in k = let r = spoken q a i (arguments_in to_current t q u k).0 in (k.climbed.ready.whole, r.0, r.1)
+
+  pub clearance_in : Taking to_clearance t q u → UserIn t a
+  clearance_in k = let r = spoken q a i (arguments_in to_clearance t q u k).0 in (k.climbed.ready.whole, r.0, r.1)
+
+  pub authorised_in : Taking to_authorised t q u → UserIn t a
+  authorised_in k = let r = spoken q a i (arguments_in to_authorised t q u k).0 in (k.climbed.ready.whole, r.0, r.1)
 
 -- ---- operation 14, current roles
 
@@ -68,44 +82,49 @@ module _ (t q : List ℕ) (u : ℕ) (k : Taking to_current t q u) (a b p v : ℕ
       current_done z n e = accepted k n (skip k 3 refusal.level_or_roles (lit≤ tt) (lit≤ tt)
           (pass k refusal.role_missing (lit≤ tt) (lit< tt) current_passed_12 (unauthorised_is ∙ ap not z)) tt) (e ∙ rw (i, j))
 
+-- ---- operations of officers: rungs 11 and 12
+
+module _ (t q : List ℕ) (u : ℕ) where
+  pub of_clearance : Taking to_clearance t q u → OfOfficer t q u
+  of_clearance k = record { operation = to_clearance; rungs = clearance_officers; taking = k; named = clearance_in t q u (request_of q).a refl k }
+
+  pub of_authorised : Taking to_authorised t q u → OfOfficer t q u
+  of_authorised k = record { operation = to_authorised; rungs = authorised_officers; taking = k; named = authorised_in t q u (request_of q).a refl k }
+
 -- ---- operation 15, clearance: rung 13
 
-module _ (t q : List ℕ) (u : ℕ) (k : Taking to_clearance t q u) (a p : ℕ) (i : a ≡ (request_of q).a) (hp : p ≡ (tables_of t).user a present)
-    (w : eqb p 0 ≡ false) (y : Bool) (r : y ≡ has_role (tables_of t) u officer) (x : y ≡ true) (b : ℕ) (j : b ≡ (request_of q).b) (s : Bool)
-    (m : s ≡ secure_test (set_clearance a b (tables_of t))) where
-  clearance_passed : Passed refusal.role_missing (tables_of t) (request_of q)
-  clearance_passed = by_officer to_clearance clearance_officers t q u k a p i hp w y r x
-
+module _ (t q : List ℕ) (u : ℕ) (k : Taking to_clearance t q u) (a : ℕ) (p : PastOfficer t q a) (b : ℕ) (j : b ≡ (request_of q).b) where
   clearance_effect_lem : clearance_effect (asked_of t q) (tables_of t) ≡ set_clearance a b (tables_of t)
   unfolding asked
-  clearance_effect_lem = rw (i, j)
+  clearance_effect_lem = rw (p.is, j)
 
-  pub clearance_13 : s ≡ false → Judged t q refusal.level_or_roles t
-  clearance_13 = trial_failed to_clearance clearance_trial t q u k clearance_passed (set_clearance a b (tables_of t)) clearance_effect_lem s m
+  module _ (s : Bool) (m : s ≡ secure_test (set_clearance a b (tables_of t))) where
+    pub clearance_13 : s ≡ false → Judged t q refusal.level_or_roles t
+    clearance_13 = trial_failed to_clearance clearance_trial t q u k p.passed (set_clearance a b (tables_of t)) clearance_effect_lem s m
 
-  pub clearance_done : s ≡ true → (n : List ℕ) → tables_of n ≡ set_clearance a b (tables_of t) → Judged t q refusal.accepted n
-  clearance_done = trial_done to_clearance clearance_trial t q u k clearance_passed (set_clearance a b (tables_of t)) clearance_effect_lem s m
+    pub clearance_done : s ≡ true → (n : List ℕ) → tables_of n ≡ set_clearance a b (tables_of t) → Judged t q refusal.accepted n
+    clearance_done = trial_done to_clearance clearance_trial t q u k p.passed (set_clearance a b (tables_of t)) clearance_effect_lem s m
+
+  pub clearance_tried : (r : ℕ) (n : List ℕ) → Tried (set_clearance a b (tables_of t)) t r n → Judged t q r n
+  clearance_tried = trial_judged t q (set_clearance a b (tables_of t)) (clearance_13 (secure_test (set_clearance a b (tables_of t))) refl)
+      (clearance_done (secure_test (set_clearance a b (tables_of t))) refl)
 
 -- ---- operation 16, authorised roles: rung 13
 
-module _ (t q : List ℕ) (u : ℕ) (k : Taking to_authorised t q u) (a p : ℕ) (i : a ≡ (request_of q).a) (hp : p ≡ (tables_of t).user a present)
-    (w : eqb p 0 ≡ false) (y : Bool) (r : y ≡ has_role (tables_of t) u officer) (x : y ≡ true) (b : ℕ) (j : b ≡ (request_of q).b) (s : Bool)
+module _ (t q : List ℕ) (u : ℕ) (k : Taking to_authorised t q u) (a : ℕ) (p : PastOfficer t q a) (b : ℕ) (j : b ≡ (request_of q).b) (s : Bool)
     (m : s ≡ subset role_count ((tables_of t).user a current) b) where
-  authorised_passed : Passed refusal.role_missing (tables_of t) (request_of q)
-  authorised_passed = by_officer to_authorised authorised_officers t q u k a p i hp w y r x
-
   outside_is : current_outside (tables_of t) (asked_of t q) ≡ not s
   unfolding current_outside asked
-  outside_is = rw (← i, ← j, ← m)
+  outside_is = rw (← p.is, ← j, ← m)
 
   pub authorised_13 : s ≡ false → Judged t q refusal.level_or_roles t
   unfolding refused
-  authorised_13 z = stop k refusal.role_missing (lit≤ tt) (lit< tt) authorised_passed (outside_is ∙ ap not z)
+  authorised_13 z = stop k refusal.role_missing (lit≤ tt) (lit< tt) p.passed (outside_is ∙ ap not z)
 
   pub authorised_done : s ≡ true → (n : List ℕ) → tables_of n ≡ set_authorised a b (tables_of t) → Judged t q refusal.accepted n
   unfolding refused every free asked
   authorised_done z n e = accepted k n (skip k 3 refusal.level_or_roles (lit≤ tt) (lit≤ tt)
-      (pass k refusal.role_missing (lit≤ tt) (lit< tt) authorised_passed (outside_is ∙ ap not z)) tt) (e ∙ rw (i, j))
+      (pass k refusal.role_missing (lit≤ tt) (lit< tt) p.passed (outside_is ∙ ap not z)) tt) (e ∙ rw (p.is, j))
 
 -- ---- operation 20, acknowledge
 

@@ -1,12 +1,12 @@
 -- The laws of reading records by their numbers: users and entities are read in one form, and code goes from a record to the next one that is there.
-use Rattle.std.specs.Prelude.{Bool, ◌||◌, false, true, List, ◌≢◌, ◌≡◌, leb, ltb, drop, length}
+use Rattle.std.specs.Prelude.{Bool, ◌||◌, false, true, List, ◌≢◌, ◌≡◌, Some, None, Ok, Err, leb, ltb, drop, length}
 use Rattle.std.proofs.Common.{◌∙◌, ap, sym, leb-false, leb-true, ltb-false, ltb-true}
 use Rattle.std.proofs.Math.Path.{fun_ext, refl}
 use Prim.Native.Nat.{◌+◌, ◌-◌, ◌<◌, ◌≤◌, suc, zero, ℕ}
 use native.Mathlib.Omega.{arith}
 use Rattle.laws.specs.Bools.{neither_l, neither_r, or_cases}
 use Rattle.lines.specs.LineAt.{LineAt}
-use Rattle.lines.specs.declared.reading.Number.TheVariants.{Bad, Value}
+use Rattle.lines.specs.declared.reading.Number.{Number}
 use Rattle.model.specs.Basics.Cases.{cases}
 use Rattle.model.specs.Tables.Layout.{tables_of, word_count}
 use Rattle.model.specs.Tables.Words.{Tables}
@@ -17,7 +17,7 @@ use Rattle.model.specs.Text.Wording.{user_key}
 use Rattle.record_reader.specs.Rest.{records_stage}
 use Rattle.record_reader.specs.StageAt.{StageAt}
 use Rattle.record_reader.specs.StageLaws.{onward_past, onward_stuck, staged}
-use Rattle.record_reader.specs.declared.records.Progress.TheVariants.{Past, Stuck}
+use Rattle.record_reader.specs.declared.records.Stuck.{Stuck}
 use Rattle.tables_text.specs.Keys.{entity_key}
 use Rattle.tables_text.specs.Stages.{Stage, either, entities_stage, entity_record, onward, past, user_record, users_stage}
 use Rattle.tables_text.specs.Values.{number_line}
@@ -105,7 +105,7 @@ clashing {v} {n} {x} {y} r e h q =
 module _ {key : List ℕ} {one : ℕ → Tables → List ℕ → Stage} {count : ℕ} {g : Stage} {s : List ℕ} {i last : ℕ} {t : List ℕ}
     (small : count ≤ most) (r : RecordsTo key one count g s i last t) where
   -- no record follows
-  over : ((n : ℕ) → last < n → n ≤ count → (x : List ℕ) → read_line key number (drop i s) ≢ got n x) → StageAt s g t (Past i)
+  over : ((n : ℕ) → last < n → n ≤ count → (x : List ℕ) → read_line key number (drop i s) ≢ got n x) → StageAt s g t (Ok i)
   over out =
       record {
         is = r.is ∙ none key one (tables_of t) (drop i s) (count - last) (suc last) (omega (arith, small, r.most))
@@ -113,25 +113,32 @@ module _ {key : List ℕ} {one : ℕ → Tables → List ℕ → Stage} {count :
         within = r.within;
       }
 
-  pub records_none : LineAt s i key Bad → StageAt s g t (Past i)
+  pub records_none : LineAt s i key None → StageAt s g t (Ok i)
   records_none l =
       over λ n a b x q.
       let z : bad ≡ got n x = l.is ∙ q in
       let w : ◌≡◌ {A = ℕ} 0 1 = cc in omega arith
 
-  pub records_out : {v n : ℕ} → LineAt s i key (Value v n) → outside last count v ≡ true → StageAt s g t (Past i)
-  records_out {v} {n} l e =
+  pub records_out : {n : Number} → LineAt s i key (Some n) → outside last count n.v ≡ true → StageAt s g t (Ok i)
+  records_out {n} l e =
+      let v : ℕ = n.v in
       over λ m a b x. clashing (read_line key number (drop i s)) l.is
       (λ q. cases (or_cases (leb v last) _ e) (λ h. omega (arith, leb-true v last h)) (λ h. omega (arith, ltb-true count v h)))
 
-  pub records_past : count ≤ last → StageAt s g t (Past i)
+  pub records_past : count ≤ last → StageAt s g t (Ok i)
   unfolding records_stage
   records_past h =
       let q : count - last ≡ 0 = omega arith in
       record { is = r.is ∙ rw q; within = r.within }
 
   -- a record follows
-  module _ {v n : ℕ} (l : LineAt s i key (Value v n)) (a : last < v) (b : v ≤ count) where
+  module _ {x : Number} (l : LineAt s i key (Some x)) (a : last < x.v) (b : x.v ≤ count) where
+    abbrev v : ℕ
+    v = x.v
+
+    abbrev n : ℕ
+    n = x.next
+
     there : g ≡ onward (one v (tables_of t) (drop n s)) (records_stage key one (count - v) (suc v))
     there =
         r.is
@@ -139,9 +146,9 @@ module _ {key : List ℕ} {one : ℕ → Tables → List ℕ → Stage} {count :
         (λ x c e. head_not key (drop i s) x (omega (arith, small)) (λ y. clashing (read_line key number (drop i s)) l.is (λ q. omega arith)))
         ∙ found key one (tables_of t) (drop i s) (count - v) v (drop n s) (head_there key (drop i s) v (drop n s) (sym l.is))
 
-    pub records_stuck : {j : ℕ} {w : List ℕ} → StageAt s (one v (tables_of t) (drop n s)) w (Stuck j) → StageAt s g w (Stuck j)
+    pub records_stuck : {j : Stuck} {w : List ℕ} → StageAt s (one v (tables_of t) (drop n s)) w (Err j) → StageAt s g w (Err j)
     records_stuck k = staged there (onward_stuck (records_stage key one (count - v) (suc v)) k)
 
-    pub records_next : {j : ℕ} {w : List ℕ} → StageAt s (one v (tables_of t) (drop n s)) w (Past j) → length w ≡ word_count
+    pub records_next : {j : ℕ} {w : List ℕ} → StageAt s (one v (tables_of t) (drop n s)) w (Ok j) → length w ≡ word_count
         → RecordsTo key one count g s j v w
     records_next k h = record { is = there ∙ onward_past (records_stage key one (count - v) (suc v)) k; within = k.within; most = b; size = h }

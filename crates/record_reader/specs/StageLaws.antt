@@ -1,7 +1,7 @@
 -- One stage after another, as code meets them.
-use Rattle.std.specs.Prelude.{List, [], ◌++◌, ◌∷◌, ◌≡◌, refl, ◌+◌, suc, ℕ, drop, length}
+use Rattle.std.specs.Prelude.{List, [], ◌++◌, ◌∷◌, ◌≡◌, refl, Some, None, Result, Ok, Err, ◌+◌, suc, ℕ, drop, length}
 use Rattle.std.proofs.Common.{◌∙◌, ap, sym, arith, eq-eqb}
-use Rattle.lines.specs.declared.reading.Number.TheVariants.{Bad, Value}
+use Rattle.lines.specs.declared.reading.Number.{Number}
 use Rattle.model.specs.Tables.Edits.{on_entity, on_user, user_word, word}
 use Rattle.model.specs.Tables.Layout.{tables_of}
 use Rattle.model.specs.Tables.WordAt.{entity_word_at, entity_word_of, user_word_at, user_word_of}
@@ -10,22 +10,21 @@ use Rattle.model.specs.Text.Numbers.{Read, bad, got}
 use Rattle.record_reader.specs.FieldAt.{FieldAt, last_single}
 use Rattle.record_reader.specs.Rest.{access_rest, places_rest}
 use Rattle.record_reader.specs.StageAt.{StageAt}
-use Rattle.record_reader.specs.declared.records.Progress.{Progress}
-use Rattle.record_reader.specs.declared.records.Progress.TheVariants.{Past, Stuck}
+use Rattle.record_reader.specs.declared.records.Stuck.{Stuck}
 use Rattle.tables_text.specs.Keys.{Field, places_field, single_fields, triples_field}
 use Rattle.tables_text.specs.Stages.{Stage, entity_record, entity_stage, onward, or_stuck, past, places_stage, stuck, triples_stage, user_record, user_stage}
 use Rattle.tables_text.specs.Keys.{user_fields}
 use Rattle.tables_text.specs.Values.{read_field}
 
 -- a reading that is another one has its answer
-pub staged : {g h : Stage} {s t : List ℕ} {r : Progress} → h ≡ g → StageAt s g t r → StageAt s h t r
+pub staged : {g h : Stage} {s t : List ℕ} {r : Result ℕ Stuck} → h ≡ g → StageAt s g t r → StageAt s h t r
 staged e a = record { is = e ∙ a.is; within = a.within }
 
 -- a first part is stuck, and so is the whole; or it is past, and the rest is the whole
-pub onward_stuck : {g : Stage} {s t : List ℕ} {i : ℕ} (f : Tables → List ℕ → Stage) → StageAt s g t (Stuck i) → StageAt s (onward g f) t (Stuck i)
+pub onward_stuck : {g : Stage} {s t : List ℕ} {k : Stuck} (f : Tables → List ℕ → Stage) → StageAt s g t (Err k) → StageAt s (onward g f) t (Err k)
 onward_stuck f a = record { is = ap (λ (x : Stage). onward x f) a.is; within = a.within }
 
-pub onward_past : {g : Stage} {s t : List ℕ} {i : ℕ} (f : Tables → List ℕ → Stage) → StageAt s g t (Past i) → onward g f ≡ f (tables_of t) (drop i s)
+pub onward_past : {g : Stage} {s t : List ℕ} {i : ℕ} (f : Tables → List ℕ → Stage) → StageAt s g t (Ok i) → onward g f ≡ f (tables_of t) (drop i s)
 onward_past f a = ap (λ (x : Stage). onward x f) a.is
 
 -- ---- a user's record is its fields, after the word that says that there is one
@@ -100,20 +99,20 @@ entity_record_lem e d s =
 
 module _ {s : List ℕ} {i : ℕ} (e : ℕ) (d : Tables) where
   -- the number of triples is not there, or it is, and they follow
-  pub access_none : FieldAt s i triples_field Bad → access_rest e d (drop i s) ≡ stuck (drop i s)
+  pub access_none : FieldAt s i triples_field None → access_rest e d (drop i s) ≡ stuck (drop i s)
   unfolding access_rest
   access_none f = rw (← f.is)
 
-  pub access_next : {n j : ℕ} → FieldAt s i triples_field (Value n j) → access_rest e d (drop i s) ≡ triples_stage e n 0 d (drop j s)
+  pub access_next : {n : Number} → FieldAt s i triples_field (Some n) → access_rest e d (drop i s) ≡ triples_stage e n.v 0 d (drop n.next s)
   unfolding access_rest
   access_next f = rw (← f.is)
 
   -- the number of places is not there, or it is, and they and the triples follow
-  pub rows_none : FieldAt s i places_field Bad → places_rest e d (drop i s) ≡ stuck (drop i s)
+  pub rows_none : FieldAt s i places_field None → places_rest e d (drop i s) ≡ stuck (drop i s)
   unfolding places_rest
   rows_none f = rw (← f.is)
 
-  pub rows_next : {n j : ℕ} (w : List ℕ) → FieldAt s i places_field (Value n j) → tables_of w ≡ on_entity e (word used n) d
-      → places_rest e d (drop i s) ≡ onward (places_stage e n 0 (tables_of w) (drop j s)) (access_rest e)
+  pub rows_next : {n : Number} (w : List ℕ) → FieldAt s i places_field (Some n) → tables_of w ≡ on_entity e (word used n.v) d
+      → places_rest e d (drop i s) ≡ onward (places_stage e n.v 0 (tables_of w) (drop n.next s)) (access_rest e)
   unfolding places_rest
   rows_next w f q = rw (← f.is, q)

@@ -1,8 +1,10 @@
 -- Texts one after another, in the steps in which a loop writes and counts them.
 use Rattle.std.specs.Prelude.{List, [], ◌++◌, ◌≡◌, refl, ◌*◌, ◌+◌, ◌<◌, ◌≤◌, suc, zero, ℕ, length}
 use Rattle.std.proofs.Common.{append_assoc, append-nil, ◌∙◌, ap, sym, arith, length-append}
-use Rattle.lines.specs.Onto.{Puts}
-use Rattle.lines.specs.PutsLaws.{puts_none, puts_puts, room_after_lem}
+use Rattle.lines.specs.Adds.{Adds, Room}
+use Rattle.lines.specs.AddsLaws.{adds_inside, adds_none}
+use Rattle.lines.specs.PutsLaws.{room_after_lem}
+use Rattle.lines.specs.declared.putting.Output.{Output}
 use Rattle.tables_text.proofs.LongestLineLaws.{series_length}
 use Rattle.tables_text.specs.TextOf.{series}
 use Rattle.tables_text.specs.TotalLaws.{total_const, total_le}
@@ -48,17 +50,16 @@ series_more k i g e =
     rw (s, e, series_snoc k i g, length-append (series k i g) (g (i + k)))
 
 -- nothing was written of them
-pub series_start : {d : List ℕ} {at : ℕ} (i : ℕ) (g : ℕ → List ℕ) → Puts (series 0 i g) d at d at
-series_start {d} {at} i g = rw (series_none i g) (puts_none d at)
+pub series_start : (i : ℕ) (g : ℕ → List ℕ) (o : Output) → Adds (series 0 i g) o o
+series_start i g o = rw (series_none i g) (adds_none o)
 
 -- the next text has room where all of them had
-pub series_room : {d e : List ℕ} {at a m : ℕ} (n k i : ℕ) (g : ℕ → List ℕ) → m ≡ i + k → k < n → at + length (series n i g) ≤ length d
-    → Puts (series k i g) d at e a → a + length (g m) ≤ length e
-series_room {d} {e} {at} {a} n k i g q h l p = rw q (room_after_lem (g (i + k)) p (omega (arith, series_part n k i g h)))
+pub series_room : {o p : Output} {m : ℕ} (n k i : ℕ) (g : ℕ → List ℕ) → m ≡ i + k → k < n → Room (series n i g) o → Adds (series k i g) o p → Room (g m) p
+series_room n k i g q h l a = rw q (room_after_lem (g (i + k)) a.puts (omega (arith, l, series_part n k i g h)))
 
 -- it is written after those before it
-pub series_puts : {d e f : List ℕ} {at a r m : ℕ} (k i : ℕ) (g : ℕ → List ℕ) → m ≡ i + k → at ≤ length d
-    → Puts (series k i g) d at e a → Puts (g m) e a f r → Puts (series (k + 1) i g) d at f r
-series_puts {d} {e} {f} {at} {a} {r} k i g q h p w =
+pub series_adds : {o p q : Output} {m : ℕ} (k i : ℕ) (g : ℕ → List ℕ) → m ≡ i + k → o.at ≤ length o.room.now
+    → Adds (series k i g) o p → Adds (g m) p q → Adds (series (k + 1) i g) o q
+series_adds k i g e h a b =
     let s : k + 1 ≡ suc k = omega arith in
-    rw (s, series_snoc k i g) (puts_puts h p (rw q at w))
+    rw (s, series_snoc k i g) (adds_inside h a (rw e at b))

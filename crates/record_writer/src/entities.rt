@@ -1,6 +1,6 @@
 // Writes the records of entities (rule 16.2).
-ghost use Rattle.std.specs.Prelude.{◌+◌, ◌<◌, ◌≤◌, length};
-ghost use Rattle.lines.specs.Onto.{Puts};
+ghost use Rattle.std.specs.Prelude.{◌<◌, ◌≤◌};
+ghost use Rattle.lines.specs.Adds.{Adds, Room};
 ghost use Rattle.model.specs.Tables.Layout.{tables_of};
 ghost use Rattle.model.specs.Tables.Words.{entity_count, place_count, used_places};
 ghost use Rattle.tables.specs.Singles.{EntityIn, single_count};
@@ -10,113 +10,85 @@ ghost use Rattle.record_writer.specs.FieldAt.{entity_line};
 ghost use Rattle.record_writer.specs.Writable.{Writable};
 
 use crate::values;
-use lines::writing::put_line;
+use lines::putting::Output;
 use names::{kind, size, word};
 use tables::Entity;
 
 // Writes the line of word j of an entity.
-fn put_entity_line(out: &mut [u8], at: usize, j: usize, v: u32) -> usize
-    requires { (j < single_count) × (at + length (entity_line j v) ≤ length out.old) }
-    ensures { Puts (entity_line j v) out.old at out.new result }
+#[tactic(auto, unfolding(crate::specs::FieldAt::entity_line))]
+fn put_entity_line(out: &mut Output, j: usize, v: u32)
+    requires { (j < single_count) × Room (entity_line j v) out.old }
+    ensures { Adds (entity_line j v) out.old out.new }
 {
-    if j == word::KIND {
-        return put_line(out, at, b"kind=", v);
+    match j {
+        word::KIND => out.put_line(b"kind=", v),
+        word::TYPE => out.put_line(b"type=", v),
+        word::LEVEL => out.put_line(b"level=", v),
+        word::MARK => out.put_line(b"mark=", v),
+        word::VALUE => out.put_line(b"value=", v),
+        word::RELEASER => out.put_line(b"releaser=", v),
+        word::MAXIMUM => out.put_line(b"maximum=", v),
+        _ => out.put_line(b"places=", v),
     }
-    if j == word::TYPE {
-        return put_line(out, at, b"type=", v);
-    }
-    if j == word::LEVEL {
-        return put_line(out, at, b"level=", v);
-    }
-    if j == word::MARK {
-        return put_line(out, at, b"mark=", v);
-    }
-    if j == word::VALUE {
-        return put_line(out, at, b"value=", v);
-    }
-    if j == word::RELEASER {
-        return put_line(out, at, b"releaser=", v);
-    }
-    if j == word::MAXIMUM {
-        return put_line(out, at, b"maximum=", v);
-    }
-    put_line(out, at, b"places=", v)
 }
 
 // Writes the lines of the single words of entity e.
-fn put_entity_lines(out: &mut [u8], at: usize, tables: &[u32], e: Entity) -> usize
-    requires { EntityIn tables.now e.0 × (at + length (field_lines entity_fields 0 (entity_words (tables_of tables.now) e.0)) ≤ length out.old) }
-    ensures { Puts (field_lines entity_fields 0 (entity_words (tables_of tables.now) e.0)) out.old at out.new result }
+fn put_entity_lines(out: &mut Output, tables: &[u32], e: Entity)
+    requires { EntityIn tables.now e.0 × Room (field_lines entity_fields 0 (entity_words (tables_of tables.now) e.0)) out.old }
+    ensures { Adds (field_lines entity_fields 0 (entity_words (tables_of tables.now) e.0)) out.old out.new }
 {
-    let mut i = at;
-    let mut j = word::KIND;
-    while j < size::SINGLES {
-        i = put_entity_line(out, i, j, tables::entity_at(tables, e, j));
-        j += 1;
+    for j in word::KIND..size::SINGLES {
+        put_entity_line(out, j, tables::word_at(tables, e, j));
     }
-    i
 }
 
 // Writes the lines of the first n places of entity e.
-fn put_places(out: &mut [u8], at: usize, tables: &[u32], e: Entity, n: u32) -> usize
-    requires { EntityIn tables.now e.0 × (n ≤ place_count) × (at + length (series n 0 (place_at (tables_of tables.now) e.0)) ≤ length out.old) }
-    ensures { Puts (series n 0 (place_at (tables_of tables.now) e.0)) out.old at out.new result }
+fn put_places(out: &mut Output, tables: &[u32], e: Entity, n: u32)
+    requires { EntityIn tables.now e.0 × (n ≤ place_count) × Room (series n 0 (place_at (tables_of tables.now) e.0)) out.old }
+    ensures { Adds (series n 0 (place_at (tables_of tables.now) e.0)) out.old out.new }
 {
-    let mut i = at;
-    let mut k: u32 = 0;
-    while k < n {
-        i = values::put_place(
+    for k in 0..n {
+        values::put_place(
             out,
-            i,
             tables::place(tables, e, k).0,
             tables::shown(tables, e, k),
         );
-        k += 1;
     }
-    i
 }
 
 // Writes the lines of the first n triples of entity e.
-fn put_triples(out: &mut [u8], at: usize, tables: &[u32], e: Entity, n: u32) -> usize
-    requires { EntityIn tables.now e.0 × (n ≤ place_count) × (at + length (series n 0 (triple_at (tables_of tables.now) e.0)) ≤ length out.old) }
-    ensures { Puts (series n 0 (triple_at (tables_of tables.now) e.0)) out.old at out.new result }
+fn put_triples(out: &mut Output, tables: &[u32], e: Entity, n: u32)
+    requires { EntityIn tables.now e.0 × (n ≤ place_count) × Room (series n 0 (triple_at (tables_of tables.now) e.0)) out.old }
+    ensures { Adds (series n 0 (triple_at (tables_of tables.now) e.0)) out.old out.new }
 {
-    let mut i = at;
-    let mut k: u32 = 0;
-    while k < n {
-        i = values::put_triple(out, i, tables::triple(tables, e, k));
-        k += 1;
+    for k in 0..n {
+        values::put_triple(out, tables::triple(tables, e, k));
     }
-    i
 }
 
 // Writes the text of entity e; nothing where e is absent.
-fn put_entity(out: &mut [u8], at: usize, tables: &[u32], e: Entity) -> usize
+fn put_entity(out: &mut Output, tables: &[u32], e: Entity)
     requires { EntityIn tables.now e.0 × (used_places (tables_of tables.now) e.0 ≤ place_count)
-        × (at + length (entity_text (tables_of tables.now) e.0) ≤ length out.old) }
-    ensures { Puts (entity_text (tables_of tables.now) e.0) out.old at out.new result }
+        × Room (entity_text (tables_of tables.now) e.0) out.old }
+    ensures { Adds (entity_text (tables_of tables.now) e.0) out.old out.new }
 {
     if tables::kind(tables, e) == kind::ABSENT {
-        return at;
+        return;
     }
-    let a = put_line(out, at, b"entity=", e.0);
-    let b = put_entity_lines(out, a, tables, e);
-    let c = put_places(out, b, tables, e, tables::used(tables, e));
+    out.put_line(b"entity=", e.0);
+    put_entity_lines(out, tables, e);
+    put_places(out, tables, e, tables::used(tables, e));
     let n = rows::triple_place(tables, e, 0);
-    let d = put_line(out, c, b"triples=", n);
-    put_triples(out, d, tables, e, n)
+    out.put_line(b"triples=", n);
+    put_triples(out, tables, e, n);
 }
 
 // Writes the text of every entity, by number.
-pub fn put_entities(out: &mut [u8], at: usize, tables: &[u32]) -> usize
-    requires { Writable tables.now × (at + length (series entity_count 1 (entity_text (tables_of tables.now))) ≤ length out.old) }
-    ensures { Puts (series entity_count 1 (entity_text (tables_of tables.now))) out.old at out.new result }
+pub fn put_entities(out: &mut Output, tables: &[u32])
+    requires { Writable tables.now × Room (series entity_count 1 (entity_text (tables_of tables.now))) out.old }
+    ensures { Adds (series entity_count 1 (entity_text (tables_of tables.now))) out.old out.new }
 {
-    let mut i = at;
-    let mut k: u32 = 0;
-    while k < size::ENTITIES {
-        i = put_entity(out, i, tables, Entity(k + 1));
-        k += 1;
+    for k in 0..size::ENTITIES {
+        put_entity(out, tables, Entity(k + 1));
     }
-    i
 }

@@ -2,3 +2,4 @@
 pub mod Ways
 pub mod WayLaws
 pub mod TripleLaws
+pub mod ChainLaws

@@ -1,19 +1,19 @@
 // Where a reference leads, whether the way there is open, and whether an entity's triples permit a request.
 #![tactic(auto)]
 
-ghost use Rattle.std.specs.Prelude.{◌≡◌, not, ◌<◌, ◌≤◌, length};
-ghost use Rattle.model.specs.Basics.Tests.{every};
+ghost use Rattle.std.specs.Prelude.{◌≡◌, ◌≤◌, length};
 ghost use Rattle.model.specs.Request.Ladder.{permits};
 ghost use Rattle.model.specs.Tables.Layout.{tables_of, word_count};
-ghost use Rattle.model.specs.Tables.Words.{current, operation_count, place_count, position_count, triples};
+ghost use Rattle.model.specs.Tables.Words.{operation_count, position_count};
 ghost use Rattle.reference.specs.Ways.{Ranged, admits, bar, found, onward};
 ghost use Rattle.tables.specs.Singles.{EntityIn, UserIn};
 
 use levels::Level;
-use names::{range, size, weight};
+use names::{kind, range, size, weight};
 use tables::{Entity, User, triples};
 
-// Where a reference leads, and whether every marked container on the way may be passed; or that it leads nowhere.
+// Where a reference leads, and whether every marked container on the way may be passed; or that it leads nowhere. The two are fields of the variant:
+// a struct in an `Option` would be copied as a whole where its parts have just been stored one by one, and the processor would wait for them.
 #[derive(Clone, Copy)]
 pub enum Found {
     At(Entity, bool),
@@ -36,19 +36,15 @@ fn follow(t: &[u32], l: Level, e: Entity, clear: bool, names: &[u32]) -> Found
     requires { EntityIn t.now e.0 × Ranged (tables_of t.now) }
     ensures { result ≡ onward (tables_of t.now) l.0 e.0 clear names.now }
 {
-    if names.len() == 0 {
+    let [p, rest @ ..] = names else {
         return Found::At(e, clear);
-    }
-    let p = names[0];
-    if p < 1 {
+    };
+    if !(1..=tables::used(t, e)).contains(p) {
         return Found::Nowhere;
     }
-    if tables::used(t, e) < p {
-        return Found::Nowhere;
-    }
-    let c = tables::place(t, e, p - 1);
+    let c = tables::place(t, e, *p - 1);
     let open = clear & !is_bar(t, l, e);
-    follow(t, l, c, open, &names[1..])
+    follow(t, l, c, open, rest)
 }
 
 // Where names lead, for a requester of clearance l.
@@ -57,14 +53,11 @@ pub fn resolve(t: &[u32], l: Level, names: &[u32]) -> Found
     ensures { result ≡ found (tables_of t.now) l.0 names.now }
 {
     let n = names[0];
-    if n < 1 {
-        return Found::Nowhere;
-    }
-    if size::ENTITIES < n {
+    if !(1..=size::ENTITIES).contains(&n) {
         return Found::Nowhere;
     }
     let e = Entity(n);
-    if tables::kind(t, e) == 0 {
+    if tables::kind(t, e) == kind::ABSENT {
         return Found::Nowhere;
     }
     if names.len() == 1 {
@@ -93,39 +86,12 @@ fn is_admitted(x: u32, u: User, roles: u32, key: u32) -> bool
     levels::has_bit(who - weight::FIRST_ROLE, roles)
 }
 
-// Whether triple i of entity e does not admit user u, who acts with these roles.
-fn shuts(t: &[u32], e: Entity, u: User, roles: u32, key: u32, i: u32) -> bool
-    requires { EntityIn t.now e.0 × (i < place_count) }
-    ensures { result ≡ not (admits u.0 roles key (triples (tables_of t.now) e.0 i)) }
-{
-    !is_admitted(tables::triple(t, e, i), u, roles, key)
-}
-
-// Whether no triple of entity e admits user u, who acts with these roles.
-fn all_shut(t: &[u32], e: Entity, u: User, roles: u32, key: u32) -> bool
-    requires { EntityIn t.now e.0 }
-    ensures { result ≡ every place_count (λ i. not (admits u.0 roles key (triples (tables_of t.now) e.0 i))) }
-{
-    let mut i: u32 = 0;
-    while i < size::TRIPLES {
-        if !shuts(t, e, u, roles, key, i) {
-            return false;
-        }
-        i += 1;
-    }
-    true
-}
-
 // Whether a triple of entity e permits the operation, with e in this position, to user u or to a role that u acts with.
 pub fn is_permitted(t: &[u32], e: Entity, u: User, op: u32, position: u32) -> bool
     requires { EntityIn t.now e.0 × UserIn t.now u.0 × (op ≤ operation_count) × (position ≤ position_count) }
     ensures { result ≡ permits (tables_of t.now) u.0 op position e.0 }
 {
-    !all_shut(
-        t,
-        e,
-        u,
-        tables::current(t, u),
-        triples::key_of(op, position),
-    )
+    let roles = tables::current(t, u);
+    let key = triples::key_of(op, position);
+    (0..size::TRIPLES).any(|i| is_admitted(tables::triple(t, e, i), u, roles, key))
 }

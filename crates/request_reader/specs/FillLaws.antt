@@ -1,55 +1,55 @@
 -- The eight ways in which reading seven lines ends, and the sixteen words where all were good.
-use Rattle.std.specs.Prelude.{List, [], ◌++◌, ◌∷◌, ◌≡◌, refl, ◌≤◌, suc, zero, ℕ, drop, length, replicate, set, take}
+use Rattle.std.specs.Prelude.{List, [], ◌++◌, ◌∷◌, ◌≡◌, refl, Some, None, ◌≤◌, suc, zero, ℕ, drop, length, replicate, set, take}
 use Rattle.std.proofs.Common.{◌∙◌, ap, arith}
 use Rattle.lines.specs.LineAt.{LineAt}
-use Rattle.lines.specs.declared.reading.Number.TheVariants.{Bad, Value}
+use Rattle.lines.specs.declared.reading.Number.{Number}
 use Rattle.model.specs.List.Listing.{entry}
 use Rattle.model.specs.Request.Words.{name_count, request_words}
 use Rattle.model.specs.Text.Wording.{a_key, b_key, bad_line, c_key, lines, op_key, read_seven, ref2_key, ref_key, sixteen, user_key}
 use Rattle.request_reader.specs.RefAt.{RefAt}
 use Rattle.request_reader.specs.Seven.{fresh}
-use Rattle.request_reader.specs.declared.Names.TheVariants.{Are, Wrong}
+use Rattle.request_reader.specs.declared.Names.{Names}
 
 -- A line is bad, and those before it are good: that line is named.
 module _ {s : List ℕ} {at : ℕ} where
-  pub bad1 : LineAt s at user_key Bad → read_seven (drop at s) ≡ bad_line 1
+  pub bad1 : LineAt s at user_key None → read_seven (drop at s) ≡ bad_line 1
   unfolding read_seven
   bad1 e1 = rw (← e1.is)
 
-  module _ {v1 i1 : ℕ} (e1 : LineAt s at user_key (Value v1 i1)) where
-    pub bad2 : LineAt s i1 op_key Bad → read_seven (drop at s) ≡ bad_line 2
+  module _ {x1 : Number} (e1 : LineAt s at user_key (Some x1)) where
+    pub bad2 : LineAt s x1.next op_key None → read_seven (drop at s) ≡ bad_line 2
     unfolding read_seven
     bad2 e2 = rw (← e1.is, ← e2.is)
 
-    module _ {v2 i2 : ℕ} (e2 : LineAt s i1 op_key (Value v2 i2)) where
-      pub bad3 : {o3 p3 : List ℕ} → RefAt s i2 ref_key o3 p3 Wrong → read_seven (drop at s) ≡ bad_line 3
+    module _ {x2 : Number} (e2 : LineAt s x1.next op_key (Some x2)) where
+      pub bad3 : {o3 p3 : List ℕ} → RefAt s x2.next ref_key o3 p3 None → read_seven (drop at s) ≡ bad_line 3
       unfolding read_seven
       bad3 e3 = rw (← e1.is, ← e2.is, ← e3.is)
 
-      module _ {v3 i3 : ℕ} {o3 p3 : List ℕ} (e3 : RefAt s i2 ref_key o3 p3 (Are v3 i3)) where
-        pub bad4 : {o4 p4 : List ℕ} → RefAt s i3 ref2_key o4 p4 Wrong → read_seven (drop at s) ≡ bad_line 4
+      module _ {x3 : Names} {o3 p3 : List ℕ} (e3 : RefAt s x2.next ref_key o3 p3 (Some x3)) where
+        pub bad4 : {o4 p4 : List ℕ} → RefAt s x3.end ref2_key o4 p4 None → read_seven (drop at s) ≡ bad_line 4
         unfolding read_seven
         bad4 e4 = rw (← e1.is, ← e2.is, ← e3.is, ← e4.is)
 
-        module _ {v4 i4 : ℕ} {o4 p4 : List ℕ} (e4 : RefAt s i3 ref2_key o4 p4 (Are v4 i4)) where
-          pub bad5 : LineAt s i4 a_key Bad → read_seven (drop at s) ≡ bad_line 5
+        module _ {x4 : Names} {o4 p4 : List ℕ} (e4 : RefAt s x3.end ref2_key o4 p4 (Some x4)) where
+          pub bad5 : LineAt s x4.end a_key None → read_seven (drop at s) ≡ bad_line 5
           unfolding read_seven
           bad5 e5 = rw (← e1.is, ← e2.is, ← e3.is, ← e4.is, ← e5.is)
 
-          module _ {v5 i5 : ℕ} (e5 : LineAt s i4 a_key (Value v5 i5)) where
-            pub bad6 : LineAt s i5 b_key Bad → read_seven (drop at s) ≡ bad_line 6
+          module _ {x5 : Number} (e5 : LineAt s x4.end a_key (Some x5)) where
+            pub bad6 : LineAt s x5.next b_key None → read_seven (drop at s) ≡ bad_line 6
             unfolding read_seven
             bad6 e6 = rw (← e1.is, ← e2.is, ← e3.is, ← e4.is, ← e5.is, ← e6.is)
 
-            module _ {v6 i6 : ℕ} (e6 : LineAt s i5 b_key (Value v6 i6)) where
-              pub bad7 : LineAt s i6 c_key Bad → read_seven (drop at s) ≡ bad_line 7
+            module _ {x6 : Number} (e6 : LineAt s x5.next b_key (Some x6)) where
+              pub bad7 : LineAt s x6.next c_key None → read_seven (drop at s) ≡ bad_line 7
               unfolding read_seven
               bad7 e7 = rw (← e1.is, ← e2.is, ← e3.is, ← e4.is, ← e5.is, ← e6.is, ← e7.is)
 
               -- all seven are good
-              pub read7 : {v7 i7 : ℕ} → LineAt s i6 c_key (Value v7 i7)
+              pub read7 : {x7 : Number} → LineAt s x6.next c_key (Some x7)
                   → read_seven (drop at s)
-                  ≡ lines (record { user = v1; operation = v2; first = take v3 p3; second = take v4 p4; a = v5; b = v6; c = v7 }) (drop i7 s)
+                  ≡ lines (record { user = x1.v; operation = x2.v; first = take x3.n p3; second = take x4.n p4; a = x5.v; b = x6.v; c = x7.v }) (drop x7.next s)
               unfolding read_seven
               read7 e7 = rw (← e1.is, ← e2.is, ← e3.is, ← e4.is, ← e5.is, ← e6.is, ← e7.is)
 

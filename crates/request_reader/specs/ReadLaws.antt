@@ -1,13 +1,13 @@
 -- The four ways in which reading a whole text ends (rule 11.4).
-use Rattle.std.specs.Prelude.{List, [], ◌∷◌, ◌≡◌, refl, ◌-◌, ◌<◌, ◌≤◌, suc, ℕ, length}
-use Rattle.std.proofs.Common.{arith, eq-eqb, ne_eqb}
+use Rattle.std.specs.Prelude.{List, [], ◌∷◌, ◌≡◌, refl, Ok, Err, ◌-◌, ◌<◌, ◌≤◌, suc, ℕ, length}
+use Rattle.std.proofs.Common.{ap, arith, eq-eqb, ne_eqb}
 use Rattle.model.specs.Request.Words.{request_words}
 use Rattle.model.specs.Text.Reading.{Reads, read_answer, read_number, words_after, words_in}
 use Rattle.model.specs.Text.Wording.{Lines, bad_line, lines, read_seven, read_text}
 use Rattle.model.specs.Text.Unfinished.{line_total}
 use Rattle.request_reader.specs.Seven.{SevenAt, seven_of}
 use Rattle.request_reader.specs.SevenLaws.{seven_rest}
-use Rattle.request_reader.specs.declared.Seven.TheVariants.{BadLine, Next}
+use Rattle.request_reader.specs.declared.BadLine.{BadLine}
 use Rattle.model.specs.Request.Refusals as refusal
 
 -- the room is not sixteen words
@@ -25,31 +25,31 @@ refused s w k h e =
     record { answer = rw (q, e); number = rw (q, e); words = rw (q, e) }
 
 -- one of the seven lines is bad or missing
-pub read_bad : (s w v : List ℕ) (k : ℕ) → length w ≡ request_words → SevenAt s 0 v v (BadLine k) → Reads s w refusal.not_a_request k w
+pub read_bad : (s w v : List ℕ) (k : BadLine) → length w ≡ request_words → SevenAt s 0 v v (Err k) → Reads s w refusal.not_a_request k.0 w
 unfolding read_text
-read_bad s w v k h f = refused s w k h (go (read_seven s) refl f.answer)
+read_bad s w v k h f = refused s w k.0 h (go (read_seven s) refl f.answer)
   where
-    go : (l : Lines) → read_seven s ≡ l → BadLine k ≡ seven_of (length s) l → read_text s ≡ bad_line k
+    go : (l : Lines) → read_seven s ≡ l → Err k ≡ seven_of (length s) l → read_text s ≡ bad_line k.0
     go (lines m x) e g = let z : ◌≡◌ {A = ℕ} 0 1 = cc in absurd (omega arith)
-    go (bad_line j) e g = let q : j ≡ k = cc in rw (e, q)
+    go (bad_line j) e g = let q : record { 0 = j } ≡ k = cc in rw (e, ap (λ (b : BadLine). b.0) q)
 
 -- something follows the seventh line
-pub read_behind : (s w v : List ℕ) (i : ℕ) → length w ≡ request_words → SevenAt s 0 v v (Next i) → i < length s → Reads s w refusal.not_a_request
+pub read_behind : (s w v : List ℕ) (i : ℕ) → length w ≡ request_words → SevenAt s 0 v v (Ok i) → i < length s → Reads s w refusal.not_a_request
     (suc line_total) w
 unfolding read_text
 read_behind s w v i h f b = refused s w (suc line_total) h (go (read_seven s) refl f.answer)
   where
-    go : (l : Lines) → read_seven s ≡ l → Next i ≡ seven_of (length s) l → read_text s ≡ bad_line (suc line_total)
+    go : (l : Lines) → read_seven s ≡ l → Ok i ≡ seven_of (length s) l → read_text s ≡ bad_line (suc line_total)
     go (lines m []) e g = let q : i ≡ length s - 0 = cc in absurd (omega arith)
     go (lines m (a ∷ x)) e g = rw e
     go (bad_line j) e g = let z : ◌≡◌ {A = ℕ} 0 1 = cc in absurd (omega arith)
 
 -- the text is a request
-pub read_whole : (s w v : List ℕ) (i : ℕ) → length w ≡ request_words → SevenAt s 0 v v (Next i) → length s ≤ i → Reads s w refusal.accepted 0 v
+pub read_whole : (s w v : List ℕ) (i : ℕ) → length w ≡ request_words → SevenAt s 0 v v (Ok i) → length s ≤ i → Reads s w refusal.accepted 0 v
 unfolding read_answer read_number read_text words_after
 read_whole s w v i h f b = go (read_seven s) refl f.answer f.words
   where
-    go : (l : Lines) → read_seven s ≡ l → Next i ≡ seven_of (length s) l → v ≡ words_in l v → Reads s w refusal.accepted 0 v
+    go : (l : Lines) → read_seven s ≡ l → Ok i ≡ seven_of (length s) l → v ≡ words_in l v → Reads s w refusal.accepted 0 v
     go (lines m []) e g q =
         let z = eq-eqb (length w) request_words h in
         record { answer = rw (z, e); number = rw (z, e); words = rw (z, e) q }

@@ -1,10 +1,12 @@
 -- The three rows of an entity, which words are theirs, and what stands in them.
 use Rattle.std.proofs.Common.{◌∙◌, sym, arith}
-use Rattle.std.specs.Prelude.{◌≡◌, refl, ◌<◌, ◌≤◌, suc, zero, ℕ}
+use Rattle.std.specs.Prelude.{◌≡◌, refl, ◌<◌, ◌≤◌, ℕ}
 use Rattle.model.specs.State.WellFormed.{WellFormed}
 use Rattle.model.specs.Tables.Layout.{Bounded}
 use Rattle.model.specs.Tables.WordAtLaws.{entity_word_same}
 use Rattle.model.specs.Tables.Words.{EntityWord, Tables, entity_count, index, place, place_count, places, shown, tag, triple, used_places}
+use Rattle.names.specs.declared.row.Row.{Row}
+use Rattle.names.specs.declared.row.Row.TheVariants.{Places, Sums, Triples}
 use Rattle.rows.specs.Rows.{RowName, row_in}
 use Rattle.tables.specs.Singles.{row_word}
 
@@ -18,18 +20,16 @@ shown_row = record { one_tag = λ k. refl; counted = λ k. refl }
 pub triple_row : RowName triple
 triple_row = record { one_tag = λ k. refl; counted = λ k. refl }
 
--- the three of them by their number, and that they are zero after their last word
-pub row_name : (r : ℕ) → RowName (row_word r)
-row_name zero = place_row
-row_name (suc zero) = shown_row
-row_name (suc (suc zero)) = triple_row
-row_name (suc (suc (suc r))) = place_row
+-- any of the three, and that they are zero after their last word
+pub row_name : (r : Row) → RowName (row_word r)
+row_name Places = place_row
+row_name Sums = shown_row
+row_name Triples = triple_row
 
-pub row_out : (r : ℕ) (d : Tables) → Bounded d → (e i : ℕ) → place_count ≤ i → row_in (row_word r) d e i ≡ 0
-row_out zero d b = b.places_out
-row_out (suc zero) d b = b.shown_out
-row_out (suc (suc zero)) d b = b.triples_out
-row_out (suc (suc (suc r))) d b = b.places_out
+pub row_out : (r : Row) (d : Tables) → Bounded d → (e i : ℕ) → place_count ≤ i → row_in (row_word r) d e i ≡ 0
+row_out Places d b = b.places_out
+row_out Sums d b = b.shown_out
+row_out Triples d b = b.triples_out
 
 -- a place that is used holds the number of an entity
 pub place_inside : (d : Tables) → WellFormed d → (e i : ℕ) → i < used_places d e → (1 ≤ places d e i) × (places d e i ≤ entity_count)

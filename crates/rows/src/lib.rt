@@ -9,28 +9,43 @@ ghost use Rattle.model.specs.Tables.Layout.{tables_of};
 ghost use Rattle.model.specs.Tables.Rows.{close, seek};
 ghost use Rattle.model.specs.Tables.Words.{place, place_count, places, triple, triples, used_places};
 ghost use Rattle.rows.specs.Rows.{place_at_most, row_in};
-ghost use Rattle.tables.specs.Singles.{EntityIn, row_count, row_word};
+ghost use Rattle.tables.specs.Singles.{EntityIn, row_word};
 
 use levels::Level;
-use names::{row, size};
+use names::row::Row;
+use names::size;
 use tables::Entity;
 
 // The last word of a row.
 const LAST: u32 = size::PLACES - 1;
+
+// The place of x among the first n words of row r of entity e, or n.
+fn sought(t: &[u32], e: Entity, r: Row, x: u32, n: u32) -> u32
+    requires { EntityIn t.now e.0 × (n ≤ place_count) }
+    ensures { result ≡ seek x (row_in (row_word r) (tables_of t.now) e.0) n }
+{
+    for i in 0..n {
+        if tables::row_word(t, e, r, i) == x {
+            return i;
+        }
+    }
+    n
+}
 
 // The place of entity e among the first n places of v, or n.
 pub fn place_of(t: &[u32], v: Entity, e: Entity, n: u32) -> u32
     requires { EntityIn t.now v.0 × (n ≤ place_count) }
     ensures { result ≡ seek e.0 (places (tables_of t.now) v.0) n }
 {
-    let mut i: u32 = 0;
-    while i < n {
-        if tables::place(t, v, i).0 == e.0 {
-            return i;
-        }
-        i += 1;
-    }
-    n
+    sought(t, v, Row::Places, e.0, n)
+}
+
+// The place of x among the triples of entity e, or their number where it is none of them.
+pub fn triple_place(t: &[u32], e: Entity, x: u32) -> u32
+    requires { EntityIn t.now e.0 }
+    ensures { result ≡ seek x (triples (tables_of t.now) e.0) place_count }
+{
+    sought(t, e, Row::Triples, x, size::TRIPLES)
 }
 
 // Whether entity e stands in a place of v. All places are compared, wherever e stands: that is faster than a branch at each.
@@ -39,40 +54,21 @@ pub fn holds(t: &[u32], v: Entity, e: Entity) -> bool
     ensures { result ≡ ltb (seek e.0 (places (tables_of t.now) v.0) place_count) place_count }
 {
     let mut found = false;
-    let mut i: u32 = 0;
-    while i < size::PLACES {
-        found = (tables::place(t, v, i).0 == e.0) | found;
-        i += 1;
+    for i in 0..size::PLACES {
+        found = (tables::place(t, v, i) == e) | found;
     }
     found
 }
 
-// The place of x among the triples of entity e, or their number where it is none of them.
-pub fn triple_place(t: &[u32], e: Entity, x: u32) -> u32
-    requires { EntityIn t.now e.0 }
-    ensures { result ≡ seek x (triples (tables_of t.now) e.0) place_count }
-{
-    let mut i: u32 = 0;
-    while i < size::TRIPLES {
-        if tables::triple(t, e, i) == x {
-            return i;
-        }
-        i += 1;
-    }
-    size::TRIPLES
-}
-
 // Takes word k out of row r of entity e, and closes up those after it.
-fn close_row(t: &mut [u32], e: Entity, r: usize, k: u32)
-    requires { EntityIn t.old e.0 × (r < row_count) × (k < place_count) }
+fn close_row(t: &mut [u32], e: Entity, r: Row, k: u32)
+    requires { EntityIn t.old e.0 × (k < place_count) }
     ensures { tables_of t.new
         ≡ on_entity e.0 (row (row_word r) (close k (row_in (row_word r) (tables_of t.old) e.0))) (tables_of t.old) }
 {
-    let mut i = k;
-    while i < LAST {
+    for i in k..LAST {
         let x = tables::row_word(t, e, r, i + 1);
         tables::set_row_word(t, e, r, i, x);
-        i += 1;
     }
     tables::set_row_word(t, e, r, LAST, 0);
 }
@@ -83,7 +79,7 @@ pub fn close_places(t: &mut [u32], h: Entity, k: u32)
     ensures { tables_of t.new
         ≡ on_entity h.0 (row place (close k (places (tables_of t.old) h.0))) (tables_of t.old) }
 {
-    close_row(t, h, row::PLACES, k);
+    close_row(t, h, Row::Places, k);
 }
 
 // Takes triple k out of entity e, and closes up those after it.
@@ -92,7 +88,7 @@ pub fn close_triples(t: &mut [u32], e: Entity, k: u32)
     ensures { tables_of t.new
         ≡ on_entity e.0 (row triple (close k (triples (tables_of t.old) e.0))) (tables_of t.old) }
 {
-    close_row(t, e, row::TRIPLES, k);
+    close_row(t, e, Row::Triples, k);
 }
 
 // Whether what stands in place i of entity v, of well-formed tables, is at most level a.
@@ -108,12 +104,10 @@ pub fn all_at_most(t: &[u32], v: Entity, a: Level, n: u32) -> bool
     requires { EntityIn t.now v.0 × WellFormed (tables_of t.now) × (n ≡ used_places (tables_of t.now) v.0) }
     ensures { result ≡ every n (place_at_most (tables_of t.now) v.0 a.0) }
 {
-    let mut i: u32 = 0;
-    while i < n {
+    for i in 0..n {
         if !place_at_most(t, v, a, i) {
             return false;
         }
-        i += 1;
     }
     true
 }

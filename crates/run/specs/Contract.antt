@@ -1,5 +1,5 @@
 -- What a run asks and promises, over the words that it is lent: the tables t, the words w of the requests and the room for the answers.
-use Rattle.std.specs.Prelude.{List, ◌++◌, ◌≡◌, ◌%◌, ◌*◌, ◌+◌, ◌≤◌, ℕ, drop, length, take}
+use Rattle.std.specs.Prelude.{List, ◌++◌, ◌≡◌, ◌%◌, ◌≤◌, ℕ, drop, length, take}
 use Rattle.model.specs.Request.Words.{request_words}
 use Rattle.model.specs.Run.Requests.{request_count, requests_in}
 use Rattle.model.specs.Run.Run.{run_answer, run_room, run_tables}
@@ -18,10 +18,8 @@ pub record AnsweredAll (t w room r s : List ℕ) : Type 0 where
   pub tables : r ≡ after_words t (requests_in w)
   pub answers : s ≡ answers_to t (requests_in w) ++ drop (request_count w) room
 
--- The same after i requests: the tables are now r, the room is s, and another request begins at an index of the words and ends before the next.
-pub record Going (t w room : List ℕ) (c at next i : ℕ) (r s : List ℕ) : Type 0 where
-  pub begins : at ≡ request_words * i
-  pub ends : next ≡ at + request_words
+-- The same after i requests: the tables are now r, and the room is s.
+pub record Going (t w room : List ℕ) (c i : ℕ) (r s : List ℕ) : Type 0 where
   pub within : i ≤ request_count w
   pub said : c ≡ check r
   pub tables : r ≡ after_words t (take i (requests_in w))

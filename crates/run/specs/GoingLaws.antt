@@ -1,5 +1,5 @@
 -- What a run keeps while it goes: it begins, it goes on by a request, it ends.
-use Rattle.std.specs.Prelude.{List, [], ◌++◌, ◌∷◌, ◌≡◌, refl, ◌+◌, ◌-◌, ◌<◌, ◌≤◌, suc, ℕ, drop, get_or, length, set, take}
+use Rattle.std.specs.Prelude.{List, [], ◌++◌, ◌∷◌, ◌≡◌, refl, ◌*◌, ◌+◌, ◌<◌, ◌≤◌, suc, ℕ, drop, get_or, length, set, take}
 use Rattle.std.proofs.Common.{append_assoc, ◌∙◌, ap, ap₂, sym, add-one, arith, length-append, length-drop, drop-cons, length-take-le, take_all}
 use Rattle.std.proofs.lemmas.List.{set_at}
 use Rattle.model.specs.Request.Step.{after_of, answer_of}
@@ -15,11 +15,11 @@ use Rattle.model.proofs.Theorem.Steps.{check_stays}
 use Rattle.run.specs.Contract.{AnsweredAll, Going, RunReady}
 use Rattle.step.specs.Contract.{Checked, Settled}
 
-pub going_start : (t w room : List ℕ) (c : ℕ) → RunReady t w room c → Going t w room c 0 request_words 0 t room
+pub going_start : (t w room : List ℕ) (c : ℕ) → RunReady t w room c → Going t w room c 0 t room
 unfolding after_words answers_to
-going_start t w room c k = record { begins = refl; ends = omega arith; within = omega arith; said = k.said; tables = refl; answers = refl }
+going_start t w room c k = record { within = omega arith; said = k.said; tables = refl; answers = refl }
 
-module _ {t w room : List ℕ} {c at next i : ℕ} {r s : List ℕ} (k : RunReady t w room c) (g : Going t w room c at next i r s) where
+module _ {t w room : List ℕ} {c i : ℕ} {r s : List ℕ} (k : RunReady t w room c) (g : Going t w room c i r s) where
   -- the room has its length
   pub going_length : length s ≡ length room
   going_length =
@@ -35,55 +35,48 @@ module _ {t w room : List ℕ} {c at next i : ℕ} {r s : List ℕ} (k : RunRead
         k.places,
       )
 
-  module _ (h : next ≤ length w) where
-    -- another request stands here, whole
-    pub going_more : i < request_count w
-    going_more = omega (arith, g.begins, g.ends, h)
-
-    -- the part of the words that is lent to the step
-    module _ (q : List ℕ) (part : q ≡ take (next - at) (drop at w)) where
-      sixteen : q ≡ take request_words (drop at w)
-      sixteen = let n : next - at ≡ request_words = omega (arith, g.ends) in part ∙ ap (λ (k : ℕ). take k (drop at w)) n
-
+  module _ (h : i < request_count w) where
+    -- another request stands here, whole: the part of the words that is lent to the step
+    module _ (at n : ℕ) (begins : at ≡ i * request_words) (whole : n ≡ request_words) (q : List ℕ) (part : q ≡ take n (drop at w)) where
       request_is : q ≡ get_or (requests_in w) i []
-      request_is = sixteen ∙ ap (λ (n : ℕ). take request_words (drop n w)) g.begins ∙ sym (first_at (request_count w) w i going_more)
+      request_is =
+          let e : at ≡ request_words * i = omega (arith, begins) in
+          part ∙ ap₂ (λ (m k : ℕ). take m (drop k w)) whole e ∙ sym (first_at (request_count w) w i h)
 
       pub going_checked : Checked r q c
       going_checked = record {
         said = g.said;
-        request = ap length sixteen ∙ length-take-le request_words (drop at w) (omega (arith, length-drop at w, g.ends, h));
+        request = ap length part ∙ length-take-le n (drop at w) (omega (arith, length-drop at w, begins, whole, h)) ∙ whole;
       }
 
       -- Rules 15.3 and 15.4: its answer stands in its place, and the next request finds what it left
-      one_more : (n : ℕ) (u : List ℕ) → Settled r q n u → Going t w room c next (next + request_words) (suc i) u (set s i n)
+      one_more : (n : ℕ) (u : List ℕ) → Settled r q n u → Going t w room c (suc i) u (set s i n)
       one_more n u x =
           let qs = requests_in w in
-          let h : i < length qs = omega (arith, going_more, first_length (request_count w) w) in
+          let l : i < length qs = omega (arith, h, first_length (request_count w) w) in
           let was : length (answers_to t (take i qs)) ≡ i = answers_length t (take i qs) ∙ length-take-le i qs (omega arith) in
           let a : n ≡ answer_of (after_words t (take i qs)) (get_or qs i []) = x.answer ∙ ap₂ answer_of g.tables request_is in
           let b : u ≡ after_of (after_words t (take i qs)) (get_or qs i []) = x.words ∙ ap₂ after_of g.tables request_is in
-          let l : drop i room ≡ get_or room i 0 ∷ drop (suc i) room = drop-cons room i 0 (omega (arith, going_more, k.places)) in
+          let d : drop i room ≡ get_or room i 0 ∷ drop (suc i) room = drop-cons room i 0 (omega (arith, h, k.places)) in
           let put : set s i n ≡ answers_to t (take i qs) ++ (n ∷ drop (suc i) room) =
-          ap (λ (y : List ℕ). set y i n) (g.answers ∙ ap (λ y. answers_to t (take i qs) ++ y) l)
+          ap (λ (y : List ℕ). set y i n) (g.answers ∙ ap (λ y. answers_to t (take i qs) ++ y) d)
           ∙ set_at (answers_to t (take i qs)) (get_or room i 0) (drop (suc i) room) n i was in
           let more : answers_to t (take (suc i) qs) ≡ answers_to t (take i qs) ++ (n ∷ []) =
-          answers_next t qs i h ∙ ap (λ (y : ℕ). answers_to t (take i qs) ++ (y ∷ [])) (sym a) in
+          answers_next t qs i l ∙ ap (λ (y : ℕ). answers_to t (take i qs) ++ (y ∷ [])) (sym a) in
           record {
-            begins = omega (arith, g.begins, g.ends);
-            ends = refl;
-            within = omega (arith, going_more);
+            within = omega (arith, h);
             said = g.said ∙ sym (check_stays r q) ∙ ap check (sym x.words);
-            tables = b ∙ sym (after_words_next t qs i h);
+            tables = b ∙ sym (after_words_next t qs i l);
             answers = put ∙ sym (ap (λ y. y ++ drop (suc i) room) more ∙ append_assoc (answers_to t (take i qs)) (n ∷ []) (drop (suc i) room));
           }
 
-      pub going_on : (n : ℕ) (u : List ℕ) → Settled r q n u → Going t w room c next (next + request_words) (i + 1) u (set s i n)
+      pub going_on : (n : ℕ) (u : List ℕ) → Settled r q n u → Going t w room c (i + 1) u (set s i n)
       going_on n u x = rw (add-one i) (one_more n u x)
 
   -- at the end of the words every request has its answer
-  pub going_end : length w < next → AnsweredAll t w room r s
+  pub going_end : request_count w ≤ i → AnsweredAll t w room r s
   going_end h =
-      let n : i ≡ request_count w = omega (arith, g.begins, g.ends, g.within, k.multiple) in
+      let n : i ≡ request_count w = omega (arith, g.within, h) in
       let all : take i (requests_in w) ≡ requests_in w = take_all i (requests_in w) (omega (arith, first_length (request_count w) w)) in
       record {
         tables = g.tables ∙ ap (after_words t) all;

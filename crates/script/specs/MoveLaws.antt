@@ -1,7 +1,8 @@
--- Bytes moved to the front of a buffer, one by one.
+-- Bytes moved to the front of a buffer, one by one or in one go.
 use Rattle.std.specs.Prelude.{List, [], ◌++◌, ◌∷◌, ◌≢◌, ◌≡◌, refl, ◌+◌, ◌-◌, ◌<◌, ◌≤◌, suc, zero, ℕ, drop, get_or, length, set, take}
 use Rattle.std.proofs.Common.{◌∙◌, ap, sym, arith, add-one, length-drop, length-set, get_or-drop, get_or-set_other, get_or-set_same, take-suc}
-use Rattle.std.proofs.lemmas.List.{take-set-le}
+use Rattle.std.specs.List.{copy_within}
+use Rattle.std.proofs.lemmas.List.{length-take-le, take_at, take-set-le}
 
 -- a store after the first i elements is one element more
 pub store_next : (r : List ℕ) (i v : ℕ) → i < length r → take (i + 1) (set r i v) ≡ take i r ++ (v ∷ [])
@@ -54,3 +55,9 @@ moved_all {w} {r} {from} {i} {j} {len} m h e =
     let s : i + from ≡ j = m.step in
     let n : i ≡ len - from = omega arith in
     (n, m.front ∙ ap (λ (k : ℕ). take k (drop from w)) n ∙ sym (drop_front w from len h))
+
+-- the bytes that are left, copied to the front in one go
+pub front_kept : (w : List ℕ) (from len : ℕ) → from ≤ len → len ≤ length w → take (len - from) (copy_within w from len 0) ≡ drop from (take len w)
+front_kept w from len h l =
+    let n : length (take (len - from) (drop from w)) ≡ len - from = length-take-le (len - from) (drop from w) (rw (length-drop from w) (omega arith)) in
+    take_at (take (len - from) (drop from w)) _ (len - from) n ∙ sym (drop_front w from len h)

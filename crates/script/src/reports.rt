@@ -3,11 +3,13 @@ ghost use Rattle.std.specs.Prelude.{◌≡◌, ◌+◌, ◌≤◌, length};
 ghost use Rattle.lines.specs.Onto.{Puts, Wrote};
 ghost use Rattle.model.specs.Script.Reports.{report_text};
 ghost use Rattle.model.specs.Script.Windows.{report_bytes};
+ghost use Rattle.names.specs.Refusals.{answer_number};
 ghost use Rattle.script.specs.Reported.{Settled, from_code, holding};
 ghost use Rattle.step.specs.Contract.{Checked};
 ghost use Rattle.tables.specs.Singles.{UserIn};
 
-use names::{range, refusal};
+use names::range;
+use names::refusal::{ACCEPTED, Refusal, number};
 use tables::User;
 
 // What is told of a request: its answer, the refusal that its requester holds, and how many were missed.
@@ -44,12 +46,12 @@ fn full(tables: &[u32], user: u32, answer: u32) -> Report
 
 // Settles one request on the tables, of which the check has said c, and reports it: the step's answer, and, where the request was accepted or
 // leaves a notice, what the requester holds.
-pub fn settle(tables: &mut [u32], request: &[u32], c: u32) -> Report
-    requires { Checked tables.old request.now c }
+pub fn settle(tables: &mut [u32], request: &[u32], c: Result<(), Refusal>) -> Report
+    requires { Checked tables.old request.now (answer_number c) }
     ensures { Settled tables.old request.now result tables.new }
 {
-    let answer = step::on_checked(tables, request, c);
-    if answer == refusal::ACCEPTED {
+    let answer = number(step::on_checked(tables, request, c));
+    if answer == ACCEPTED {
         return full(tables, request::requester(request), answer);
     }
     if answer < range::FIRST_NOTICED {

@@ -7,10 +7,12 @@ ghost use Rattle.model.specs.Script.Windows.{report_bytes};
 ghost use Rattle.model.specs.State.Check.{check};
 ghost use Rattle.model.specs.Text.Lines.{line_end};
 ghost use Rattle.model.specs.Text.Unfinished.{ends, unfinished};
+ghost use Rattle.names.specs.Refusals.{answer_number};
 ghost use Rattle.script.specs.Reported.{from_code};
 ghost use Rattle.script.specs.Running.{Halts, RunsOn};
 
 use crate::turns::{Place, Turned};
+use names::refusal::Refusal;
 use names::text;
 
 // What a run gives: how far it came, and how many bytes of reports there are.
@@ -36,10 +38,8 @@ fn line_ends(s: &[u8], at: usize) -> usize
     ensures { result ≡ ends (drop at s.now) }
 {
     let mut n: usize = 0;
-    let mut i = at;
-    while i < s.len() {
+    for i in at..s.len() {
         n += ends_line(s[i]);
-        i += 1;
     }
     n
 }
@@ -86,8 +86,14 @@ fn halt(script: &[u8], last: bool, out: &mut [u8], n: usize, at: usize, t: Turne
 // Settles the requests of script from its front on, each on the tables that the one before it left, and puts their reports at the front of out.
 // Where out has no room left for the longest report, no further request is begun. `last` says that nothing will follow script, and c is what the
 // check has said of the tables, which it would say of what every request leaves.
-pub fn run(tables: &mut [u32], script: &[u8], last: bool, out: &mut [u8], c: u32) -> Ran
-    requires { c ≡ check tables.old }
+pub fn run(
+    tables: &mut [u32],
+    script: &[u8],
+    last: bool,
+    out: &mut [u8],
+    c: Result<(), Refusal>,
+) -> Ran
+    requires { answer_number c ≡ check tables.old }
     ensures { RunsOn tables.old script.now last out.old result tables.new out.new }
 {
     let mut at: usize = 0;

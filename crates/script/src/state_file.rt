@@ -33,10 +33,8 @@ pub fn load(bytes: &[u8], room: &mut [u32]) -> usize
     if bytes.len() != size::STATE_BYTES {
         return 0;
     }
-    let mut i = 0;
-    while i < size::TABLE_WORDS {
+    for i in 0..size::TABLE_WORDS {
         room[i] = word_in(bytes, i);
-        i += 1;
     }
     size::TABLE_WORDS
 }

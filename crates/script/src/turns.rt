@@ -2,14 +2,16 @@
 // work is done; then on a place that is lent and changed where it stands. In each, c is what the check has said of the tables. No request makes that
 // untrue, so no turn checks them.
 ghost use Rattle.std.specs.Prelude.{◌≡◌};
+ghost use Rattle.names.specs.Refusals.{answer_number};
 ghost use Rattle.model.specs.Script.Reports.{unread};
 ghost use Rattle.script.specs.Reported.{in_code};
 ghost use Rattle.script.specs.Turn.{SettledTo, TurnReady, Turns, TurnsLent};
 ghost use Rattle.step.specs.Contract.{Checked};
 
 use crate::reports::Report;
-use names::{refusal, size};
-use request_reader::Seven;
+use names::refusal::Refusal;
+use names::size;
+use request_reader::BadLine;
 
 // How far a script has been read: the index of its next byte, and the line at which a request could not be read, 0 while all could.
 #[derive(Clone, Copy)]
@@ -31,13 +33,13 @@ fn stuck(at: usize, line: u32) -> Turned
 {
     Turned {
         place: Place { at, line },
-        report: crate::reports::bare(refusal::NOT_A_REQUEST),
+        report: crate::reports::bare(u32::from(Refusal::NotARequest)),
     }
 }
 
 // The turn at a request whose words were read, up to the index next.
-fn settled(tables: &mut [u32], words: &[u32], next: usize, c: u32) -> Turned
-    requires { Checked tables.old words.now c }
+fn settled(tables: &mut [u32], words: &[u32], next: usize, c: Result<(), Refusal>) -> Turned
+    requires { Checked tables.old words.now (answer_number c) }
     ensures { SettledTo tables.old words.now next result tables.new }
 {
     let report = crate::reports::settle(tables, words, c);
@@ -49,21 +51,21 @@ fn settled(tables: &mut [u32], words: &[u32], next: usize, c: u32) -> Turned
 
 // The turn by value: the next seven lines of the script are read, and the step answers them. Its caller has seen that bytes are left and that
 // all requests before could be read. The turn does not ask for these two, and reads from the index on.
-pub fn turn_at(tables: &mut [u32], script: &[u8], p: Place, c: u32) -> Turned
-    requires { TurnReady tables.old script.now p c }
+pub fn turn_at(tables: &mut [u32], script: &[u8], p: Place, c: Result<(), Refusal>) -> Turned
+    requires { TurnReady tables.old script.now p (answer_number c) }
     ensures { Turns tables.old script.now p result tables.new }
 {
     let at = p.at;
     let mut words = [0u32; size::REQUEST_WORDS];
     match request_reader::read_seven(script, at, &mut words) {
-        Seven::BadLine(k) => stuck(at, k),
-        Seven::Next(next) => settled(tables, &words, next, c),
+        Err(BadLine(k)) => stuck(at, k),
+        Ok(next) => settled(tables, &words, next, c),
     }
 }
 
 // The same turn on a place that is lent, and changed where it stands.
-pub fn turn(tables: &mut [u32], script: &[u8], p: &mut Place, c: u32) -> Report
-    requires { TurnReady tables.old script.now p.old c }
+pub fn turn(tables: &mut [u32], script: &[u8], p: &mut Place, c: Result<(), Refusal>) -> Report
+    requires { TurnReady tables.old script.now p.old (answer_number c) }
     ensures { TurnsLent tables.old script.now p.old result p.new tables.new }
 {
     let t = turn_at(tables, script, *p, c);
@@ -72,8 +74,8 @@ pub fn turn(tables: &mut [u32], script: &[u8], p: &mut Place, c: u32) -> Report
 }
 
 // From a place by value to one that is lent, and back: a loop calls this one, since its contract speaks of no reference to a place.
-pub fn one_turn(tables: &mut [u32], script: &[u8], p: Place, c: u32) -> Turned
-    requires { TurnReady tables.old script.now p c }
+pub fn one_turn(tables: &mut [u32], script: &[u8], p: Place, c: Result<(), Refusal>) -> Turned
+    requires { TurnReady tables.old script.now p (answer_number c) }
     ensures { Turns tables.old script.now p result tables.new }
 {
     let mut q = p;

@@ -1,5 +1,5 @@
 // The window: what has arrived of the script and is not settled yet stands at the front of a buffer.
-ghost use Rattle.std.specs.Prelude.{◌&&◌, ◌||◌, not, ◌≡◌, ◌+◌, ◌-◌, ◌≤◌, eqb, leb, drop, length, take};
+ghost use Rattle.std.specs.Prelude.{◌&&◌, ◌||◌, not, ◌≡◌, ◌-◌, ◌≤◌, eqb, leb, drop, length, take};
 ghost use Rattle.model.specs.Script.Windows.{report_bytes};
 
 use crate::turns::Place;
@@ -10,14 +10,8 @@ pub fn keep(window: &mut [u8], from: usize, len: usize) -> usize
     requires { (from ≤ len) × (len ≤ length window.old) }
     ensures { (result ≡ len - from) × (take result window.new ≡ drop from (take len window.old)) }
 {
-    let mut i: usize = 0;
-    let mut j = from;
-    while j < len {
-        window[i] = window[j];
-        i += 1;
-        j += 1;
-    }
-    i
+    window.copy_within(from..len, 0);
+    len - from
 }
 
 // Whether the program is done after a run of len bytes: a request could not be read, or nothing is left and nothing will follow.

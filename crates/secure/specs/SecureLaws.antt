@@ -1,7 +1,7 @@
 -- The passes over entities and users ask what rule 4 asks, of any tables.
-use Rattle.std.specs.Prelude.{Bool, ◌&&◌, ◌||◌, not, ◌≢◌, ◌≡◌, ◌-◌, ◌<◌, ◌≤◌, suc, ℕ, T, eqb, ltb}
+use Rattle.std.specs.Prelude.{Bool, ◌&&◌, ◌||◌, not, ◌≢◌, ◌≡◌, ◌-◌, ◌<◌, ◌≤◌, min, suc, ℕ, T, eqb, ltb}
 use Rattle.std.proofs.Math.Bool.{false, true}
-use Rattle.std.proofs.Common.{inr, ◌∙◌, ap, subst, arith, eq-eqb, le-ltb, lt-ltb, ne_eqb}
+use Rattle.std.proofs.Common.{inr, ◌∙◌, ap, subst, arith, eq-eqb, le-ltb, ne_eqb}
 use Rattle.std.proofs.Math.Path.{refl, sym}
 use Rattle.laws.specs.Bools.{and_assoc, and_l, imp_both, or_imp}
 use Rattle.laws.specs.Loops.{every_both, every_of, imp_every}
@@ -20,12 +20,7 @@ use Rattle.secure.specs.Secured.{all_secure, capped, entity_secure, place_secure
 
 -- ---- a number that is capped
 
--- a number above the places of a row
-pub capped_over : (n : ℕ) → place_count < n → place_count ≡ capped n
-unfolding capped
-capped_over n h = rw (lt-ltb place_count n h)
-
--- and one that is not
+-- a number that is not above the places of a row
 pub capped_within : (n : ℕ) → n ≤ place_count → n ≡ capped n
 unfolding capped
 capped_within n h = rw (le-ltb place_count n h)
@@ -38,6 +33,10 @@ capped_cases n P f g = go (ltb place_count n) (below place_count n)
     go : (b : Bool) → Below place_count n b → P (pick b place_count n)
     go true (under h) = f h
     go false (over h) = g h
+
+-- it is the lesser of the two
+pub capped_min : (n : ℕ) → min n place_count ≡ capped n
+capped_min n = capped_cases n (λ c. min n place_count ≡ c) (λ h. omega arith) (λ h. omega arith)
 
 -- what is capped is never above it
 pub capped_low : (n : ℕ) → capped n ≤ place_count

@@ -31,7 +31,7 @@ fn sees(t: &[u32], u: User, e: Entity) -> bool
     ensures { result ≡ seeing (tables_of t.now) e.0 u.0 }
 {
     let v = tables::device(t, u);
-    if v.0 == 0 {
+    if v == Entity::NONE {
         return false;
     }
     rows::holds(t, v, e)
@@ -42,14 +42,12 @@ pub fn holder(t: &[u32], e: Entity) -> Entity
     requires { (length t.now ≡ word_count) × WellFormed (tables_of t.now) × (1 ≤ e.0) }
     ensures { result.0 ≡ parent_in (tables_of t.now) e.0 }
 {
-    let mut i: u32 = 0;
-    while i < size::ENTITIES {
+    for i in 0..size::ENTITIES {
         if contains(t, Entity(i + 1), e) {
             return Entity(i + 1);
         }
-        i += 1;
     }
-    Entity(0)
+    Entity::NONE
 }
 
 // Whether some screen shows entity e. What nobody is on shows nothing, so the users lead to all that show something.
@@ -57,12 +55,10 @@ pub fn on_screen(t: &[u32], e: Entity) -> bool
     requires { (length t.now ≡ word_count) × WellFormed (tables_of t.now) × (1 ≤ e.0) }
     ensures { result ≡ on_screen (tables_of t.now) e.0 }
 {
-    let mut i: u32 = 0;
-    while i < size::USERS {
+    for i in 0..size::USERS {
         if sees(t, User(i + 1), e) {
             return true;
         }
-        i += 1;
     }
     false
 }
@@ -73,16 +69,14 @@ fn inside(t: &[u32], c: Entity, e: Entity) -> bool
     ensures { result ≡ climb (parent_in (tables_of t.now)) (suc entity_count) c.0 e.0 }
 {
     let mut y = c;
-    let mut i: u32 = 0;
-    while i < size::PAST_ENTITIES {
-        if y.0 == e.0 {
+    for i in 0..size::PAST_ENTITIES {
+        if y == e {
             return true;
         }
         y = holder(t, y);
-        if y.0 == 0 {
+        if y == Entity::NONE {
             return false;
         }
-        i += 1;
     }
     false
 }
@@ -93,7 +87,7 @@ pub fn is_inside(t: &[u32], c: Entity, e: Entity) -> bool
     ensures { result ≡ climb (parent_in (tables_of t.now)) (suc entity_count) c.0 e.0 }
 {
     if tables::used(t, e) == 0 {
-        return c.0 == e.0;
+        return c == e;
     }
     inside(t, c, e)
 }

@@ -1,9 +1,9 @@
 -- Lists that are joined climb as many steps as both together, and `up` asks whether nothing is left after its steps.
 use Rattle.std.specs.Prelude.{Bool, ◌&&◌, List, ◌≢◌, ◌≡◌, eqb, ltb, get_or, length, set}
 use Rattle.std.proofs.Math.Bool.{false, true}
-use Rattle.std.proofs.Common.{◌∙◌, ap, sym, length-set, get_or-set_other, get_or-set_same, eq-eqb, eqb-true}
+use Rattle.std.proofs.Common.{◌∙◌, add-one, ap, pow-suc, sym, length-set, get_or-set_other, get_or-set_same, eq-eqb, eqb-true}
 use Rattle.std.proofs.Math.Path.{refl}
-use Prim.Native.Nat.{◌+◌, ◌<◌, ◌≤◌, suc, zero, ℕ}
+use Prim.Native.Nat.{◌+◌, ◌-◌, ◌^◌, ◌<◌, ◌≤◌, suc, zero, ℕ}
 use native.Mathlib.Omega.{arith}
 use Rattle.std.proofs.Math.Dec.{T}
 use Rattle.std.proofs.Math.ListN.{get_or-eq_default}
@@ -13,6 +13,7 @@ use Rattle.model.specs.Basics.Choice.{Below, Same, below, it, other, over, pick,
 use Rattle.model.specs.Basics.TestLaws.{equal_bools, every_same, holds_true, is_true}
 use Rattle.model.specs.Basics.Tests.{every}
 use Rattle.model.specs.State.Climb.{up}
+use Rattle.model.specs.State.ClimbLaws.{complete, sound}
 use Rattle.model.specs.Tables.Words.{entity_count}
 use Rattle.state.specs.Holders.{Low, entity_numbers}
 use Rattle.state.specs.Jumps.{Climbed, Jumped, all_end, ends_after, steps}
@@ -90,6 +91,17 @@ module _ (a b : List ℕ) where
   pub jumped_end : (i n : ℕ) (r : Bool) (d : List ℕ) → i ≤ n → n ≤ i → Jumped a b i r d → Jumped a b n r d
   jumped_end i n r d l m j = let e : n ≡ i = omega arith in rw e j
 
+-- ---- rounds, each of which ends four times as far up as the one before it
+
+-- it begins by a step at least
+pub far : (i : ℕ) → 1 ≤ 4 ^ i
+far zero = omega arith
+far (suc i) = omega (arith, pow-suc 4 i, far i)
+
+-- and climbs so far
+pub round_on : (i : ℕ) → (4 ^ i + 4 ^ i) + (4 ^ i + 4 ^ i) ≡ 4 ^ (i + 1)
+round_on i = rw add-one (omega (arith, pow-suc 4 i))
+
 -- ---- lists that climb
 
 module _ (h : List ℕ) (low : Low h) where
@@ -119,6 +131,32 @@ module _ (h : List ℕ) (low : Low h) where
   pub climbed_twice : (n : ℕ) (a : List ℕ) (r : Bool) (d : List ℕ) → Climbed h n a → Jumped a a entity_numbers r d → Climbed h (n + n) d
   climbed_twice n a r d c j = climbed_on n n a a r d c c j
 
+  -- a stands in x
+  abbrev Under : ℕ → ℕ → Type 0
+  Under x a = (get_or h a 0 ≡ x) × (1 ≤ x)
+
+  -- ways that end at all do so within the steps that `up` goes: one that goes farther passes an entity twice, and never ends
+  ended : (n : ℕ) → 1 ≤ n → ((x : ℕ) → x < entity_numbers → steps (λ y. get_or h y 0) n x ≡ 0) → (a : ℕ) → T (up (λ y. get_or h y 0) entity_numbers a)
+  unfolding steps
+  ended n l left = complete entity_count Under (λ y. get_or h y 0) top holds one range
+      (λ a i. sound entity_count Under (λ y. get_or h y 0) top holds one range n a (go a (ltb a entity_numbers) (below a entity_numbers)) i)
+    where
+      top : (a : ℕ) → get_or h a 0 ≡ 0 → (x : ℕ) → Under x a → ⊥
+      top a z x u = omega (arith, z, u.0, u.1)
+
+      holds : (a : ℕ) → get_or h a 0 ≢ 0 → Under (get_or h a 0) a
+      holds a z = (refl, omega (arith, z))
+
+      one : (a x y : ℕ) → Under x a → Under y a → x ≡ y
+      one a x y u v = sym u.0 ∙ v.0
+
+      range : (x a : ℕ) → Under x a → (1 ≤ x) × (x ≤ entity_count)
+      range x a u = (u.1, omega (arith, u.0, low.1 a))
+
+      go : (a : ℕ) (b : Bool) → Below a entity_numbers b → T (up (λ y. get_or h y 0) n a)
+      go a true (under k) = up_within (λ y. get_or h y 0) n n a l (omega arith) (left a k)
+      go a false (over k) = up_within (λ y. get_or h y 0) n 1 a (omega arith) l (get_or-eq_default h 0 {n = a} (omega (arith, low.0)))
+
   module _ (n : ℕ) (a b : List ℕ) (r : Bool) (d : List ℕ) (c : Climbed h n d) (j : Jumped a b entity_numbers r d) where
     -- the answer is whether nothing is left of any way
     climbed_none : r ≡ every entity_numbers (λ x. eqb (steps (λ y. get_or h y 0) n x) 0)
@@ -126,19 +164,24 @@ module _ (h : List ℕ) (low : Low h) where
         (λ x l. ap (λ (v : ℕ). eqb v 0) (sym (j.at x l) ∙ c.at x (omega arith)))
 
     -- then every way ends
-    pub climbed_ends : 1 ≤ n → n ≤ entity_numbers → r ≡ true → true ≡ all_end h
-    climbed_ends l m t = sym (holds_true _ (every_of entity_count (ends_after h)
-        (λ x k. up_within (λ y. get_or h y 0) entity_numbers n (suc x) l m
-        (eqb-true _ 0 (holds_true _ (every_at entity_numbers (λ x. eqb (steps (λ y. get_or h y 0) n x) 0)
-        (is_true _ (sym climbed_none ∙ t)) (suc x) (omega arith)))))))
+    pub climbed_ends : 1 ≤ n → r ≡ true → true ≡ all_end h
+    climbed_ends l t = sym (holds_true _ (every_of entity_count (ends_after h) (λ x k. ended n l left (suc x))))
+      where
+        left : (x : ℕ) → x < entity_numbers → steps (λ y. get_or h y 0) n x ≡ 0
+        left x k = eqb-true _ 0 (holds_true _ (every_at entity_numbers (λ x. eqb (steps (λ y. get_or h y 0) n x) 0) (is_true _ (sym climbed_none ∙ t)) x k))
 
     -- and after as many steps as `up` goes, only then
-    pub climbed_all : get_or h 0 0 ≡ 0 → n ≡ entity_numbers → r ≡ all_end h
+    pub climbed_all : get_or h 0 0 ≡ 0 → entity_numbers ≤ n → r ≡ all_end h
     climbed_all o q = equal_bools r (all_end h)
-        (λ t. is_true _ (sym (climbed_ends (omega arith) (omega arith) (holds_true r t))))
+        (λ t. is_true _ (sym (climbed_ends (omega arith) (holds_true r t))))
         (λ t. is_true r (climbed_none ∙ holds_true _ (every_of entity_numbers (λ x. eqb (steps (λ y. get_or h y 0) n x) 0)
         (λ x l. is_true _ (eq-eqb _ 0 (left t x l))))))
       where
         left : T (all_end h) → (x : ℕ) → x < entity_numbers → steps (λ y. get_or h y 0) n x ≡ 0
         left t zero l = steps_none (λ y. get_or h y 0) o n
-        left t (suc x) l = rw q (up_steps (λ y. get_or h y 0) o entity_numbers (suc x) (every_at entity_count (ends_after h) t x (omega arith)))
+        left t (suc x) l =
+            let e : n ≡ entity_numbers + (n - entity_numbers) = omega arith in
+            let z : steps (λ y. get_or h y 0) entity_numbers (suc x) ≡ 0 =
+            up_steps (λ y. get_or h y 0) o entity_numbers (suc x) (every_at entity_count (ends_after h) t x (omega arith)) in
+            rw e (steps_on (λ y. get_or h y 0) entity_numbers (n - entity_numbers) (suc x)
+            ∙ ap (steps (λ y. get_or h y 0) (n - entity_numbers)) z ∙ steps_none (λ y. get_or h y 0) o (n - entity_numbers))

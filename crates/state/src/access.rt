@@ -56,14 +56,7 @@ fn triple_unlike(t: &[u32], e: Entity, n: u32, x: u32) -> bool
     requires { EntityIn t.now e.0 × (n ≤ place_count) }
     ensures { result ≡ every n (λ j. not (eqb (triples (tables_of t.now) e.0 j) x)) }
 {
-    let mut j: u32 = 0;
-    while j < n {
-        if !triple_other(t, e, x, j) {
-            return false;
-        }
-        j += 1;
-    }
-    true
+    (0..n).all(|j| triple_other(t, e, x, j))
 }
 
 // Whether triple i of entity e is zero and so is the next one, or it names what it may and is none of those before it.
@@ -89,12 +82,5 @@ pub fn triples_fine(t: &[u32], e: Entity) -> bool
     requires { EntityIn t.now e.0 }
     ensures { result ≡ every place_count (triple_new (triples (tables_of t.now) e.0)) }
 {
-    let mut i: u32 = 0;
-    while i < size::TRIPLES {
-        if !triple_fine(t, e, i) {
-            return false;
-        }
-        i += 1;
-    }
-    true
+    (0..size::TRIPLES).all(|i| triple_fine(t, e, i))
 }

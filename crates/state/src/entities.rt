@@ -1,9 +1,7 @@
 // The records of the entities, each by itself, what stands in their places, and screens that nobody is on; and the one pass over all of them, which notes
 // what stands in what and asks what is secure on the way.
 ghost use Rattle.std.specs.Prelude.{◌≡◌, not, true, ◌*◌, ◌+◌, ◌-◌, ◌<◌, ◌≤◌, eqb, length};
-ghost use Rattle.model.specs.Basics.Choice.{pick};
 ghost use Rattle.model.specs.Basics.Tests.{every};
-ghost use Rattle.model.specs.Request.Refusals as refusal;
 ghost use Rattle.model.specs.State.Tests.{shape_test};
 ghost use Rattle.model.specs.Tables.Layout.{entity_width, tables_of, word_count};
 ghost use Rattle.model.specs.Tables.WordAt.{entity_word_at};
@@ -14,7 +12,8 @@ ghost use Rattle.state.specs.Passes.{Counted, bare, entity_blank, holding_test, 
 ghost use Rattle.tables.specs.Singles.{EntityIn};
 
 use crate::{access, tree};
-use names::{kind, range, refusal, size, types, word};
+use names::refusal::Refusal;
+use names::{kind, range, size, types, word};
 use tables::Entity;
 
 // An object has nothing in the words from the releaser to the last that is shown.
@@ -25,7 +24,7 @@ fn word_zero(t: &[u32], e: Entity, f: usize) -> bool
     requires { EntityIn t.now e.0 × (f < entity_width) }
     ensures { result ≡ eqb ((tables_of t.now).entity e.0 (entity_word_at f)) 0 }
 {
-    tables::entity_at(t, e, f) == 0
+    tables::word_at(t, e, f) == 0
 }
 
 // Whether all words of entity e are zero.
@@ -34,10 +33,8 @@ fn entity_blank(t: &[u32], e: Entity) -> bool
     ensures { result ≡ entity_blank (tables_of t.now) e.0 }
 {
     let mut blank = true;
-    let mut f: usize = 0;
-    while f < size::ENTITY_WORDS {
+    for f in 0..size::ENTITY_WORDS {
         blank = word_zero(t, e, f) & blank;
-        f += 1;
     }
     blank
 }
@@ -107,14 +104,7 @@ fn places_fine(t: &[u32], e: Entity, shows: bool, n: u32) -> bool
     requires { EntityIn t.now e.0 × Counted (tables_of t.now) e.0 n shows }
     ensures { result ≡ every place_count (place_test (tables_of t.now) e.0) }
 {
-    let mut i: u32 = 0;
-    while i < size::PLACES {
-        if !place_fine(t, e, shows, n, i) {
-            return false;
-        }
-        i += 1;
-    }
-    true
+    (0..size::PLACES).all(|i| place_fine(t, e, shows, n, i))
 }
 
 // Whether place j of entity e holds another than x.
@@ -134,14 +124,7 @@ fn place_new(t: &[u32], e: Entity, i: u32) -> bool
     if x == 0 {
         return true;
     }
-    let mut j: u32 = 0;
-    while j < i {
-        if !place_other(t, e, x, j) {
-            return false;
-        }
-        j += 1;
-    }
-    true
+    (0..i).all(|j| place_other(t, e, x, j))
 }
 
 // Whether the n places that entity e uses are distinct, where each is in order by itself. All places are looked at, since a loop that always
@@ -154,14 +137,7 @@ fn places_new(t: &[u32], e: Entity, n: u32) -> bool
     if n <= 1 {
         return true;
     }
-    let mut i: u32 = 0;
-    while i < size::PLACES {
-        if !place_new(t, e, i) {
-            return false;
-        }
-        i += 1;
-    }
-    true
+    (0..size::PLACES).all(|i| place_new(t, e, i))
 }
 
 // Whether the words of entity e from the releaser to the last that is shown are zero.
@@ -170,10 +146,8 @@ fn is_bare(t: &[u32], e: Entity) -> bool
     ensures { result ≡ bare (tables_of t.now) e.0 }
 {
     let mut blank = true;
-    let mut f: usize = 0;
-    while f < BARE_WORDS {
+    for f in 0..BARE_WORDS {
         blank = word_zero(t, e, word::RELEASER + f) & blank;
-        f += 1;
     }
     blank
 }
@@ -238,51 +212,33 @@ fn entity_fine(t: &[u32], e: Entity) -> bool
     present_fine(t, e, k)
 }
 
-// The judgement of entity e by itself: whether it is in order, what stands in it being noted in h, and whether it is secure. What is absent holds nothing.
-fn entity_judged(t: &[u32], h: &mut [u32; size::ENTITY_NUMBERS], e: Entity) -> u32
+// Whether entity e is secure; what stands in it is noted in h. It is refused where it is not in order, or where something in it is noted already.
+// What is absent holds nothing.
+fn entity_judged(t: &[u32], h: &mut [u32; size::ENTITY_NUMBERS], e: Entity) -> Result<bool, Refusal>
     requires { EntityIn t.now e.0 × Noted (tables_of t.now) ((e.0 - 1) * place_count) h.old }
     ensures { Judging (tables_of t.now) e.0 result h.new }
 {
     if !entity_fine(t, e) {
-        return refusal::NOT_WELL_FORMED;
+        return Err(Refusal::NotWellFormed);
     }
     if tables::kind(t, e) == kind::ABSENT {
-        return refusal::ACCEPTED;
+        return Ok(true);
     }
     if !tree::note_row(t, h, e) {
-        return refusal::NOT_WELL_FORMED;
+        return Err(Refusal::NotWellFormed);
     }
-    if !secure::entity_secure(t, e) {
-        return refusal::NOT_SECURE;
-    }
-    refusal::ACCEPTED
+    Ok(secure::entity_secure(t, e))
 }
 
-// The answer r, or x where x is a refusal.
-fn worse(r: u32, x: u32) -> u32
-    ensures { result ≡ pick (eqb x refusal.accepted) r x }
-{
-    if x == refusal::ACCEPTED {
-        return r;
-    }
-    x
-}
-
-// The judgement of every entity, in one pass. It stops where the tables are not well-formed; that they are not secure is answered only at its end, since
+// Whether every entity is secure, in one pass. It stops where the tables are not well-formed; that they are not secure is answered only at its end, since
 // the refusal of tables that are not well-formed comes first.
-pub fn entities_judged(t: &[u32], h: &mut [u32; size::ENTITY_NUMBERS]) -> u32
+pub fn entities_judged(t: &[u32], h: &mut [u32; size::ENTITY_NUMBERS]) -> Result<bool, Refusal>
     requires { (length t.now ≡ word_count) × Noted (tables_of t.now) 0 h.old }
     ensures { JudgingAll (tables_of t.now) result h.new }
 {
-    let mut r: u32 = refusal::ACCEPTED;
-    let mut i: u32 = 0;
-    while i < size::ENTITIES {
-        let x = entity_judged(t, h, Entity(i + 1));
-        if x == refusal::NOT_WELL_FORMED {
-            return x;
-        }
-        r = worse(r, x);
-        i += 1;
+    let mut kept = true;
+    for i in 0..size::ENTITIES {
+        kept &= entity_judged(t, h, Entity(i + 1))?;
     }
-    r
+    Ok(kept)
 }

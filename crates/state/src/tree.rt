@@ -11,6 +11,9 @@ ghost use Rattle.tables.specs.Singles.{EntityIn};
 use names::{kind, size};
 use tables::Entity;
 
+// How many rounds the climb has: each ends four times as far up as the one before it, and the jump after the last farther than there are entities.
+const ROUNDS: u32 = 3;
+
 // Notes in h what stands in the places of entity c, which is in order by itself, if it is a container. Returns false where some of it is noted already:
 // the tables are amiss then.
 pub fn note_row(t: &[u32], h: &mut [u32; size::ENTITY_NUMBERS], c: Entity) -> bool
@@ -21,62 +24,44 @@ pub fn note_row(t: &[u32], h: &mut [u32; size::ENTITY_NUMBERS], c: Entity) -> bo
         return true;
     }
     let n = tables::used(t, c);
-    let mut i: u32 = 0;
-    while i < n {
+    for i in 0..n {
         let x = tables::place(t, c, i).0;
         if h[x as usize] != 0 {
             return false;
         }
         h[x as usize] = c.0;
-        i += 1;
     }
     true
 }
 
-// Sets d[i] = b[a[i]] for every i. Returns whether all are 0.
-fn jump(
-    a: &[u32; size::ENTITY_NUMBERS],
-    b: &[u32; size::ENTITY_NUMBERS],
-    d: &mut [u32; size::ENTITY_NUMBERS],
-) -> bool
-    requires { Low a.now × Low b.now × (length d.old ≡ entity_numbers) }
-    ensures { Jumped a.now b.now entity_numbers result d.new }
+// Sets d[i] = a[a[i]] for every i. Returns whether all are 0.
+fn jump(a: &[u32; size::ENTITY_NUMBERS], d: &mut [u32; size::ENTITY_NUMBERS]) -> bool
+    requires { Low a.now × (length d.old ≡ entity_numbers) }
+    ensures { Jumped a.now a.now entity_numbers result d.new }
 {
     let mut none = true;
-    let mut i: usize = 0;
-    while i < size::ENTITY_NUMBERS {
-        let y = b[a[i] as usize];
+    for i in 0..size::ENTITY_NUMBERS {
+        let y = a[a[i] as usize];
         d[i] = y;
         none = (y == 0) & none;
-        i += 1;
     }
     none
 }
 
-// Whether the way up from every entity ends. All of them climb at once, each time twice as far, so that no branch waits for how deep one lies.
-pub fn all_end(h: &[u32; size::ENTITY_NUMBERS]) -> bool
-    requires { Low h.now × (get_or h.now 0 0 ≡ 0) }
-    ensures { result ≡ all_end h.now }
+// Whether the way up from every entity ends. All of them climb at once, each time twice as far, so that no branch waits for how deep one lies. The list h
+// and one beside it take turns and are used up, since what climbs twice as far needs no more than the list before it.
+pub fn all_end(h: &mut [u32; size::ENTITY_NUMBERS]) -> bool
+    requires { Low h.old × (get_or h.old 0 0 ≡ 0) }
+    ensures { result ≡ all_end h.old }
 {
     let mut a = [0u32; size::ENTITY_NUMBERS];
-    if jump(h, h, &mut a) {
-        return true;
+    for _round in 0..ROUNDS {
+        if jump(h, &mut a) {
+            return true;
+        }
+        if jump(&a, h) {
+            return true;
+        }
     }
-    let mut b = [0u32; size::ENTITY_NUMBERS];
-    if jump(&a, &a, &mut b) {
-        return true;
-    }
-    if jump(&b, &b, &mut a) {
-        return true;
-    }
-    if jump(&a, &a, &mut b) {
-        return true;
-    }
-    if jump(&b, &b, &mut a) {
-        return true;
-    }
-    if jump(&a, &a, &mut b) {
-        return true;
-    }
-    jump(&b, h, &mut a)
+    jump(h, &mut a)
 }

@@ -16,7 +16,7 @@ fn word_zero(t: &[u32], u: User, f: usize) -> bool
     requires { UserIn t.now u.0 × (f < user_width) }
     ensures { result ≡ eqb ((tables_of t.now).user u.0 (user_word_at f)) 0 }
 {
-    tables::user_at(t, u, f) == 0
+    tables::word_at(t, u, f) == 0
 }
 
 // Whether all words of user u are zero.
@@ -25,10 +25,8 @@ fn user_blank(t: &[u32], u: User) -> bool
     ensures { result ≡ user_blank (tables_of t.now) u.0 }
 {
     let mut blank = true;
-    let mut f: usize = 0;
-    while f < size::USER_WORDS {
+    for f in 0..size::USER_WORDS {
         blank = word_zero(t, u, f) & blank;
-        f += 1;
     }
     blank
 }
@@ -39,10 +37,8 @@ fn spares_zero(t: &[u32], u: User) -> bool
     ensures { result ≡ every spare_count (λ i. eqb ((tables_of t.now).user u.0 (spare i)) 0) }
 {
     let mut blank = true;
-    let mut f: usize = 0;
-    while f < size::SPARES {
+    for f in 0..size::SPARES {
         blank = word_zero(t, u, word::USER_SPARES + f) & blank;
-        f += 1;
     }
     blank
 }
@@ -100,14 +96,7 @@ pub fn users_fine(t: &[u32]) -> bool
     requires { length t.now ≡ word_count }
     ensures { result ≡ every user_count (λ u. user_test ((tables_of t.now).user (suc u))) }
 {
-    let mut i: u32 = 0;
-    while i < size::USERS {
-        if !user_fine(t, User(i + 1)) {
-            return false;
-        }
-        i += 1;
-    }
-    true
+    (0..size::USERS).all(|i| user_fine(t, User(i + 1)))
 }
 
 // Whether user u is off, or on a device on which no user of a lower number is.
@@ -131,12 +120,5 @@ pub fn devices_fine(t: &[u32]) -> bool
     requires { length t.now ≡ word_count }
     ensures { result ≡ every user_count (λ u. on_device (tables_of t.now) (suc u)) }
 {
-    let mut i: u32 = 0;
-    while i < size::USERS {
-        if !device_fine(t, User(i + 1)) {
-            return false;
-        }
-        i += 1;
-    }
-    true
+    (0..size::USERS).all(|i| device_fine(t, User(i + 1)))
 }

@@ -1,23 +1,22 @@
 -- The first rungs: 1 by the request's length, 1 to 3 by the state check, 4 the requester, 5 the form, 6 whether the requester is on a device; and the
 -- step's own ends.
-use Rattle.std.specs.Prelude.{Bool, ◌&&◌, ◌||◌, false, true, List, ◌≢◌, ◌≡◌, refl, ◌<◌, ◌≤◌, suc, ℕ, T, length}
+use Rattle.std.specs.Prelude.{Bool, ◌&&◌, false, true, List, ◌≢◌, ◌≡◌, refl, ℕ, T, length}
 use Rattle.std.proofs.Math.Bool.{not}
-use Rattle.std.proofs.Math.Option.{Option, none, some}
-use Rattle.std.proofs.Common.{◌∙◌, arith, eqb→eq, lit<, lit≤}
+use Rattle.std.proofs.Math.Option.{none}
+use Rattle.std.proofs.Common.{◌∙◌, arith, lit<, lit≤}
 use Rattle.std.proofs.Math.Path.{ap, sym}
 use Rattle.std.proofs.Math.Dec.{eqb, leb}
 use borrow.Author.Tests.{leb-true}
 use Rattle.ladder.specs.ClimbLaws.{good_passed, passed_hit, passed_more}
+use Rattle.ladder.specs.DispatchLaws.{fits_named, named_as, none_meant}
 use Rattle.ladder.specs.Contract.{Judged, Passed, PastLogon, PastRequester, Ready, Stepped}
 use Rattle.laws.specs.Bools.{and_l, and_r}
-use Rattle.model.specs.Basics.Agree.{agrees_eq, agrees_not, every_at}
-use Rattle.model.specs.Basics.Tests.{every}
+use Rattle.model.specs.Basics.Agree.{agrees_eq, agrees_not}
 use Rattle.model.specs.Request.After.{noticed_op}
 use Rattle.model.proofs.Request.AfterLaws.{after_unchanged}
 use Rattle.model.specs.Request.Ladder.{applies, fits, ladder, never, not_logged_on, not_understood, of_op, rung_at, unknown_user}
 use Rattle.model.specs.Request.LadderLaws.{of_op_some}
-use Rattle.model.proofs.Request.OperationLaws.{number_range, op_of_number}
-use Rattle.model.specs.Request.Operations.{Op, number_of, op_of, open_logged_off, operations, to_acknowledge, to_login, with_number}
+use Rattle.model.specs.Request.Operations.{number_of, op_of, open_logged_off}
 use Rattle.model.specs.Request.Refusals as refusal
 use Rattle.model.specs.Request.Step.{after_of, sized}
 use Rattle.model.specs.Request.Words.{Request, request_of, request_words}
@@ -25,11 +24,15 @@ use Rattle.model.specs.State.AgreeSecure.{check_agrees}
 use Rattle.model.specs.State.Check.{check}
 use Rattle.model.specs.State.Secure.{Good}
 use Rattle.model.specs.Tables.Layout.{tables_of, word_count}
-use Rattle.model.specs.Tables.Words.{device, operation_count, present, user_count}
+use Rattle.model.specs.Tables.Words.{device, present, user_count}
 use Rattle.model.specs.Tables.WordsOfLaws.{tables_of_injective}
 use Rattle.model.proofs.Theorem.Steps.{after_of_length, after_of_tables, answer_of_sized, check_refuses, sized_agrees, unsized}
+use Rattle.names.specs.Operations.{meant}
+use Rattle.names.specs.RefusalLaws.{refusal_some}
+use Rattle.names.specs.Refusals as told
+use Rattle.names.specs.declared.op.Op.{Op}
+use Rattle.names.specs.declared.refusal.Refusal.{Refusal}
 use Rattle.step.specs.Contract.{Checked, Settled}
-use Rattle.step.specs.DispatchLaws.{understood}
 use Rattle.tables.specs.Singles.{known}
 
 -- ---- rung 4
@@ -62,15 +65,32 @@ module _ (t q : List ℕ) (r : Ready t q) (n : ℕ) (e : n ≡ (request_of q).us
 
 -- ---- rungs 5 and 6
 
--- login and acknowledge alone want no device
-abbrev pub wants_device : ℕ → Bool
-wants_device op = not (eqb op (number_of to_login) || eqb op (number_of to_acknowledge))
+-- a number that is no operation's
+pub unnamed : (t q : List ℕ) (u : ℕ) → PastRequester t q u → op_of (request_of q).operation ≡ none → Judged t q refusal.bad_request t
+unfolding applies rung_at never ladder not_understood
+unnamed t q u k e = record {
+  answer = passed_hit (tables_of t) (request_of q) refusal.unknown_requester k.passed (ap not (sym (none_meant (λ o. fits o (request_of q)) (request_of q) e)));
+  tables = refl;
+}
 
-module _ (t q : List ℕ) (u : ℕ) (k : PastRequester t q u) where
-  module _ (b : Bool) (h : b ≡ of_op (request_of q) (λ o. fits o (request_of q))) where
+-- a request that fits no operation
+pub unfit : (t q : List ℕ) (u : ℕ) → PastRequester t q u → of_op (request_of q) (λ o. fits o (request_of q)) ≡ false → Judged t q refusal.bad_request t
+unfolding applies rung_at never ladder not_understood
+unfit t q u k e = record {
+  answer = passed_hit (tables_of t) (request_of q) refusal.unknown_requester k.passed (ap not e);
+  tables = refl;
+}
+
+-- login and acknowledge alone want no device
+abbrev pub wants_device : Op → Bool
+wants_device o = not (open_logged_off (meant o))
+
+-- the number of operation o; b says whether the request has its form
+module _ (t q : List ℕ) (u : ℕ) (k : PastRequester t q u) (o : Op) (e : (request_of q).operation ≡ number_of (meant o)) where
+  module _ (b : Bool) (h : b ≡ fits (meant o) (request_of q)) where
     form_is : applies refusal.bad_request (tables_of t) (request_of q) ≡ not b
     unfolding applies rung_at never ladder not_understood
-    form_is = ap not (sym h)
+    form_is = ap not (sym (h ∙ fits_named (request_of q) (meant o) e))
 
     -- the request has not the form that its operation asks
     pub misshapen : b ≡ false → Judged t q refusal.bad_request t
@@ -79,27 +99,22 @@ module _ (t q : List ℕ) (u : ℕ) (k : PastRequester t q u) where
       tables = refl;
     }
 
-    module _ (z : b ≡ true) (op v : ℕ) (e : (request_of q).operation ≡ op) (hv : v ≡ (tables_of t).user u device) where
+    module _ (z : b ≡ true) (v : ℕ) (hv : v ≡ (tables_of t).user u device) where
       fifth : Passed refusal.bad_request (tables_of t) (request_of q)
       fifth = passed_more (tables_of t) (request_of q) refusal.unknown_requester k.passed (form_is ∙ ap not z)
 
-      operation : (o : Op) × (op_of (request_of q).operation ≡ some o)
-      operation = understood (tables_of t) (request_of q) fifth
-
-      number_is : number_of operation.0 ≡ op
-      number_is = op_of_number (request_of q).operation operation.0 operation.1 ∙ e
-
-      on_is : applies refusal.not_logged_on (tables_of t) (request_of q) ≡ (wants_device op && eqb v 0)
+      on_is : applies refusal.not_logged_on (tables_of t) (request_of q) ≡ (wants_device o && eqb v 0)
       unfolding applies rung_at never ladder not_logged_on
-      on_is = of_op_some (request_of q) operation.0 operation.1 (λ o. not (open_logged_off o) && eqb ((tables_of t).user (request_of q).user device) 0)
-          ∙ rw (number_is, k.user, ← hv)
+      on_is = of_op_some (request_of q) (meant o) (named_as (request_of q) (meant o) e)
+          (λ o. not (open_logged_off o) && eqb ((tables_of t).user (request_of q).user device) 0)
+          ∙ rw (k.user, ← hv)
 
       -- the requester is off, and the operation wants a device
-      pub off : (wants_device op && eqb v 0) ≡ true → Judged t q refusal.not_logged_on t
+      pub off : (wants_device o && eqb v 0) ≡ true → Judged t q refusal.not_logged_on t
       off w = record { answer = passed_hit (tables_of t) (request_of q) refusal.bad_request fifth (on_is ∙ w); tables = refl }
 
       -- else the ladder is passed up to rung 6
-      pub on : (wants_device op && eqb v 0) ≡ false → PastLogon t q u
+      pub on : (wants_device o && eqb v 0) ≡ false → PastLogon t q u
       on w = record {
         ready = k.ready;
         user = k.user;
@@ -111,23 +126,14 @@ module _ (t q : List ℕ) (u : ℕ) (k : PastRequester t q u) where
 -- ---- the operation that a notice keeps
 
 -- of the number of an operation it is that number
-noticed_low : (n : ℕ) → n < suc operation_count → n ≡ elim (op_of n) [ none ↦ 0 | some o ↦ number_of o ]
-unfolding every op_of with_number operations
-noticed_low n h = eqb→eq n (elim (op_of n) [ none ↦ 0 | some o ↦ number_of o ])
-    (every_at (suc operation_count) (λ i. eqb i (elim (op_of i) [ none ↦ 0 | some o ↦ number_of o ])) tt n h)
-
-pub noticed_up : (q : Request) (op : ℕ) → q.operation ≡ op → op ≤ operation_count → op ≡ noticed_op q
+pub noticed_as : (q : Request) (o : Op) → q.operation ≡ number_of (meant o) → number_of (meant o) ≡ noticed_op q
 unfolding noticed_op
-noticed_up q op e h = noticed_low op (omega arith) ∙ ap (λ (n : ℕ). elim (op_of n) [ none ↦ 0 | some o ↦ number_of o ]) (sym e)
+noticed_as q o e = rw (named_as q (meant o) e, noticed_op)
 
 -- of any other it is 0
-pub noticed_none : (q : Request) (op : ℕ) → q.operation ≡ op → operation_count < op → 0 ≡ noticed_op q
+pub noticed_none : (q : Request) → op_of q.operation ≡ none → 0 ≡ noticed_op q
 unfolding noticed_op
-noticed_none q op e h = go (op_of q.operation) refl
-  where
-    go : (m : Option Op) → op_of q.operation ≡ m → ◌≡◌ {A = ℕ} 0 (elim m [ none ↦ 0 | some o ↦ number_of o ])
-    go none z = refl
-    go (some o) z = absurd (omega (arith, op_of_number q.operation o z, number_range o))
+noticed_none q e = rw (e, noticed_op)
 
 -- ---- the step's ends
 
@@ -161,3 +167,7 @@ module _ (t q : List ℕ) (c : ℕ) (k : Checked t q c) where
       answer = s.answer ∙ sym (answer_of_sized t q whole);
       words = tables_of_injective n (after_of t q) (l ∙ passed.0) (after_of_length t q ∙ passed.0) (s.tables ∙ sym (after_of_tables t q whole));
     }
+
+-- the same of the refusal that the check has told
+pub checked_refused : (t q : List ℕ) (r : Refusal) → Checked t q (told.number_of r) → Settled t q (told.number_of r) t
+checked_refused t q r k = checked_settled t q (told.number_of r) k (λ e. omega (arith, refusal_some r))

@@ -5,36 +5,20 @@ ghost use Rattle.model.specs.Tables.Kinds.{screen, terminal};
 ghost use Rattle.model.specs.Tables.Layout.{entity_width, tables_of, word_count};
 ghost use Rattle.model.specs.Tables.WordAt.{entity_word_at};
 ghost use Rattle.model.specs.Tables.Words.{kind, level, mark, maximum, place, place_count, releaser, shown, triple, type, used, value};
-ghost use Rattle.tables.specs.Singles.{EntityIn, entity_single, row_count, row_word, single_count};
+ghost use Rattle.tables.specs.Singles.{EntityIn, row_word};
 
+use crate::records::{has_record, set_single, set_word_at, single, word_at};
 use crate::{Entity, User};
 use levels::Level;
-use names::{row, size, word};
-
-// Word f of entity e, counted from 0: any of the thirty-two.
-pub fn entity_at(t: &[u32], e: Entity, f: usize) -> u32
-    requires { EntityIn t.now e.0 × (f < entity_width) }
-    ensures { result ≡ (tables_of t.now).entity e.0 (entity_word_at f) }
-{
-    let n = e.0 as usize;
-    t[size::ALL_USER_WORDS + (n - 1) * size::ENTITY_WORDS + f]
-}
-
-// Single word f of entity e.
-fn entity_word(t: &[u32], e: Entity, f: usize) -> u32
-    requires { EntityIn t.now e.0 × (f < single_count) }
-    ensures { result ≡ (tables_of t.now).entity e.0 (entity_single f) }
-{
-    let n = e.0 as usize;
-    t[size::ALL_USER_WORDS + (n - 1) * size::ENTITY_WORDS + f]
-}
+use names::row::Row;
+use names::{size, word};
 
 // The kind of entity e; 0 where it is absent.
 pub fn kind(t: &[u32], e: Entity) -> u32
     requires { EntityIn t.now e.0 }
     ensures { result ≡ (tables_of t.now).entity e.0 kind }
 {
-    entity_word(t, e, word::KIND)
+    single(t, e, word::KIND)
 }
 
 // The type of entity e.
@@ -42,7 +26,7 @@ pub fn type_of(t: &[u32], e: Entity) -> u32
     requires { EntityIn t.now e.0 }
     ensures { result ≡ (tables_of t.now).entity e.0 type }
 {
-    entity_word(t, e, word::TYPE)
+    single(t, e, word::TYPE)
 }
 
 // The level of entity e.
@@ -50,7 +34,7 @@ pub fn level(t: &[u32], e: Entity) -> Level
     requires { EntityIn t.now e.0 }
     ensures { result.0 ≡ (tables_of t.now).entity e.0 level }
 {
-    Level(entity_word(t, e, word::LEVEL))
+    Level(single(t, e, word::LEVEL))
 }
 
 // The mark of entity e: 1, or 0.
@@ -58,7 +42,7 @@ pub fn mark(t: &[u32], e: Entity) -> u32
     requires { EntityIn t.now e.0 }
     ensures { result ≡ (tables_of t.now).entity e.0 mark }
 {
-    entity_word(t, e, word::MARK)
+    single(t, e, word::MARK)
 }
 
 // The value of entity e.
@@ -66,7 +50,7 @@ pub fn value(t: &[u32], e: Entity) -> u32
     requires { EntityIn t.now e.0 }
     ensures { result ≡ (tables_of t.now).entity e.0 value }
 {
-    entity_word(t, e, word::VALUE)
+    single(t, e, word::VALUE)
 }
 
 // Who released entity e; user 0 where nobody has.
@@ -74,7 +58,7 @@ pub fn releaser(t: &[u32], e: Entity) -> User
     requires { EntityIn t.now e.0 }
     ensures { result.0 ≡ (tables_of t.now).entity e.0 releaser }
 {
-    User(entity_word(t, e, word::RELEASER))
+    User(single(t, e, word::RELEASER))
 }
 
 // The maximum of entity e.
@@ -82,7 +66,7 @@ pub fn maximum(t: &[u32], e: Entity) -> Level
     requires { EntityIn t.now e.0 }
     ensures { result.0 ≡ (tables_of t.now).entity e.0 maximum }
 {
-    Level(entity_word(t, e, word::MAXIMUM))
+    Level(single(t, e, word::MAXIMUM))
 }
 
 // How many places entity e uses.
@@ -90,15 +74,24 @@ pub fn used(t: &[u32], e: Entity) -> u32
     requires { EntityIn t.now e.0 }
     ensures { result ≡ (tables_of t.now).entity e.0 used }
 {
-    entity_word(t, e, word::USED)
+    single(t, e, word::USED)
+}
+
+// Where word i of row r stands in an entity's record.
+fn in_row(r: Row, i: u32) -> usize
+    requires { i < place_count }
+    ensures inside { result < entity_width }
+    ensures word { entity_word_at result ≡ row_word r i }
+{
+    size::SINGLES + usize::from(r) * size::ROW_WORDS + i as usize
 }
 
 // Word i of row r of entity e.
-pub fn row_word(t: &[u32], e: Entity, r: usize, i: u32) -> u32
-    requires { EntityIn t.now e.0 × (r < row_count) × (i < place_count) }
+pub fn row_word(t: &[u32], e: Entity, r: Row, i: u32) -> u32
+    requires { EntityIn t.now e.0 × (i < place_count) }
     ensures { result ≡ (tables_of t.now).entity e.0 (row_word r i) }
 {
-    entity_at(t, e, size::SINGLES + r * size::ROW_WORDS + i as usize)
+    word_at(t, e, in_row(r, i))
 }
 
 // What stands in place i of entity e, counted from 0.
@@ -106,7 +99,7 @@ pub fn place(t: &[u32], e: Entity, i: u32) -> Entity
     requires { EntityIn t.now e.0 × (i < place_count) }
     ensures { result.0 ≡ (tables_of t.now).entity e.0 (place i) }
 {
-    Entity(row_word(t, e, row::PLACES, i))
+    Entity(row_word(t, e, Row::Places, i))
 }
 
 // What screen e shows of place i.
@@ -114,7 +107,7 @@ pub fn shown(t: &[u32], e: Entity, i: u32) -> u32
     requires { EntityIn t.now e.0 × (i < place_count) }
     ensures { result ≡ (tables_of t.now).entity e.0 (shown i) }
 {
-    row_word(t, e, row::SUMS, i)
+    row_word(t, e, Row::Sums, i)
 }
 
 // Access triple i of entity e.
@@ -122,25 +115,7 @@ pub fn triple(t: &[u32], e: Entity, i: u32) -> u32
     requires { EntityIn t.now e.0 × (i < place_count) }
     ensures { result ≡ (tables_of t.now).entity e.0 (triple i) }
 {
-    row_word(t, e, row::TRIPLES, i)
-}
-
-// Sets word f of entity e, counted from 0, to v, and no other word.
-pub fn set_entity_at(t: &mut [u32], e: Entity, f: usize, v: u32)
-    requires { EntityIn t.old e.0 × (f < entity_width) }
-    ensures { tables_of t.new ≡ on_entity e.0 (word (entity_word_at f) v) (tables_of t.old) }
-{
-    let n = e.0 as usize;
-    t[size::ALL_USER_WORDS + (n - 1) * size::ENTITY_WORDS + f] = v;
-}
-
-// Sets single word f of entity e to v, and no other word.
-fn set_entity_word(t: &mut [u32], e: Entity, f: usize, v: u32)
-    requires { EntityIn t.old e.0 × (f < single_count) }
-    ensures { tables_of t.new ≡ on_entity e.0 (word (entity_single f) v) (tables_of t.old) }
-{
-    let n = e.0 as usize;
-    t[size::ALL_USER_WORDS + (n - 1) * size::ENTITY_WORDS + f] = v;
+    row_word(t, e, Row::Triples, i)
 }
 
 // Sets the kind of entity e to v, and no other word.
@@ -148,7 +123,7 @@ pub fn set_kind(t: &mut [u32], e: Entity, v: u32)
     requires { EntityIn t.old e.0 }
     ensures { tables_of t.new ≡ on_entity e.0 (word kind v) (tables_of t.old) }
 {
-    set_entity_word(t, e, word::KIND, v);
+    set_single(t, e, word::KIND, v);
 }
 
 // Sets the type of entity e to v, and no other word.
@@ -156,7 +131,7 @@ pub fn set_type(t: &mut [u32], e: Entity, v: u32)
     requires { EntityIn t.old e.0 }
     ensures { tables_of t.new ≡ on_entity e.0 (word type v) (tables_of t.old) }
 {
-    set_entity_word(t, e, word::TYPE, v);
+    set_single(t, e, word::TYPE, v);
 }
 
 // Sets the level of entity e to v, and no other word.
@@ -164,7 +139,7 @@ pub fn set_level(t: &mut [u32], e: Entity, v: Level)
     requires { EntityIn t.old e.0 }
     ensures { tables_of t.new ≡ on_entity e.0 (word level v.0) (tables_of t.old) }
 {
-    set_entity_word(t, e, word::LEVEL, v.0);
+    set_single(t, e, word::LEVEL, v.0);
 }
 
 // Sets the mark of entity e to v, and no other word.
@@ -172,7 +147,7 @@ pub fn set_mark(t: &mut [u32], e: Entity, v: u32)
     requires { EntityIn t.old e.0 }
     ensures { tables_of t.new ≡ on_entity e.0 (word mark v) (tables_of t.old) }
 {
-    set_entity_word(t, e, word::MARK, v);
+    set_single(t, e, word::MARK, v);
 }
 
 // Sets the value of entity e to v, and no other word.
@@ -180,7 +155,7 @@ pub fn set_value(t: &mut [u32], e: Entity, v: u32)
     requires { EntityIn t.old e.0 }
     ensures { tables_of t.new ≡ on_entity e.0 (word value v) (tables_of t.old) }
 {
-    set_entity_word(t, e, word::VALUE, v);
+    set_single(t, e, word::VALUE, v);
 }
 
 // Sets the releaser of entity e to v, and no other word.
@@ -188,7 +163,7 @@ pub fn set_releaser(t: &mut [u32], e: Entity, v: User)
     requires { EntityIn t.old e.0 }
     ensures { tables_of t.new ≡ on_entity e.0 (word releaser v.0) (tables_of t.old) }
 {
-    set_entity_word(t, e, word::RELEASER, v.0);
+    set_single(t, e, word::RELEASER, v.0);
 }
 
 // Sets the maximum of entity e to v, and no other word.
@@ -196,7 +171,7 @@ pub fn set_maximum(t: &mut [u32], e: Entity, v: Level)
     requires { EntityIn t.old e.0 }
     ensures { tables_of t.new ≡ on_entity e.0 (word maximum v.0) (tables_of t.old) }
 {
-    set_entity_word(t, e, word::MAXIMUM, v.0);
+    set_single(t, e, word::MAXIMUM, v.0);
 }
 
 // Sets how many places entity e uses to v, and no other word.
@@ -204,15 +179,15 @@ pub fn set_used(t: &mut [u32], e: Entity, v: u32)
     requires { EntityIn t.old e.0 }
     ensures { tables_of t.new ≡ on_entity e.0 (word used v) (tables_of t.old) }
 {
-    set_entity_word(t, e, word::USED, v);
+    set_single(t, e, word::USED, v);
 }
 
 // Sets word i of row r of entity e to v, and no other word.
-pub fn set_row_word(t: &mut [u32], e: Entity, r: usize, i: u32, v: u32)
-    requires { EntityIn t.old e.0 × (r < row_count) × (i < place_count) }
+pub fn set_row_word(t: &mut [u32], e: Entity, r: Row, i: u32, v: u32)
+    requires { EntityIn t.old e.0 × (i < place_count) }
     ensures { tables_of t.new ≡ on_entity e.0 (word (row_word r i) v) (tables_of t.old) }
 {
-    set_entity_at(t, e, size::SINGLES + r * size::ROW_WORDS + i as usize, v);
+    set_word_at(t, e, in_row(r, i), v);
 }
 
 // Puts v in place i of entity e, and changes no other word.
@@ -220,7 +195,7 @@ pub fn set_place(t: &mut [u32], e: Entity, i: u32, v: Entity)
     requires { EntityIn t.old e.0 × (i < place_count) }
     ensures { tables_of t.new ≡ on_entity e.0 (word (place i) v.0) (tables_of t.old) }
 {
-    set_row_word(t, e, row::PLACES, i, v.0);
+    set_row_word(t, e, Row::Places, i, v.0);
 }
 
 // Sets what screen e shows of place i to v, and no other word.
@@ -228,7 +203,7 @@ pub fn set_shown(t: &mut [u32], e: Entity, i: u32, v: u32)
     requires { EntityIn t.old e.0 × (i < place_count) }
     ensures { tables_of t.new ≡ on_entity e.0 (word (shown i) v) (tables_of t.old) }
 {
-    set_row_word(t, e, row::SUMS, i, v);
+    set_row_word(t, e, Row::Sums, i, v);
 }
 
 // Sets access triple i of entity e to v, and no other word.
@@ -236,7 +211,7 @@ pub fn set_triple(t: &mut [u32], e: Entity, i: u32, v: u32)
     requires { EntityIn t.old e.0 × (i < place_count) }
     ensures { tables_of t.new ≡ on_entity e.0 (word (triple i) v) (tables_of t.old) }
 {
-    set_row_word(t, e, row::TRIPLES, i, v);
+    set_row_word(t, e, Row::Triples, i, v);
 }
 
 // Whether what is of kind k shows things.
@@ -258,11 +233,7 @@ pub fn kind_or_zero(t: &[u32], e: Entity) -> u32
     requires { length t.now ≡ word_count }
     ensures { result ≡ (tables_of t.now).entity e.0 kind }
 {
-    let n = e.0;
-    if n < 1 {
-        return 0;
-    }
-    if size::ENTITIES < n {
+    if !has_record(e) {
         return 0;
     }
     kind(t, e)
@@ -273,11 +244,7 @@ pub fn level_or_zero(t: &[u32], e: Entity) -> Level
     requires { length t.now ≡ word_count }
     ensures { result.0 ≡ (tables_of t.now).entity e.0 level }
 {
-    let n = e.0;
-    if n < 1 {
-        return Level(0);
-    }
-    if size::ENTITIES < n {
+    if !has_record(e) {
         return Level(0);
     }
     level(t, e)

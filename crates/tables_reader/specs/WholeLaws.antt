@@ -1,5 +1,6 @@
 -- The laws of a whole reading: where it is stuck, where it is past its end, and what the reader then answers and leaves.
-use Rattle.std.specs.Prelude.{Bool, List, [], ◌∷◌, ◌≢◌, ◌≡◌, refl, ◌+◌, ◌-◌, ◌<◌, ◌≤◌, suc, zero, ℕ, eqb, drop, get_or, length, replicate, take}
+use Rattle.std.specs.Prelude.{Bool, List, [], ◌∷◌, ◌≢◌, ◌≡◌, refl, Result, Ok, Err, ◌+◌}
+use Rattle.std.specs.Prelude.{◌-◌, ◌<◌, ◌≤◌, suc, zero, ℕ, eqb, drop, get_or, length, replicate, take}
 use Rattle.std.proofs.Math.Bool.{false, true}
 use Rattle.std.proofs.Common.{◌∙◌, ap, zero-le, add-one, arith, drop_of_length-le, length-drop, drop-cons, take-suc, eq-eqb, ne_eqb}
 use Rattle.std.proofs.Math.Path.{fun_ext, sym}
@@ -14,9 +15,14 @@ use Rattle.model.specs.Tables.Words.{EntityWord, Tables, UserWord, entity_count,
 use Rattle.model.specs.Tables.WordsOfLaws.{words_of_tables_of}
 use Rattle.model.specs.Text.Lines.{line_end}
 use Rattle.model.specs.Text.Unfinished.{ends}
+use Rattle.names.specs.Refusals.{answer_number}
+use Rattle.names.specs.declared.refusal.Refusal.{Refusal}
+use Rattle.names.specs.declared.refusal.Refusal.TheVariants.{BadLength, NotWellFormed, NotSecure, UnknownRequester, BadRequest, NotLoggedOn, NoSuchName}
+use Rattle.names.specs.declared.refusal.Refusal.TheVariants.{NoAccess, Marked, WrongKind, NoSuchUser, RoleMissing, LevelOrRoles, NoRoom, Arrangement}
+use Rattle.names.specs.declared.refusal.Refusal.TheVariants.{NotAcknowledged, TooShort, NotARequest}
 use Rattle.record_reader.specs.StageAt.{StageAt}
 use Rattle.record_reader.specs.StageLaws.{onward_past, onward_stuck, staged}
-use Rattle.record_reader.specs.declared.records.Progress.TheVariants.{Past, Stuck}
+use Rattle.record_reader.specs.declared.records.Stuck.{Stuck}
 use Rattle.tables_reader.specs.Blank.{blank}
 use Rattle.tables_text.specs.Calls.{ReadsTables, line_of, read_answer, read_number, tables_after}
 use Rattle.tables_text.specs.EndsLaws.{ends_append}
@@ -64,23 +70,25 @@ unfolding reading rest
 begins s t e = ap (λ d. onward (users_stage user_count 1 d s) rest) (sym (ap tables_of e ∙ blank_tables))
 
 module _ {s t u : List ℕ} (e : t ≡ blank) where
-  pub users_stuck : {i : ℕ} → StageAt s (users_stage user_count 1 (tables_of t) s) u (Stuck i) → StageAt s (reading s) u (Stuck i)
+  pub users_stuck : {i : Stuck} → StageAt s (users_stage user_count 1 (tables_of t) s) u (Err i) → StageAt s (reading s) u (Err i)
   users_stuck a = staged (begins s t e) (onward_stuck rest a)
 
-  module _ {i : ℕ} (a : StageAt s (users_stage user_count 1 (tables_of t) s) u (Past i)) where
+  module _ {i : ℕ} (a : StageAt s (users_stage user_count 1 (tables_of t) s) u (Ok i)) where
     goes : reading s ≡ onward (entities_stage entity_count 1 (tables_of u) (drop i s)) at_end
     unfolding rest
     goes = begins s t e ∙ onward_past rest a
 
-    module _ {w : List ℕ} {j : ℕ} where
-      pub entities_stuck : StageAt s (entities_stage entity_count 1 (tables_of u) (drop i s)) w (Stuck j) → StageAt s (reading s) w (Stuck j)
-      entities_stuck b = staged goes (onward_stuck at_end b)
+    pub entities_stuck : {w : List ℕ} {k : Stuck} → StageAt s (entities_stage entity_count 1 (tables_of u) (drop i s)) w (Err k)
+        → StageAt s (reading s) w (Err k)
+    entities_stuck b = staged goes (onward_stuck at_end b)
 
+    module _ {w : List ℕ} {j : ℕ} where
       -- bytes are left over, or none is
-      pub left_over : StageAt s (entities_stage entity_count 1 (tables_of u) (drop i s)) w (Past j) → j < length s → StageAt s (reading s) w (Stuck j)
+      pub left_over : StageAt s (entities_stage entity_count 1 (tables_of u) (drop i s)) w (Ok j) → j < length s
+          → StageAt s (reading s) w (Err (record { 0 = j }))
       left_over b l = record { is = goes ∙ onward_past at_end b ∙ rw (drop-cons s j 0 l); within = b.within }
 
-      pub all_read : StageAt s (entities_stage entity_count 1 (tables_of u) (drop i s)) w (Past j) → length s ≤ j → StageAt s (reading s) w (Past j)
+      pub all_read : StageAt s (entities_stage entity_count 1 (tables_of u) (drop i s)) w (Ok j) → length s ≤ j → StageAt s (reading s) w (Ok j)
       all_read b h = record { is = goes ∙ onward_past at_end b ∙ rw (drop_of_length-le s {i = j} h); within = b.within }
 
 -- ---- the line
@@ -90,8 +98,8 @@ line_here s i h =
     let e : length s - length (drop i s) ≡ i = omega (arith, length-drop i s) in
     rw e
 
-pub line_small : {s w : List ℕ} {i : ℕ} → StageAt s (reading s) w (Stuck i) → suc (ends (take i s)) ≤ line_most
-line_small {s} {w} {i} a = rw (line_here s i a.within) at (line_most_lem s (drop i s) a.is)
+pub line_small : {s w : List ℕ} {i : Stuck} → StageAt s (reading s) w (Err i) → suc (ends (take i.0 s)) ≤ line_most
+line_small {s} {w} {i} a = rw (line_here s i.0 a.within) at (line_most_lem s (drop i.0 s) a.is)
 
 -- ---- what the reader answers
 
@@ -119,23 +127,45 @@ unformed d q = go (well_formed_test d) (secure_test d) q
     go true false e = absurd (omega arith)
     go false b e = refl
 
+-- one refusal has its number
+pub refused_formed : (r : Result (Unit {0}) Refusal) → answer_number r ≡ refusal.not_well_formed → r ≡ Err NotWellFormed
+refused_formed (Ok x) e = absurd (omega arith)
+refused_formed (Err NotWellFormed) e = refl
+refused_formed (Err BadLength) e = absurd (omega arith)
+refused_formed (Err NotSecure) e = absurd (omega arith)
+refused_formed (Err UnknownRequester) e = absurd (omega arith)
+refused_formed (Err BadRequest) e = absurd (omega arith)
+refused_formed (Err NotLoggedOn) e = absurd (omega arith)
+refused_formed (Err NoSuchName) e = absurd (omega arith)
+refused_formed (Err NoAccess) e = absurd (omega arith)
+refused_formed (Err Marked) e = absurd (omega arith)
+refused_formed (Err WrongKind) e = absurd (omega arith)
+refused_formed (Err NoSuchUser) e = absurd (omega arith)
+refused_formed (Err RoleMissing) e = absurd (omega arith)
+refused_formed (Err LevelOrRoles) e = absurd (omega arith)
+refused_formed (Err NoRoom) e = absurd (omega arith)
+refused_formed (Err Arrangement) e = absurd (omega arith)
+refused_formed (Err NotAcknowledged) e = absurd (omega arith)
+refused_formed (Err TooShort) e = absurd (omega arith)
+refused_formed (Err NotARequest) e = absurd (omega arith)
+
 module _ {s t w : List ℕ} (h : length t ≡ word_count) where
-  pub reads_stuck : {i n : ℕ} → StageAt s (reading s) w (Stuck i) → n ≡ suc (ends (take i s)) → ReadsTables s t refusal.not_a_request n t
+  pub reads_stuck : {i : Stuck} {n : ℕ} → StageAt s (reading s) w (Err i) → n ≡ suc (ends (take i.0 s)) → ReadsTables s t refusal.not_a_request n t
   unfolding read_answer read_number tables_after
   reads_stuck {i} {n} a e =
       record {
         answer = rw (sized t h, a.is);
-        number = rw (sized t h, a.is) (e ∙ sym (line_here s i a.within));
+        number = rw (sized t h, a.is) (e ∙ sym (line_here s i.0 a.within));
         words = rw (sized t h, a.is);
       }
 
-  pub reads_unformed : {i : ℕ} → StageAt s (reading s) w (Past i) → judge (tables_of w) ≡ refusal.not_well_formed → ReadsTables s t refusal.not_well_formed 0 t
+  pub reads_unformed : {i : ℕ} → StageAt s (reading s) w (Ok i) → judge (tables_of w) ≡ refusal.not_well_formed → ReadsTables s t refusal.not_well_formed 0 t
   unfolding read_answer read_number tables_after
   reads_unformed a q =
       let n : well_formed_test (tables_of w) ≡ false = unformed (tables_of w) q in
       record { answer = rw (sized t h, a.is, n); number = rw (sized t h, a.is); words = rw (sized t h, a.is, n) }
 
-  pub reads_formed : {i : ℕ} → length w ≡ word_count → StageAt s (reading s) w (Past i) → judge (tables_of w) ≢ refusal.not_well_formed
+  pub reads_formed : {i : ℕ} → length w ≡ word_count → StageAt s (reading s) w (Ok i) → judge (tables_of w) ≢ refusal.not_well_formed
       → ReadsTables s t refusal.accepted 0 w
   unfolding read_answer read_number tables_after
   reads_formed l a n =

@@ -1,5 +1,5 @@
 // Counts the bytes that a text takes (rule 16.4). The keys and line ends of a record are the same in every text, and the numbers differ.
-ghost use Rattle.std.specs.Prelude.{◌≡◌, ◌≤◌, length};
+ghost use Rattle.std.specs.Prelude.{◌≡◌, ◌<◌, ◌≤◌, length};
 ghost use Rattle.model.specs.Tables.Layout.{tables_of, word_count};
 ghost use Rattle.model.specs.Tables.Words.{entity_count, place_count, used_places, user_count};
 ghost use Rattle.tables.specs.Singles.{EntityIn, UserIn, single_count};
@@ -28,13 +28,9 @@ fn user_values(tables: &[u32], u: User) -> usize
     requires { UserIn tables.now u.0 }
     ensures { result ≡ length (series user_field_count 1 (digits_at (user_words (tables_of tables.now) u.0))) }
 {
-    let mut n = 0;
-    let mut j = word::CLEARANCE;
-    while j < size::SINGLES {
-        n += number_len(tables::user_at(tables, u, j));
-        j += 1;
-    }
-    n
+    (word::CLEARANCE..size::SINGLES)
+        .map(|j| number_len(tables::word_at(tables, u, j)))
+        .sum()
 }
 
 // How many bytes user u takes.
@@ -53,13 +49,9 @@ fn users_len(tables: &[u32]) -> usize
     requires { length tables.now ≡ word_count }
     ensures { result ≡ length (series user_count 1 (user_text (tables_of tables.now))) }
 {
-    let mut n = 0;
-    let mut k: u32 = 0;
-    while k < size::USERS {
-        n += user_len(tables, User(k + 1));
-        k += 1;
-    }
-    n
+    (0..size::USERS)
+        .map(|k| user_len(tables, User(k + 1)))
+        .sum()
 }
 
 // How many digits the single words of entity e have.
@@ -67,13 +59,19 @@ fn entity_values(tables: &[u32], e: Entity) -> usize
     requires { EntityIn tables.now e.0 }
     ensures { result ≡ length (series single_count 0 (digits_at (entity_words (tables_of tables.now) e.0))) }
 {
-    let mut n = 0;
-    let mut j = word::KIND;
-    while j < size::SINGLES {
-        n += number_len(tables::entity_at(tables, e, j));
-        j += 1;
-    }
-    n
+    (word::KIND..size::SINGLES)
+        .map(|j| number_len(tables::word_at(tables, e, j)))
+        .sum()
+}
+
+// How many bytes the line of place i of entity e takes.
+fn place_len(tables: &[u32], e: Entity, i: u32) -> usize
+    requires { EntityIn tables.now e.0 × (i < place_count) }
+    ensures { result ≡ length (place_at (tables_of tables.now) e.0 i) }
+{
+    let standing = number_len(tables::place(tables, e, i).0);
+    let sum = number_len(tables::shown(tables, e, i));
+    PLACE_MARKS + (standing + sum)
 }
 
 // How many bytes the first k places of entity e take.
@@ -81,15 +79,7 @@ fn places_len(tables: &[u32], e: Entity, k: u32) -> usize
     requires { EntityIn tables.now e.0 × (k ≤ place_count) }
     ensures { result ≡ length (series k 0 (place_at (tables_of tables.now) e.0)) }
 {
-    let mut n = 0;
-    let mut i: u32 = 0;
-    while i < k {
-        let standing = number_len(tables::place(tables, e, i).0);
-        let sum = number_len(tables::shown(tables, e, i));
-        n += PLACE_MARKS + (standing + sum);
-        i += 1;
-    }
-    n
+    (0..k).map(|i| place_len(tables, e, i)).sum()
 }
 
 // How many bytes the line of a triple takes.
@@ -107,13 +97,9 @@ fn triples_len(tables: &[u32], e: Entity, k: u32) -> usize
     requires { EntityIn tables.now e.0 × (k ≤ place_count) }
     ensures { result ≡ length (series k 0 (triple_at (tables_of tables.now) e.0)) }
 {
-    let mut n = 0;
-    let mut i: u32 = 0;
-    while i < k {
-        n += triple_len(tables::triple(tables, e, i));
-        i += 1;
-    }
-    n
+    (0..k)
+        .map(|i| triple_len(tables::triple(tables, e, i)))
+        .sum()
 }
 
 // How many bytes entity e takes.
@@ -136,13 +122,9 @@ fn entities_len(tables: &[u32]) -> usize
     requires { Writable tables.now }
     ensures { result ≡ length (series entity_count 1 (entity_text (tables_of tables.now))) }
 {
-    let mut n = 0;
-    let mut k: u32 = 0;
-    while k < size::ENTITIES {
-        n += entity_len(tables, Entity(k + 1));
-        k += 1;
-    }
-    n
+    (0..size::ENTITIES)
+        .map(|k| entity_len(tables, Entity(k + 1)))
+        .sum()
 }
 
 // How many bytes the text of whole tables takes.

@@ -3,64 +3,69 @@
 // the rows have none.
 #![tactic(auto)]
 
-ghost use Rattle.std.specs.Prelude.{◌≤◌, length};
+ghost use Rattle.std.specs.Prelude.{◌≡◌, ◌≤◌, length};
+ghost use Rattle.lines.specs.Adds.{Adds, Room};
 ghost use Rattle.lines.specs.Onto.{Wrote};
 ghost use Rattle.tables_text.specs.Calls.{WritesTables, text_of_tables};
+ghost use Rattle.names.specs.Refusals.{answer_number, refused_no, told};
 ghost use Rattle.record_writer.specs.Writable.{Writable};
+ghost use Rattle.tables_writer.specs.Form.{form_answer};
 
-use names::refusal;
+use lines::putting::Output;
+use names::refusal::{Refusal, Refused};
 
 mod counting;
 
 // The bytes of the longest text of tables (rule 16.7).
 const TABLES_TEXT_MOST: usize = 17721;
 
-// The answer, and how many bytes the text has. With a refusal that is not for want of room, `bytes` is 0.
-#[derive(Clone, Copy)]
-pub struct Written {
-    pub answer: u32,
-    pub bytes: u32,
+// Writes the text of whole tables, users before entities.
+fn put_text(out: &mut Output, tables: &[u32])
+    requires { Writable tables.now × Room (text_of_tables tables.now) out.old }
+    ensures { Adds (text_of_tables tables.now) out.old out.new }
+{
+    record_writer::users::put_users(out, tables);
+    record_writer::entities::put_entities(out, tables);
 }
 
-// Writes the text of whole tables, users before entities, and answers how many bytes it has.
-fn write_text(out: &mut [u8], tables: &[u32]) -> usize
-    requires { Writable tables.now × (length (text_of_tables tables.now) ≤ length out.old) }
-    ensures { Wrote (text_of_tables tables.now) out.old out.new result }
+// Writes that text at the front of a room, and answers how many bytes it has.
+fn write_text(room: &mut [u8], tables: &[u32]) -> usize
+    requires { Writable tables.now × (length (text_of_tables tables.now) ≤ length room.old) }
+    ensures { Wrote (text_of_tables tables.now) room.old room.new result }
 {
-    let n = record_writer::users::put_users(out, 0, tables);
-    record_writer::entities::put_entities(out, n, tables)
+    let mut out = Output { room, at: 0 };
+    put_text(&mut out, tables);
+    out.at
 }
 
-// Writes the text of any words at the front of any room, or refuses and writes nothing. Tables that are not secure are written like others. A room for the
-// longest text is enough for every text, and then nothing is counted before.
-pub fn write_tables(tables: &[u32], room: &mut [u8]) -> Written
-    ensures { WritesTables tables.now room.old result.answer result.bytes room.new }
+// Refuses words that are no tables. Tables that are not secure are taken like others.
+fn formed(tables: &[u32]) -> Result<(), Refusal>
+    ensures { answer_number result ≡ form_answer tables.now }
 {
-    let judged = state::checked(tables);
-    if judged == refusal::BAD_LENGTH {
-        return Written {
-            answer: refusal::BAD_LENGTH,
-            bytes: 0,
-        };
+    let Err(refusal) = state::checked(tables) else {
+        return Ok(());
+    };
+    match refusal {
+        Refusal::NotSecure => Ok(()),
+        _ => Err(refusal),
     }
-    if judged == refusal::NOT_WELL_FORMED {
-        return Written {
-            answer: refusal::NOT_WELL_FORMED,
-            bytes: 0,
-        };
-    }
+}
+
+// Writes the text of any words at the front of any room and answers how many bytes it has, or refuses and writes nothing. Tables that are not secure
+// are written like others. A room for the longest text is enough for every text, and then nothing is counted before.
+pub fn write_tables(tables: &[u32], room: &mut [u8]) -> Result<u32, Refused>
+    ensures { WritesTables tables.now room.old (refused_no result) (told result) room.new }
+{
+    formed(tables)?;
     if room.len() < TABLES_TEXT_MOST {
         let n = counting::need(tables);
         if room.len() < n {
-            return Written {
-                answer: refusal::TOO_SHORT,
-                bytes: n as u32,
-            };
+            return Err(Refused {
+                by: Refusal::TooShort,
+                number: n as u32,
+            });
         }
     }
     let n = write_text(room, tables);
-    Written {
-        answer: refusal::ACCEPTED,
-        bytes: n as u32,
-    }
+    Ok(n as u32)
 }

@@ -1,6 +1,6 @@
--- The verdicts on the entities, as the walk reads them: one word for each, at its number.
-use Rattle.std.specs.Prelude.{Bool, List, ◌≡◌, ◌%◌, ◌*◌, ◌+◌, ◌/◌, ◌≤◌, suc, ℕ, eqb, get_or, length}
-use Rattle.model.specs.Basics.Choice.{pick}
+-- The verdicts on the entities, as the walk reads them: one for each, at its number.
+use Rattle.std.specs.Prelude.{Bool, List, ◌≡◌, ◌≤◌, false, suc, ℕ, get_or, length}
+use Rattle.verdicts.specs.declared.Verdict.{Verdict}
 use Rattle.model.specs.List.Admitted.{Admitted}
 use Rattle.model.specs.List.Ways.{showable, ways}
 use Rattle.model.specs.Request.Conditions.{level_of}
@@ -14,29 +14,29 @@ pub record Asker (t : List ℕ) (u c s : ℕ) : Type 0 where
   pub clearance : c ≡ (tables_of t).user u clearance
   pub screen : s ≡ level_of (tables_of t) (devices (tables_of t) u)
 
--- a place that leads on weighs so much in a verdict
-abbrev pub way_weight : ℕ
-way_weight = 2
+-- the places of e that lead on for the user u, and whether u may be shown e
+unfoldable pub verdict : Tables → ℕ → ℕ → Verdict
+verdict d u e = record { ways = ways d u e; shown = showable d u e }
 
--- The places that lead on by their weight, and one more where the entity may be shown.
-unfoldable pub verdict : Tables → ℕ → ℕ → ℕ
-verdict d u e = ways d u e * way_weight + pick (showable d u e) 1 0
+-- no place leads on, and there is nothing to show
+abbrev pub no_verdict : Verdict
+no_verdict = record { ways = 0; shown = false }
 
--- What a word of verdicts says: how many places lead on, and whether the entity is to be listed.
-unfoldable pub leads : List ℕ → ℕ → ℕ
-leads v e = get_or v e 0 / way_weight
+-- What a verdict says: how many places lead on, and whether the entity is to be listed.
+unfoldable pub leads : List Verdict → ℕ → ℕ
+leads v e = (get_or v e no_verdict).ways
 
-unfoldable pub listed : List ℕ → ℕ → Bool
-listed v e = eqb (get_or v e 0 % way_weight) 1
+unfoldable pub listed : List Verdict → ℕ → Bool
+listed v e = (get_or v e no_verdict).shown
 
--- v has the verdicts on the entities 1 to n, each at its number; its word 0 is for no entity
-pub record Judged (d : Tables) (u n : ℕ) (v : List ℕ) : Type 0 where
+-- v has the verdicts on the entities 1 to n, each at its number; number 0 is no entity
+pub record Judged (d : Tables) (u n : ℕ) (v : List Verdict) : Type 0 where
   pub size : length v ≡ suc entity_count
-  pub first : get_or v 0 0 ≡ 0
-  pub told : (e : ℕ) → 1 ≤ e → e ≤ n → get_or v e 0 ≡ verdict d u e
+  pub first : get_or v 0 no_verdict ≡ no_verdict
+  pub told : (e : ℕ) → 1 ≤ e → e ≤ n → get_or v e no_verdict ≡ verdict d u e
 
 -- whole tables with their places in range, and verdicts by which no more places lead on than are used; where some do, the others hold nothing
-pub record Guided (t v : List ℕ) : Type 0 where
+pub record Guided (t : List ℕ) (v : List Verdict) : Type 0 where
   pub whole : length t ≡ word_count
   pub ranged : Ranged (tables_of t)
   pub size : length v ≡ suc entity_count

@@ -1,20 +1,31 @@
 // The verdict on each entity, found once however many references come by it: whether it may be shown, and how many of its places lead on.
 #![tactic(auto)]
 
-ghost use Rattle.std.specs.Prelude.{◌≡◌, ◌*◌, ◌+◌, ◌≤◌};
-ghost use Rattle.verdicts.specs.Verdicts.{Asker, Judged, verdict, way_weight};
+ghost use Rattle.std.specs.Prelude.{◌≡◌, ◌≤◌};
+ghost use Rattle.verdicts.specs.Verdicts.{Asker, Judged, verdict};
 ghost use Rattle.model.specs.Basics.Choice.{pick};
 ghost use Rattle.model.specs.List.Admitted.{Admitted};
 ghost use Rattle.model.specs.List.Ways.{showable};
 ghost use Rattle.model.specs.Tables.Layout.{tables_of};
-ghost use Rattle.model.specs.Tables.Words.{entity_count, place_count};
+ghost use Rattle.model.specs.Tables.Words.{entity_count};
 
 use levels::Level;
-use names::{op, size};
+use names::op::{Op, Position};
+use names::size;
 use tables::{Entity, User};
 
-// What a place that leads on weighs in a verdict; that the entity may be shown weighs one.
-pub const WAY: u32 = 2;
+// How many places of an entity lead on, which are none where the way is shut, and whether the entity may be shown.
+#[derive(Clone, Copy)]
+pub struct Verdict {
+    pub ways: u32,
+    pub shown: bool,
+}
+
+// The verdict on no entity.
+pub const NONE: Verdict = Verdict {
+    ways: 0,
+    shown: false,
+};
 
 // Whether entity e meets all that show asks of it: an object or a container, of a level at most the clearance and at most the screen's, with
 // a triple that permits it.
@@ -32,50 +43,35 @@ fn is_showable(t: &[u32], u: User, clearance: Level, screen: Level, e: Entity) -
     if !levels::at_most(l, screen) {
         return false;
     }
-    reference::is_permitted(t, e, u, op::SHOW, op::FIRST)
+    reference::is_permitted(t, e, u, Op::Show as u32, Position::First as u32)
 }
 
-// 1 for yes and 0 for no.
-fn bit(yes: bool) -> u32
-    ensures { result ≡ pick yes 1 0 }
+// The verdict on an entity with so many places, where the way on is shut or not, and it may be shown or not.
+fn verdict_of(shut: bool, used: u32, shown: bool) -> Verdict
+    ensures { result ≡ record { ways = pick shut 0 used; shown = shown } }
 {
-    if yes {
-        return 1;
-    }
-    0
-}
-
-// Both in one word: the places that lead on, which are none where the way is shut, and whether the entity may be shown.
-fn weigh(shut: bool, used: u32, shown: bool) -> u32
-    requires { used ≤ place_count }
-    ensures { result ≡ pick shut 0 used * way_weight + pick shown 1 0 }
-{
-    if shut {
-        return bit(shown);
-    }
-    used * WAY + bit(shown)
+    let ways = if shut { 0 } else { used };
+    Verdict { ways, shown }
 }
 
 // The verdict on entity e. A mark shuts the way on to whoever has no clearance for the level of e.
-fn judge(t: &[u32], u: User, clearance: Level, screen: Level, e: Entity) -> u32
+fn judge(t: &[u32], u: User, clearance: Level, screen: Level, e: Entity) -> Verdict
     requires { Asker t.now u.0 clearance.0 screen.0 × (1 ≤ e.0) × (e.0 ≤ entity_count) }
     ensures { result ≡ verdict (tables_of t.now) u.0 e.0 }
 {
     let shut = reference::is_bar(t, clearance, e);
     let shown = is_showable(t, u, clearance, screen, e);
-    weigh(shut, tables::used(t, e), shown)
+    verdict_of(shut, tables::used(t, e), shown)
 }
 
 // The verdicts on all entities, each at its number.
-pub fn judge_all(t: &[u32], u: User, v: &mut [u32; size::ENTITY_NUMBERS])
+pub fn judge_all(t: &[u32], u: User, v: &mut [Verdict; size::ENTITY_NUMBERS])
     requires { Admitted t.now u.0 × Judged (tables_of t.now) u.0 0 v.old }
     ensures { Judged (tables_of t.now) u.0 entity_count v.new }
 {
     let clearance = tables::clearance(t, u);
     let screen = tables::level(t, tables::device(t, u));
-    let mut i: u32 = 0;
-    while i < size::ENTITIES {
+    for i in 0..size::ENTITIES {
         v[i as usize + 1] = judge(t, u, clearance, screen, Entity(i + 1));
-        i += 1;
     }
 }

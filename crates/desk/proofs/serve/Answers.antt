@@ -4,8 +4,8 @@ use Rattle.script.proofs.StaysLaws.{runs_stay}
 use Rattle.script.specs.WholeLaws.{wanted_short}
 use Rattle.desk.proofs.serve.Goals as goal
 
-pub loop-turns-preserved : goal.loop-turns-preserved
-loop-turns-preserved g c = (
+pub loop-preserved : goal.loop-preserved
+loop-preserved g c = (
   omega (arith, c.keep-len.ensures.0, c.keep-len.auto.window, c.fetch-filled.ensures.1),
   (λ e. omega (
     arith,
@@ -14,8 +14,8 @@ loop-turns-preserved g c = (
     c.keep-len.ensures.0,
     c.keep-len.auto.window,
     c.fetch-filled.auto.window,
-    c.loop-turns.auto.window,
+    c.loop.auto.window,
     c.requires.roomy,
   )),
-  runs_stay c.run-r.ensures c.loop-turns.invariant.2,
+  runs_stay c.run-r.ensures c.loop.invariant.2,
 )

@@ -1,9 +1,7 @@
 use Rattle.std.proofs.Common.{true, ◌≡◌, ◌<◌, ◌≤◌, length}
 use Rattle.model.specs.State.Check.{check}
+use Rattle.names.specs.Refusals.{answer_number}
 use Rattle.desk.proofs.serve.Given as goal
 
-abbrev pub invariant-loop-turns : goal.invariant-loop-turns
-invariant-loop-turns g l = (l.len ≤ length l.window) × (l.wanted ≡ true → l.len < length l.window) × (l.c ≡ check l.tables)
-
-abbrev pub decreases-loop-turns : goal.decreases-loop-turns
-decreases-loop-turns g l = l.turns
+abbrev pub invariant-loop : goal.invariant-loop
+invariant-loop g l = (l.len ≤ length l.window) × (l.wanted ≡ true → l.len < length l.window) × (answer_number l.c ≡ check l.tables)

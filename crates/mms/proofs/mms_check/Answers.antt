@@ -3,4 +3,4 @@ use Rattle.mms.specs.Contract.{exported}
 use Rattle.mms.proofs.mms_check.Goals as goal
 
 pub returns : goal.returns
-returns c = c.packed.ensures ∙ ap exported c.check-a.ensures
+returns c = c.from.ensures ∙ ap exported c.check.ensures

@@ -1,7 +1,7 @@
-use Rattle.std.proofs.Common.{ap, ℕ}
+use Rattle.std.proofs.Common.{ap, ℕ, ◌∙◌}
 use Rattle.mms.proofs.step.Goals as goal
 
 pub returns : goal.returns
 returns c =
-    let e = c.step-n.ensures in
-    record { answer = ap (λ (n : ℕ). record { no = n; number = 0 }) e.answer; words = e.words }
+    let e = c.step.ensures in
+    record { answer = c.into.ensures ∙ ap (λ (n : ℕ). record { no = n; number = 0 }) e.answer; words = e.words }

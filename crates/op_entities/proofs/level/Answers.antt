@@ -1,7 +1,7 @@
 use Rattle.std.proofs.Common.{sym, ◌∙◌}
 use Rattle.model.specs.Basics.TestLaws.{is_true}
 use Rattle.model.proofs.Request.ConditionLaws.{thing_agrees}
-use Rattle.op_entities.specs.EntityLaws.{level_10, level_12, level_13, level_done}
+use Rattle.op_entities.specs.EntityLaws.{level_10, level_12, level_tried}
 use Rattle.op_entities.proofs.level.Goals as goal
 
 pub returns-then-not-is_entity : goal.returns-then-not-is_entity
@@ -21,15 +21,7 @@ try_level-requires c = (
       (is_true _ (sym c.is_entity.ensures ∙ c.if-not-is_entity.false)),
 )
 
-pub returns-then-not-try_level : goal.returns-then-not-try_level
-returns-then-not-try_level c =
-    rw (c.try_level.ensures.unchanged c.if-not-try_level.true)
-    (level_13 _ _ _ _ c.requires.0 c.requires.1 _ c.is_entity.ensures c.if-not-is_entity.false _ c.a.ensures _
-    (c.level_dropped.ensures ∙ rw c.level.ensures) c.if-level_dropped.false _ c.try_level.ensures.secure
-    c.if-not-try_level.true)
-
 pub returns : goal.returns
 returns c =
-    level_done _ _ _ _ c.requires.0 c.requires.1 _ c.is_entity.ensures c.if-not-is_entity.false _ c.a.ensures _
-    (c.level_dropped.ensures ∙ rw c.level.ensures) c.if-level_dropped.false _ c.try_level.ensures.secure
-    c.if-not-try_level.false _ (c.try_level.ensures.kept c.if-not-try_level.false)
+    level_tried _ _ _ _ c.requires.0 c.requires.1 _ c.is_entity.ensures c.if-not-is_entity.false _ c.a.ensures _
+    (c.level_dropped.ensures ∙ rw c.level.ensures) c.if-level_dropped.false _ _ c.try_level.ensures

@@ -1,6 +1,6 @@
 use Rattle.std.proofs.Common.{ap, not}
 use Rattle.std.proofs.Common.{rules, ◌∙◌}
-use Rattle.op_places.specs.CreateLaws.{create_above_lem, create_full, create_kind, create_room, create_unshown, created, new_in}
+use Rattle.op_places.specs.CreateLaws.{create_above_lem, create_full, create_kind, create_room, create_unshown, created}
 use Rattle.op_places.proofs.create.Goals as goal
 
 pub returns-then-not-is_container : goal.returns-then-not-is_container
@@ -16,13 +16,6 @@ pub returns-then-n-used : goal.returns-then-n-used
 returns-then-n-used c =
     create_full _ _ _ _ c.requires.0 c.requires.1 _ c.is_container.ensures (ap not c.if-not-is_container.false) _ _ c.level.ensures
     (c.at_most.ensures ∙ rw c.b.ensures) (ap not c.if-not-at_most.false) _ _ c.vacant-n.ensures c.used.ensures c.if-n-used.true
-
-pub bear-requires : goal.bear-requires
-bear-requires c =
-    let r = new_in _ _ _ _ c.requires.0 c.requires.1 _ c.is_container.ensures (ap not c.if-not-is_container.false) _ _ c.level.ensures
-    (c.at_most.ensures ∙ rw c.b.ensures) (ap not c.if-not-at_most.false) _ _ c.vacant-n.ensures c.used.ensures
-    c.if-n-used.false in
-    search rules
 
 pub put_last-requires : goal.put_last-requires
 put_last-requires c = (

@@ -1,5 +1,5 @@
 use Rattle.std.proofs.Common.{ap, not}
-use Rattle.std.proofs.Common.{rules, ◌∙◌}
+use Rattle.std.proofs.Common.{◌∙◌}
 use Rattle.op_places.specs.MoveLaws.{move_above_lem, move_full_lem, move_inside_lem, move_kinds, move_room, move_unshown, moved}
 use Rattle.op_places.proofs.relocate.Goals as goal
 
@@ -14,31 +14,19 @@ returns-then-not-at_most c =
     (ap not c.if-not-is_entity-is_container.false) _ _ _
     c.level.ensures c.level-2.ensures c.at_most.ensures (ap not c.if-not-at_most.true)
 
-pub holder-h-requires : goal.holder-h-requires
-holder-h-requires c =
-    (search rules, c.requires.0.climbed.ready.good.0, c.requires.1.low)
-
-pub returns-then-h-c : goal.returns-then-h-c
-returns-then-h-c c =
+pub returns-then-ne-used : goal.returns-then-ne-used
+returns-then-ne-used c =
     move_full_lem _ _ _ _ _ c.requires.0 c.requires.1 c.requires.2 _ _ c.is_entity.ensures c.is_container.ensures
     (ap not c.if-not-is_entity-is_container.false) _ _ _
     c.level.ensures c.level-2.ensures c.at_most.ensures (ap not c.if-not-at_most.false) _ _ c.holder-h.ensures c.used.ensures
-    c.if-h-c.true
-
-pub is_inside-requires : goal.is_inside-requires
-is_inside-requires c =
-    (search rules, c.requires.0.climbed.ready.good.0, c.requires.2.low)
+    (rw c.ne.ensures at c.if-ne-used.true)
 
 pub returns-then-is_inside : goal.returns-then-is_inside
 returns-then-is_inside c =
     move_inside_lem _ _ _ _ _ c.requires.0 c.requires.1 c.requires.2 _ _ c.is_entity.ensures c.is_container.ensures
     (ap not c.if-not-is_entity-is_container.false) _ _ _
     c.level.ensures c.level-2.ensures c.at_most.ensures (ap not c.if-not-at_most.false) _ _ c.holder-h.ensures c.used.ensures
-    c.if-h-c.false _ c.is_inside.ensures c.if-is_inside.true
-
-pub leave-requires : goal.leave-requires
-leave-requires c =
-    (c.requires.0.climbed.ready.whole, c.requires.0.climbed.ready.good.0, c.holder-h.ensures)
+    (rw c.ne.ensures at c.if-ne-used.false) _ c.is_inside.ensures c.if-is_inside.true
 
 pub put_last-requires : goal.put_last-requires
 put_last-requires c = (
@@ -46,11 +34,11 @@ put_last-requires c = (
   move_room _ _ _ _ _
       c.requires.0 c.requires.1 c.requires.2 _ _ c.is_entity.ensures c.is_container.ensures (ap not c.if-not-is_entity-is_container.false) _ _ _
       c.level.ensures
-      c.level-2.ensures c.at_most.ensures (ap not c.if-not-at_most.false) _ _ c.holder-h.ensures c.used.ensures c.if-h-c.false _
+      c.level-2.ensures c.at_most.ensures (ap not c.if-not-at_most.false) _ _ c.holder-h.ensures c.used.ensures (rw c.ne.ensures at c.if-ne-used.false) _
       c.is_inside.ensures _ c.leave.ensures,
   move_unshown _ _ _ _ _ c.requires.0 c.requires.1 c.requires.2 _ _
       c.is_entity.ensures c.is_container.ensures (ap not c.if-not-is_entity-is_container.false) _ _ _ c.level.ensures c.level-2.ensures c.at_most.ensures
-      (ap not c.if-not-at_most.false) _ _ c.holder-h.ensures c.used.ensures c.if-h-c.false _ c.is_inside.ensures _
+      (ap not c.if-not-at_most.false) _ _ c.holder-h.ensures c.used.ensures (rw c.ne.ensures at c.if-ne-used.false) _ c.is_inside.ensures _
       c.leave.ensures,
 )
 
@@ -58,4 +46,4 @@ pub returns : goal.returns
 returns c =
     moved _ _ _ _ _ c.requires.0 c.requires.1 c.requires.2 _ _ c.is_entity.ensures c.is_container.ensures (ap not c.if-not-is_entity-is_container.false) _ _ _
     c.level.ensures c.level-2.ensures c.at_most.ensures (ap not c.if-not-at_most.false) _ _ c.holder-h.ensures c.used.ensures
-    c.if-h-c.false _ c.is_inside.ensures c.if-is_inside.false _ _ c.leave.ensures c.put_last.ensures
+    (rw c.ne.ensures at c.if-ne-used.false) _ c.is_inside.ensures c.if-is_inside.false _ _ c.leave.ensures c.put_last.ensures

@@ -1,6 +1,6 @@
-use Rattle.std.proofs.Common.{arith}
+use Rattle.std.proofs.Common.{arith, ◌∙◌}
 use Rattle.model.specs.Tables.LayoutLaws.{bounded}
-use Rattle.secure.specs.SecureLaws.{capped_low, user_below, user_beyond, user_fails, user_off, user_on_lem}
+use Rattle.secure.specs.SecureLaws.{capped_min, user_below, user_beyond, user_fails, user_off, user_on_lem}
 use Rattle.secure.proofs.user_secure.Goals as goal
 
 pub returns-then-not-roles_within : goal.returns-then-not-roles_within
@@ -26,10 +26,10 @@ returns-then-at_most c =
 
 pub places_below-requires : goal.places_below-requires
 places_below-requires c =
-    ((c.requires.0.0, omega arith, omega arith), omega (arith, capped_low c.used.result, c.capped.ensures))
+    ((c.requires.0.0, omega arith, omega arith), omega (arith, c.min.ensures))
 
 pub returns : goal.returns
 returns c =
     user_on_lem _ _ _ _ _ c.current.ensures c.authorised.ensures c.roles_within.ensures c.if-not-roles_within.false _
-    c.device-v.ensures (omega arith) _ _ _ _ c.clearance-c.ensures c.used.ensures c.capped.ensures
+    c.device-v.ensures (omega arith) _ _ _ _ c.clearance-c.ensures c.used.ensures (c.min.ensures ∙ capped_min _)
     c.places_below.ensures

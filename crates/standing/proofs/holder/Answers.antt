@@ -3,20 +3,13 @@ use Rattle.model.specs.Tables.Layout.{tables_of}
 use Rattle.standing.specs.LookLaws.{parent_here, parent_none, unheld_more}
 use Rattle.standing.proofs.holder.Goals as goal
 
-pub loop-i-init : goal.loop-i-init
-loop-i-init c = (omega arith, λ j h. absurd (omega arith))
-
 pub returns-then-contains : goal.returns-then-contains
 returns-then-contains c =
-    parent_here (tables_of c.args.t.now) _ _ c.loop-i-test.true c.loop-i.invariant.1
+    parent_here (tables_of c.args.t.now) _ _ c.loop-i-test.true c.loop-i.invariant
     (sym c.contains.ensures ∙ c.if-contains.true)
 
 pub loop-i-preserved : goal.loop-i-preserved
-loop-i-preserved c = (
-  omega arith,
-  unheld_more (tables_of c.args.t.now) _ _ c.loop-i.invariant.1
-      (sym c.contains.ensures ∙ c.if-contains.false),
-)
+loop-i-preserved c = unheld_more (tables_of c.args.t.now) _ _ c.loop-i.invariant (sym c.contains.ensures ∙ c.if-contains.false)
 
 pub returns : goal.returns
-returns c = parent_none (tables_of c.args.t.now) _ c.loop-i.i (omega arith) c.loop-i.invariant.1
+returns c = parent_none (tables_of c.args.t.now) _ c.loop-i.i (omega arith) c.loop-i.invariant

@@ -1,10 +1,6 @@
-use Rattle.std.proofs.Common.{◌-◌, ◌≤◌}
 use Rattle.model.specs.Tables.Layout.{tables_of}
 use Rattle.standing.specs.Standing.{Unheld}
 use Rattle.standing.proofs.holder.Given as goal
 
 abbrev pub invariant-loop-i : goal.invariant-loop-i
-invariant-loop-i l = (l.i ≤ 64) × Unheld (tables_of l.t) l.e.0 l.i
-
-abbrev pub decreases-loop-i : goal.decreases-loop-i
-decreases-loop-i l = 64 - l.i
+invariant-loop-i l = Unheld (tables_of l.t) l.e.0 l.i

@@ -1,12 +1,8 @@
-use Rattle.std.proofs.Common.{◌-◌, not, suc, true, ◌≡◌, ◌≤◌}
+use Rattle.std.proofs.Common.{not, suc, true, ◌≡◌}
 use Rattle.model.specs.Basics.Tests.{every}
 use Rattle.model.specs.Tables.Layout.{tables_of}
-use Rattle.model.specs.Tables.Words.{user_count}
 use Rattle.standing.specs.Standing.{seeing}
 use Rattle.standing.proofs.on_screen.Given as goal
 
 abbrev pub invariant-loop-i : goal.invariant-loop-i
-invariant-loop-i l = (l.i ≤ user_count) × (every l.i (λ u. not (seeing (tables_of l.t) l.e.0 (suc u))) ≡ true)
-
-abbrev pub decreases-loop-i : goal.decreases-loop-i
-decreases-loop-i l = user_count - l.i
+invariant-loop-i l = every l.i (λ u. not (seeing (tables_of l.t) l.e.0 (suc u))) ≡ true

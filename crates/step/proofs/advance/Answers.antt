@@ -1,4 +1,5 @@
-use Rattle.std.proofs.Common.{rules, sym, ◌∙◌}
+use Rattle.std.proofs.Common.{arith, refl, rules, sym, ◌∙◌}
+use Rattle.names.specs.RefusalLaws.{refusal_some}
 use Rattle.step.specs.FirstLaws.{known_climbed, unknown}
 use Rattle.step.specs.NoticeLaws.{judged_done, judged_refused}
 use Rattle.step.proofs.advance.Goals as goal
@@ -7,8 +8,8 @@ pub returns-then-not-is_known : goal.returns-then-not-is_known
 returns-then-not-is_known c =
     unknown _ _ c.requires _ c.requester-n.ensures (sym c.is_known.ensures ∙ c.if-not-is_known.true)
 
-pub attend-r-requires : goal.attend-r-requires
-attend-r-requires c =
+pub attend-answer-requires : goal.attend-answer-requires
+attend-answer-requires c =
     known_climbed _ _ c.requires _ c.requester-n.ensures (sym c.is_known.ensures ∙ c.if-not-is_known.false)
 
 pub leave-requires : goal.leave-requires
@@ -16,11 +17,11 @@ leave-requires c =
     let k = known_climbed _ _ c.requires _ c.requester-n.ensures (sym c.is_known.ensures ∙ c.if-not-is_known.false) in
     (search rules, k.low, k.high)
 
-pub returns-then-r-ne-ACCEPTED : goal.returns-then-r-ne-ACCEPTED
-returns-then-r-ne-ACCEPTED c =
-    judged_refused c.attend-r.ensures (known_climbed _ _ c.requires _ c.requester-n.ensures
-    (sym c.is_known.ensures ∙ c.if-not-is_known.false)) c.noticed.ensures c.if-r-ne-ACCEPTED.true
-    c.leave.ensures
+pub returns-in-Err : goal.returns-in-Err
+returns-in-Err c =
+    judged_refused c.in-Err.ensures (known_climbed _ _ c.requires _ c.requester-n.ensures
+    (sym c.is_known.ensures ∙ c.if-not-is_known.false)) c.noticed.ensures
+    (λ z. omega (arith, refusal_some c.in-Err.refusal)) c.leave.ensures
 
-pub returns-else-r-ne-ACCEPTED : goal.returns-else-r-ne-ACCEPTED
-returns-else-r-ne-ACCEPTED c = judged_done c.attend-r.ensures c.if-r-ne-ACCEPTED.false
+pub returns-in_default : goal.returns-in_default
+returns-in_default c = rw c.in_default.is (judged_done c.in_default.ensures refl)

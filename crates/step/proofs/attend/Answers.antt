@@ -1,21 +1,18 @@
-use Rattle.std.proofs.Common.{sym}
-use Rattle.step.specs.FirstLaws.{misshapen, off, on}
+use Rattle.std.proofs.Common.{refl, sym}
+use Rattle.step.specs.FirstLaws.{off, on, unfit}
 use Rattle.step.proofs.attend.Goals as goal
 
-pub well_made-requires : goal.well_made-requires
-well_made-requires c = (c.requires.ready.request, sym c.operation-o.ensures)
+pub returns-in_default : goal.returns-in_default
+returns-in_default c = unfit _ _ _ c.requires c.in_default.ensures
 
-pub returns-then-not-well_made : goal.returns-then-not-well_made
-returns-then-not-well_made c = misshapen _ _ _ c.requires _ c.well_made.ensures c.if-not-well_made.true
-
-pub returns-then-o-device : goal.returns-then-o-device
-returns-then-o-device c =
-    off _ _ _ c.requires _ c.well_made.ensures c.if-not-well_made.false _ _ (sym c.operation-o.ensures)
-    c.device.ensures c.if-o-device.true
+pub returns-then-wants_device-device : goal.returns-then-wants_device-device
+returns-then-wants_device-device c =
+    off _ _ _ c.requires c.in-Some.o c.in-Some.ensures.0 _ (sym c.in-Some.ensures.1) refl _ c.device.ensures
+    (rw c.wants_device.ensures at c.if-wants_device-device.true)
 
 pub serve-requires : goal.serve-requires
 serve-requires c = (
-  on _ _ _ c.requires _ c.well_made.ensures c.if-not-well_made.false _ _ (sym c.operation-o.ensures)
-      c.device.ensures c.if-o-device.false,
-  sym c.operation-o.ensures,
+  on _ _ _ c.requires c.in-Some.o c.in-Some.ensures.0 _ (sym c.in-Some.ensures.1) refl _ c.device.ensures
+      (rw c.wants_device.ensures at c.if-wants_device-device.false),
+  c.in-Some.ensures.0,
 )

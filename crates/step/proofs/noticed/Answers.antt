@@ -1,9 +1,9 @@
-use Rattle.std.proofs.Common.{sym}
-use Rattle.step.specs.FirstLaws.{noticed_none, noticed_up}
+use Rattle.std.proofs.Common.{sym, ◌∙◌}
+use Rattle.step.specs.FirstLaws.{noticed_as, noticed_none}
 use Rattle.step.proofs.noticed.Goals as goal
 
-pub returns-then-o-gt-OPERATION_MOST : goal.returns-then-o-gt-OPERATION_MOST
-returns-then-o-gt-OPERATION_MOST c = noticed_none _ _ (sym c.operation-o.ensures) c.if-o-gt-OPERATION_MOST.true
+pub returns-in-Ok : goal.returns-in-Ok
+returns-in-Ok c = c.from.ensures ∙ noticed_as _ c.in-Ok.o (sym c.operation.ensures ∙ c.in-Ok.ensures)
 
-pub returns : goal.returns
-returns c = noticed_up _ _ (sym c.operation-o.ensures) c.if-o-gt-OPERATION_MOST.false
+pub returns-in-Err : goal.returns-in-Err
+returns-in-Err c = noticed_none _ (rw c.operation.ensures at c.in-Err.ensures.1)

@@ -1,12 +1,16 @@
-use Rattle.step.specs.FirstLaws.{checked_ready, checked_settled, stepped_settled}
+use Rattle.std.proofs.Common.{refl}
+use Rattle.std.proofs.lemmas.Result.{err_from_is_err_and}
+use Rattle.step.specs.FirstLaws.{checked_ready, checked_refused, stepped_settled}
 use Rattle.step.proofs.on_checked.Goals as goal
 
-pub returns-then-c-ne-ACCEPTED : goal.returns-then-c-ne-ACCEPTED
-returns-then-c-ne-ACCEPTED c = checked_settled _ _ _ c.requires c.if-c-ne-ACCEPTED.true
+pub returns-in_err-c : goal.returns-in_err-c
+returns-in_err-c c =
+    let p = err_from_is_err_and c.from_residual.result c.from_residual.ensures.1 in
+    rw (p.1, p.2) (checked_refused _ _ _ (rw c.in_err-c.was at c.requires))
 
 pub advance-requires : goal.advance-requires
-advance-requires c = checked_ready _ _ _ c.requires c.if-c-ne-ACCEPTED.false
+advance-requires c = checked_ready _ _ _ (rw c.in_ok-c.was at c.requires) refl
 
 pub returns : goal.returns
 returns c =
-    stepped_settled _ _ _ c.requires c.if-c-ne-ACCEPTED.false _ _ c.advance.auto.t c.advance.ensures
+    stepped_settled _ _ _ (rw c.in_ok-c.was at c.requires) refl _ _ c.advance.auto.t c.advance.ensures

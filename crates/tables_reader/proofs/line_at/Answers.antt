@@ -15,12 +15,6 @@ overflow_add-n c =
     let e = ends_most c.args.s.now c.loop-i.i c.args.at c.loop-i.invariant.0 in
     omega (arith, c.loop-i.invariant.1, c.requires.1)
 
-pub overflow_add-i : goal.overflow_add-i
-overflow_add-i c = omega (arith, c.loop-i-test.true)
-
-pub loop-i-smaller : goal.loop-i-smaller
-loop-i-smaller c = omega (arith, c.loop-i-test.true)
-
 pub loop-i-preserved : goal.loop-i-preserved
 loop-i-preserved c =
     let l : c.loop-i.i < length c.args.s.now = omega (arith, c.loop-i-test.true, c.requires.0) in (

@@ -1,17 +1,9 @@
-use Rattle.record_writer.specs.ChainLaws.{text_room, text_room2, text_wrote}
+use Rattle.std.proofs.Common.{arith, rules}
+use Rattle.lines.specs.PutsLaws.{puts_wrote_front}
 use Rattle.tables_writer.proofs.write_text.Goals as goal
 
-pub put_users-n-requires : goal.put_users-n-requires
-put_users-n-requires c = (
-  c.requires.0.long,
-  text_room c.args.tables.now c.args.out.now
-      c.requires.1,
-)
-
-pub put_entities-requires : goal.put_entities-requires
-put_entities-requires c =
-    (c.requires.0, text_room2 c.args.tables.now c.args.out.now c.requires.1 c.put_users-n.ensures)
+pub put_text-requires : goal.put_text-requires
+put_text-requires c = (c.requires.0, omega (arith, c.requires.1))
 
 pub returns : goal.returns
-returns c =
-    text_wrote c.args.tables.now c.args.out.now c.requires.1 c.put_users-n.ensures c.put_entities.ensures
+returns c = search (rules, puts_wrote_front)

@@ -10,9 +10,6 @@ use Rattle.verdicts.proofs.judge_all.Goals as goal
 pub clearance-clearance-requires : goal.clearance-clearance-requires
 clearance-clearance-requires c = (c.requires.0.whole, c.requires.0.low, c.requires.0.high)
 
-pub device-requires : goal.device-requires
-device-requires c = (c.requires.0.whole, c.requires.0.low, c.requires.0.high)
-
 pub level-screen-requires : goal.level-screen-requires
 level-screen-requires c = (
   c.requires.0.whole,
@@ -29,9 +26,6 @@ level-screen-requires c = (
         c.requires.0.on,
   ),
 )
-
-pub loop-i-init : goal.loop-i-init
-loop-i-init c = (omega arith, c.requires.1)
 
 pub judge-requires : goal.judge-requires
 judge-requires c = (

@@ -1,13 +1,12 @@
-use Rattle.std.proofs.Common.{◌*◌, ◌+◌, ◌-◌, arith}
+use Rattle.std.proofs.Common.{◌*◌, ◌+◌, ◌-◌, arith, ◌∙◌}
 use Rattle.disclosure.specs.Tallied.{row_words}
 use Rattle.disclosure.specs.TallyLaws.{tallied_less, tally_last, tally_more, under_few}
+use Rattle.verdicts.specs.Verdicts.{listed}
 use Rattle.disclosure.proofs.tally.tally.Goals as goal
 
-pub bounds-v-e : goal.bounds-v-e
-bounds-v-e c = omega (arith, c.requires.4)
-
 pub returns-then-k-eq0 : goal.returns-then-k-eq0
-returns-then-k-eq0 c = tally_last c.args.t.now c.args.v.now _ _ c.if-k-eq0.true
+unfolding listed
+returns-then-k-eq0 c = c.from-shown.ensures ∙ tally_last c.args.t.now c.args.v.now c.args.k c.args.e.0 c.if-k-eq0.true
 
 pub tally_places-requires : goal.tally_places-requires
 tally_places-requires c = (
@@ -20,14 +19,17 @@ tally_places-requires c = (
 )
 
 pub overflow_add-result : goal.overflow_add-result
+unfolding listed
 overflow_add-result c =
     omega (
       arith,
+      c.from-shown.ensures,
       tally_more c.args.t.now c.args.v.now c.args.k c.args.e.0 _ c.if-k-eq0.false
           c.tally_places.ensures,
       under_few c.args.t.now c.args.v.now c.requires.0 c.args.k c.args.e.0 c.requires.2,
     )
 
 pub returns : goal.returns
+unfolding listed
 returns c =
-    tally_more c.args.t.now c.args.v.now c.args.k c.args.e.0 _ c.if-k-eq0.false c.tally_places.ensures
+    rw c.from-shown.ensures (tally_more c.args.t.now c.args.v.now c.args.k c.args.e.0 _ c.if-k-eq0.false c.tally_places.ensures)

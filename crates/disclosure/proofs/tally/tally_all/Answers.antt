@@ -9,15 +9,6 @@ pub loop-e-init : goal.loop-e-init
 unfolding walk through
 loop-e-init c = (omega arith, refl)
 
-pub overflow_add-s : goal.overflow_add-s
-overflow_add-s c = omega (arith, c.loop-e-test.true)
-
-pub offset_bounds-b-e : goal.offset_bounds-b-e
-offset_bounds-b-e c = omega (arith, c.loop-e-test.true)
-
-pub bounds-b-e : goal.bounds-b-e
-bounds-b-e c = omega (arith, c.loop-e-test.true)
-
 pub overflow_add-s-in-loop-e : goal.overflow_add-s-in-loop-e
 overflow_add-s-in-loop-e c =
     omega (
@@ -29,12 +20,6 @@ overflow_add-s-in-loop-e c =
       followed_few c.args.t.now c.args.v.now
           c.requires.0 (c.loop-e.e + 1),
     )
-
-pub overflow_add-e : goal.overflow_add-e
-overflow_add-e c = omega (arith, c.loop-e-test.true)
-
-pub loop-e-smaller : goal.loop-e-smaller
-loop-e-smaller c = omega (arith, c.loop-e-test.true)
 
 pub loop-e-preserved : goal.loop-e-preserved
 loop-e-preserved c = (

@@ -8,9 +8,6 @@ loop-i-init c = (
   tallied_first c.args.t.now c.args.v.now c.args.b.now c.args.k c.requires.1,
 )
 
-pub overflow_add-i : goal.overflow_add-i
-overflow_add-i c = omega (arith, c.loop-i-test.true)
-
 pub tally-requires : goal.tally-requires
 tally-requires c = (
   c.requires.0,
@@ -20,27 +17,6 @@ tally-requires c = (
   omega arith,
   omega (arith, c.loop-i-test.true),
 )
-
-pub overflow_mul-b : goal.overflow_mul-b
-overflow_mul-b c = omega (arith, c.requires.2, c.loop-i-test.true)
-
-pub overflow_add-b : goal.overflow_add-b
-overflow_add-b c = omega (arith, c.requires.2, c.loop-i-test.true)
-
-pub overflow_add-b-in-loop-i : goal.overflow_add-b-in-loop-i
-overflow_add-b-in-loop-i c = omega (arith, c.requires.2, c.loop-i-test.true)
-
-pub offset_bounds-b-k : goal.offset_bounds-b-k
-offset_bounds-b-k c = omega (arith, c.requires.2, c.loop-i-test.true)
-
-pub bounds-b-k : goal.bounds-b-k
-bounds-b-k c = omega (arith, c.requires.2, c.loop-i-test.true)
-
-pub overflow_add-i-in-loop-i : goal.overflow_add-i-in-loop-i
-overflow_add-i-in-loop-i c = omega (arith, c.requires.2, c.loop-i-test.true)
-
-pub loop-i-smaller : goal.loop-i-smaller
-loop-i-smaller c = omega (arith, c.requires.2, c.loop-i-test.true)
 
 pub loop-i-preserved : goal.loop-i-preserved
 loop-i-preserved c = (

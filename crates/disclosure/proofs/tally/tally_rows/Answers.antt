@@ -3,12 +3,6 @@ use Rattle.disclosure.specs.Tallied.{row_words, tally_words}
 use Rattle.disclosure.specs.TallyLaws.{tallied_less}
 use Rattle.disclosure.proofs.tally.tally_rows.Goals as goal
 
-pub loop-k-init : goal.loop-k-init
-loop-k-init c = (omega arith, c.requires.1)
-
-pub tally_row-requires : goal.tally_row-requires
-tally_row-requires c = (c.requires.0, c.loop-k.invariant.1, omega arith)
-
 pub loop-k-preserved : goal.loop-k-preserved
 loop-k-preserved c = (omega arith, c.tally_row.ensures)
 

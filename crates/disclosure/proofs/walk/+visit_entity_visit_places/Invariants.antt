@@ -10,8 +10,5 @@ abbrev pub decreases-visit_places : goal.decreases-visit_places
 decreases-visit_places l = l.left + l.left
 
 abbrev pub invariant-visit_places-loop-p : goal.invariant-visit_places-loop-p
-invariant-visit_places-loop-p l = (l.p ≤ l.n) × Visited (take (name_count - l.left) l.names) l.initial.room l.at (inside l.t l.v (l.left - 1) l.e.0 l.p) l.i
-    l.room
-
-abbrev pub decreases-visit_places-loop-p : goal.decreases-visit_places-loop-p
-decreases-visit_places-loop-p l = l.n - l.p
+invariant-visit_places-loop-p l = (l.p ≤ l.n)
+    × Visited (take (name_count - l.left) l.names) l.initial.room l.at (inside l.g.tables.now l.g.verdicts.now (l.left - 1) l.e.0 l.p) l.i l.room

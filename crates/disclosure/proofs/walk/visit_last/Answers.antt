@@ -1,18 +1,8 @@
-use Rattle.disclosure.specs.VisitLaws.{here_next, here_no, here_yes}
+use Rattle.disclosure.specs.VisitLaws.{here_no, here_yes}
 use Rattle.disclosure.proofs.walk.visit_last.Goals as goal
 
 pub returns-then-not-shown : goal.returns-then-not-shown
 returns-then-not-shown c = here_no c.args.shown _ _ _ c.if-not-shown.true
-
-pub put_last-requires : goal.put_last-requires
-put_last-requires c = (
-  c.requires.0,
-  c.requires.1,
-  c.requires.2,
-  here_next
-      c.args.shown c.args.room.now _
-      c.if-not-shown.false c.requires.3,
-)
 
 pub returns : goal.returns
 returns c =

@@ -1,7 +1,7 @@
 use Rattle.std.proofs.Common.{arith, lit≤, sym, ◌∙◌}
 use Rattle.reference.specs.WayLaws.{well_formed_ranged}
 use Rattle.ladder.specs.NameLaws.{first_in, operation_in_lem}
-use Rattle.ladder.specs.OperandLaws.{found_in, one_barred, one_fine, one_nowhere, one_shut}
+use Rattle.ladder.specs.OperandLaws.{first_is, found_in, one_barred, one_fine, one_nowhere, one_shut}
 use Rattle.request.specs.NameLaws.{names_some}
 use Rattle.ladder.proofs.operands.one_operand.Goals as goal
 
@@ -20,8 +20,8 @@ resolve-requires c = (
       c.first_names.ensures (names_some _ z.0 z.1),
 )
 
-pub returns-in_default : goal.returns-in_default
-returns-in_default c =
+pub returns-in_default-clause-answer : goal.returns-in_default-clause-answer
+returns-in_default-clause-answer c =
     one_nowhere _ _ _ _ _ c.requires.0.user c.requires.1 c.clearance-l.ensures c.requires.2 _ c.first_names.ensures _
     c.resolve.ensures c.in_default.is
 
@@ -36,20 +36,23 @@ is_permitted-requires c =
       lit≤ tt,
     )
 
-pub returns-then-not-is_permitted : goal.returns-then-not-is_permitted
-returns-then-not-is_permitted c =
+pub returns-then-not-is_permitted-clause-answer : goal.returns-then-not-is_permitted-clause-answer
+returns-then-not-is_permitted-clause-answer c =
     one_shut _ _ _ _ _ c.requires.0.user c.requires.1 c.clearance-l.ensures c.requires.2 _ c.first_names.ensures _ c.resolve.ensures
     c.in-At.e c.in-At.clear c.in-At.is _
     c.is_permitted.ensures c.if-not-is_permitted.true
 
-pub returns-then-not-clear : goal.returns-then-not-clear
-returns-then-not-clear c =
+pub returns-then-not-clear-clause-answer : goal.returns-then-not-clear-clause-answer
+returns-then-not-clear-clause-answer c =
     one_barred _ _ _ _ _ c.requires.0.user c.requires.1 c.clearance-l.ensures c.requires.2 _ c.first_names.ensures _
     c.resolve.ensures c.in-At.e c.in-At.clear c.in-At.is _ c.is_permitted.ensures
     c.if-not-is_permitted.false c.if-not-clear.true
 
-pub returns : goal.returns
-returns c =
+pub returns-clause-answer : goal.returns-clause-answer
+returns-clause-answer c =
     one_fine _ _ _ _ _ c.requires.0.user c.requires.1 c.clearance-l.ensures c.requires.2 _ c.first_names.ensures _ c.resolve.ensures
     c.in-At.e c.in-At.clear c.in-At.is _ c.is_permitted.ensures c.if-not-is_permitted.false
     c.if-not-clear.false
+
+pub returns-clause-operand : goal.returns-clause-operand
+returns-clause-operand c = first_is _ _ _ _ _ c.resolve.ensures c.in-At.e c.in-At.clear c.in-At.is c.first_names.ensures

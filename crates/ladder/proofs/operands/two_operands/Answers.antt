@@ -1,7 +1,7 @@
 use Rattle.std.proofs.Common.{arith, lit≤, sym, ◌∙◌}
 use Rattle.reference.specs.WayLaws.{well_formed_ranged}
 use Rattle.ladder.specs.NameLaws.{first_in, operation_in_lem, second_in}
-use Rattle.ladder.specs.OperandLaws.{found_in, two_barred, two_fine, two_nowhere, two_nowhere₂, two_shut, two_shut₂}
+use Rattle.ladder.specs.OperandLaws.{first_is, found_in, second_is, two_barred, two_fine, two_nowhere, two_nowhere₂, two_shut, two_shut₂}
 use Rattle.request.specs.NameLaws.{names_some}
 use Rattle.ladder.proofs.operands.two_operands.Goals as goal
 
@@ -20,8 +20,8 @@ resolve-requires c = (
       c.first_names.ensures (names_some _ z.0 z.1),
 )
 
-pub returns-in_default : goal.returns-in_default
-returns-in_default c =
+pub returns-in_default-clause-answer : goal.returns-in_default-clause-answer
+returns-in_default-clause-answer c =
     two_nowhere _ _ _ _ _ c.requires.0.user c.requires.1 c.clearance-l.ensures c.requires.2 _ c.first_names.ensures _
     c.resolve.ensures c.in_default.is
 
@@ -37,8 +37,8 @@ resolve-requires-2 c = (
       c.second_names.ensures (names_some _ z.0 z.1),
 )
 
-pub returns-in_default-resolve : goal.returns-in_default-resolve
-returns-in_default-resolve c =
+pub returns-in_default-resolve-clause-answer : goal.returns-in_default-resolve-clause-answer
+returns-in_default-resolve-clause-answer c =
     two_nowhere₂ _ _ _ _ _ c.requires.0.user c.requires.1 c.clearance-l.ensures c.requires.2 _ c.first_names.ensures _
     c.resolve.ensures c.in-At.e c.in-At.clear c.in-At.is _ c.second_names.ensures _
     c.resolve-2.ensures c.in_default-resolve.is
@@ -54,8 +54,8 @@ is_permitted-requires c =
       lit≤ tt,
     )
 
-pub returns-then-not-is_permitted : goal.returns-then-not-is_permitted
-returns-then-not-is_permitted c =
+pub returns-then-not-is_permitted-clause-answer : goal.returns-then-not-is_permitted-clause-answer
+returns-then-not-is_permitted-clause-answer c =
     two_shut _ _ _ _ _ c.requires.0.user c.requires.1 c.clearance-l.ensures c.requires.2 _ c.first_names.ensures _
     c.resolve.ensures c.in-At.e c.in-At.clear c.in-At.is _ c.second_names.ensures _ c.resolve-2.ensures
     c.in-At-resolve.c c.in-At-resolve.free c.in-At-resolve.is _
@@ -72,23 +72,31 @@ is_permitted-requires-2 c =
       lit≤ tt,
     )
 
-pub returns-then-not-is_permitted-2 : goal.returns-then-not-is_permitted-2
-returns-then-not-is_permitted-2 c =
+pub returns-then-not-is_permitted-2-clause-answer : goal.returns-then-not-is_permitted-2-clause-answer
+returns-then-not-is_permitted-2-clause-answer c =
     two_shut₂ _ _ _ _ _ c.requires.0.user c.requires.1 c.clearance-l.ensures c.requires.2 _ c.first_names.ensures _
     c.resolve.ensures c.in-At.e c.in-At.clear c.in-At.is _ c.second_names.ensures _ c.resolve-2.ensures
     c.in-At-resolve.c c.in-At-resolve.free c.in-At-resolve.is _ c.is_permitted.ensures
     c.if-not-is_permitted.false _ c.is_permitted-2.ensures c.if-not-is_permitted-2.true
 
-pub returns-then-not-clear-free : goal.returns-then-not-clear-free
-returns-then-not-clear-free c =
+pub returns-then-not-clear-free-clause-answer : goal.returns-then-not-clear-free-clause-answer
+returns-then-not-clear-free-clause-answer c =
     two_barred _ _ _ _ _ c.requires.0.user c.requires.1 c.clearance-l.ensures c.requires.2 _ c.first_names.ensures _
     c.resolve.ensures c.in-At.e c.in-At.clear c.in-At.is _ c.second_names.ensures _ c.resolve-2.ensures
     c.in-At-resolve.c c.in-At-resolve.free c.in-At-resolve.is _ c.is_permitted.ensures c.if-not-is_permitted.false
     _ c.is_permitted-2.ensures c.if-not-is_permitted-2.false c.if-not-clear-free.true
 
-pub returns : goal.returns
-returns c =
+pub returns-clause-answer : goal.returns-clause-answer
+returns-clause-answer c =
     two_fine _ _ _ _ _ c.requires.0.user c.requires.1 c.clearance-l.ensures c.requires.2 _ c.first_names.ensures _
     c.resolve.ensures c.in-At.e c.in-At.clear c.in-At.is _ c.second_names.ensures _ c.resolve-2.ensures
     c.in-At-resolve.c c.in-At-resolve.free c.in-At-resolve.is _ c.is_permitted.ensures c.if-not-is_permitted.false
     _ c.is_permitted-2.ensures c.if-not-is_permitted-2.false c.if-not-clear-free.false
+
+pub returns-clause-first : goal.returns-clause-first
+returns-clause-first c = first_is _ _ _ _ _ c.resolve.ensures c.in-At.e c.in-At.clear c.in-At.is c.first_names.ensures
+
+pub returns-clause-second : goal.returns-clause-second
+returns-clause-second c =
+    second_is _ _ _ _ _ c.resolve-2.ensures c.in-At-resolve.c c.in-At-resolve.free c.in-At-resolve.is
+    c.second_names.ensures

@@ -1,76 +1,33 @@
-use Rattle.std.proofs.Common.{arith}
+use Rattle.std.proofs.Common.{arith, length, ◌<◌}
 use Rattle.lines.specs.LineAtLaws.{key_room, line_behind, line_no_key, line_no_number, line_one, line_short}
-use Rattle.lines.specs.NumberAtLaws.{byte, number_bad, number_other, other, range}
+use Rattle.lines.specs.NumberAtLaws.{number_bad, number_other, other}
 use Rattle.lines.proofs.reading.read_line.Goals as goal
 
 pub returns-then-s-at : goal.returns-then-s-at
 returns-then-s-at c = line_short c.if-s-at.true
 
-pub returns-in_default : goal.returns-in_default
-returns-in_default c = line_no_key (rw c.in_default.is at c.read_key.ensures)
+pub returns-in_err-i : goal.returns-in_err-i
+returns-in_err-i c = rw c.from_residual.ensures (line_no_key c.in_err-i.ensures)
 
 pub bounds-s-i : goal.bounds-s-i
 bounds-s-i c =
-    let pre = c.requires in
-    let k = rw c.in-At.is at c.read_key.ensures in
-    let room = key_room pre c.if-s-at.false k in
-    omega (arith, room)
+    let room = key_room c.requires c.if-s-at.false c.in_ok-i.ensures in
+    omega arith
 
-pub returns-then-b : goal.returns-then-b
-returns-then-b c =
-    let pre = c.requires in
-    let a = c.args in
-    let k = rw c.in-At.is at c.read_key.ensures in
-    let room = key_room pre c.if-s-at.false k in
-    let none = other (byte a.s.now c.in-At.i) c.if-b.true in
-    line_no_number k (number_bad (number_other a.s.now c.in-At.i (omega (arith, room)) none))
-
-pub overflow_add-i : goal.overflow_add-i
-overflow_add-i c =
-    let pre = c.requires in
-    let good = c.well_formed in
-    let k = rw c.in-At.is at c.read_key.ensures in
-    let room = key_room pre c.if-s-at.false k in
-    omega (arith, room, good)
+pub returns-then-not-is_ascii_digit : goal.returns-then-not-is_ascii_digit
+returns-then-not-is_ascii_digit c =
+    let room = key_room c.requires c.if-s-at.false c.in_ok-i.ensures in
+    let l : c.in_ok-i.i < length c.args.s.now = omega arith in
+    line_no_number c.in_ok-i.ensures (number_bad (number_other _ _ l (other _ c.if-not-is_ascii_digit.ensures.cases)))
 
 pub bounds-s-i-2 : goal.bounds-s-i-2
-bounds-s-i-2 c =
-    let pre = c.requires in
-    let k = rw c.in-At.is at c.read_key.ensures in
-    key_room pre c.if-s-at.false k
-
-pub read_rest-requires : goal.read_rest-requires
-read_rest-requires c =
-    (rw c.in-At.is at c.read_key.ensures).within
+bounds-s-i-2 c = key_room c.requires c.if-s-at.false c.in_ok-i.ensures
 
 pub returns-then-s-i-ne-LINE_END : goal.returns-then-s-i-ne-LINE_END
-returns-then-s-i-ne-LINE_END c =
-    line_behind (rw c.in-At.is at c.read_key.ensures) c.read_rest.ensures
-
-pub digit-requires : goal.digit-requires
-digit-requires c =
-    let a = c.args in
-    (range (byte a.s.now c.in-At.i) c.if-b.false).0
-
-pub overflow_add-i-2 : goal.overflow_add-i-2
-overflow_add-i-2 c =
-    let pre = c.requires in
-    let good = c.well_formed in
-    let k = rw c.in-At.is at c.read_key.ensures in
-    let room = key_room pre c.if-s-at.false k in
-    omega (arith, room, good)
-
-pub value-requires : goal.value-requires
-value-requires c =
-    let a = c.args in
-    let r = range (byte a.s.now c.in-At.i) c.if-b.false in
-    omega (arith, c.digit.ensures, r.1)
+returns-then-s-i-ne-LINE_END c = line_behind c.in_ok-i.ensures c.read_rest.ensures
 
 pub returns : goal.returns
 returns c =
-    let pre = c.requires in
-    let a = c.args in
-    let k = rw c.in-At.is at c.read_key.ensures in
-    let room = key_room pre c.if-s-at.false k in
-    let r = range (byte a.s.now c.in-At.i) c.if-b.false in
-    rw (c.value.ensures, c.digit.ensures) (line_one k room r.0 r.1 c.if-s-i-ne-LINE_END.false)
+    let room = key_room c.requires c.if-s-at.false c.in_ok-i.ensures in
+    let d = c.if-not-is_ascii_digit.ensures.cases in
+    rw (c.fitting.ensures, c.digit.ensures) (line_one c.in_ok-i.ensures room d.0 d.1 c.if-s-i-ne-LINE_END.false)

@@ -1,9 +1,6 @@
-use Rattle.std.proofs.Common.{◌-◌, length, take, ◌≡◌, ◌≤◌}
+use Rattle.std.proofs.Common.{length, take, ◌≡◌}
 use Rattle.lines.specs.Onto.{onto}
 use Rattle.lines.proofs.writing.write_bytes.Given as goal
 
 abbrev pub invariant-loop-i : goal.invariant-loop-i
-invariant-loop-i l = (l.i ≤ length l.src) × (length l.out ≡ length l.initial.out) × (l.out ≡ onto (take l.i l.src) l.initial.out)
-
-abbrev pub decreases-loop-i : goal.decreases-loop-i
-decreases-loop-i l = length l.src - l.i
+invariant-loop-i l = (length l.out ≡ length l.initial.out) × (l.out ≡ onto (take l.i l.src) l.initial.out)

@@ -29,10 +29,6 @@ returns-then-n-k c =
     c.clearance.ensures c.level.ensures c.at_most.ensures c.at_most-2.ensures c.if-at_most.false _ _
     c.used-n.ensures c.place_of-k.ensures c.if-n-k.true
 
-pub a-a-requires : goal.a-a-requires
-a-a-requires c =
-    c.requires.0.climbed.ready.request
-
 pub returns-then-not-is_labelled : goal.returns-then-not-is_labelled
 returns-then-not-is_labelled c =
     show_bare _ _ _ _ c.requires _ c.is_entity.ensures c.if-not-is_entity.false _ _ _ _ _ _ c.device-v.ensures c.level-l.ensures

@@ -3,4 +3,4 @@ use Rattle.op_devices.proofs.settings.device_dropped.Goals as goal
 
 pub returns : goal.returns
 unfolding drops
-returns c = rw (c.at_most.ensures, c.device.ensures, c.has_role.ensures)
+returns c = rw (c.at_most.ensures, c.ne.ensures, c.device.ensures, c.has_role.ensures)

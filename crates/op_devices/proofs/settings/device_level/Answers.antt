@@ -1,7 +1,7 @@
 use Rattle.std.proofs.Common.{sym, ◌∙◌}
 use Rattle.model.specs.Basics.TestLaws.{is_true}
 use Rattle.model.proofs.Request.ConditionLaws.{device_agrees}
-use Rattle.op_devices.specs.SettingLaws.{device_level_10, device_level_12, device_level_13, device_level_done}
+use Rattle.op_devices.specs.SettingLaws.{device_level_10, device_level_12, device_level_tried}
 use Rattle.op_devices.proofs.settings.device_level.Goals as goal
 
 pub returns-then-not-is_device : goal.returns-then-not-is_device
@@ -21,15 +21,7 @@ try_device_level-requires c = (
       (is_true _ (sym c.is_device.ensures ∙ c.if-not-is_device.false)),
 )
 
-pub returns-then-not-try_device_level : goal.returns-then-not-try_device_level
-returns-then-not-try_device_level c =
-    rw (c.try_device_level.ensures.unchanged c.if-not-try_device_level.true)
-    (device_level_13 _ _ _ _ c.requires.0 c.requires.1 _ c.is_device.ensures c.if-not-is_device.false _ c.a.ensures _
-    (c.device_dropped.ensures ∙ rw c.level.ensures) c.if-device_dropped.false _ c.try_device_level.ensures.secure
-    c.if-not-try_device_level.true)
-
 pub returns : goal.returns
 returns c =
-    device_level_done _ _ _ _ c.requires.0 c.requires.1 _ c.is_device.ensures c.if-not-is_device.false _ c.a.ensures _
-    (c.device_dropped.ensures ∙ rw c.level.ensures) c.if-device_dropped.false _ c.try_device_level.ensures.secure
-    c.if-not-try_device_level.false _ (c.try_device_level.ensures.kept c.if-not-try_device_level.false)
+    device_level_tried _ _ _ _ c.requires.0 c.requires.1 _ c.is_device.ensures c.if-not-is_device.false _ c.a.ensures _
+    (c.device_dropped.ensures ∙ rw c.level.ensures) c.if-device_dropped.false _ _ c.try_device_level.ensures

@@ -7,11 +7,6 @@ pub returns-then-v-eq0 : goal.returns-then-v-eq0
 returns-then-v-eq0 c =
     screen_off _ c.requires.1 _ _ _ c.requires.2 _ c.device-v.ensures c.if-v-eq0.true
 
-pub holds-requires : goal.holds-requires
-holds-requires c =
-    let r = device_there _ c.requires.1 _ (λ q. c.if-v-eq0.false (c.device-v.ensures ∙ q)) in
-    (c.requires.0.0, omega (arith, c.device-v.ensures, r.0), omega (arith, c.device-v.ensures, r.1))
-
 pub returns-then-not-holds : goal.returns-then-not-holds
 returns-then-not-holds c =
     screen_other _ c.requires.1 _ _ _ c.requires.2 _ c.device-v.ensures c.if-v-eq0.false _ c.holds.ensures

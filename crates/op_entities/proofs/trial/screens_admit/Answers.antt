@@ -6,7 +6,7 @@ use Rattle.op_entities.specs.Held.{screen_admits, screens_admit}
 use Rattle.op_entities.proofs.trial.screens_admit.Goals as goal
 
 pub loop-i-init : goal.loop-i-init
-loop-i-init c = (omega arith, every_none _)
+loop-i-init c = every_none _
 
 pub returns-then-not-screen_admits : goal.returns-then-not-screen_admits
 unfolding screens_admit
@@ -15,12 +15,10 @@ returns-then-not-screen_admits c =
     (sym c.screen_admits.ensures ∙ c.if-not-screen_admits.true)
 
 pub loop-i-preserved : goal.loop-i-preserved
-loop-i-preserved c = (
-  omega arith,
-  each_more _ (screen_admits (tables_of c.args.t.now) c.args.e.0 c.args.a.0)
-      c.loop-i.invariant.1 (sym c.screen_admits.ensures ∙ c.if-not-screen_admits.false),
-)
+loop-i-preserved c =
+    each_more _ (screen_admits (tables_of c.args.t.now) c.args.e.0 c.args.a.0)
+    c.loop-i.invariant (sym c.screen_admits.ensures ∙ c.if-not-screen_admits.false)
 
 pub returns : goal.returns
 unfolding screens_admit
-returns c = every_done _ user_count _ c.loop-i.invariant.1 c.loop-i.invariant.0 (omega arith)
+returns c = every_done _ user_count _ c.loop-i.invariant (omega arith) (omega arith)

@@ -1,6 +1,5 @@
-use Rattle.std.proofs.Common.{arith, refl, sym, ◌∙◌}
+use Rattle.std.proofs.Common.{refl, sym, ◌∙◌}
 use Rattle.op_users.specs.ClearanceLaws.{clearance_off, clearance_on}
-use Rattle.secure.specs.ReachLaws.{device_there}
 use Rattle.ladder.specs.TrialLaws.{tried_left, tried_set}
 use Rattle.op_users.proofs.trial.try_clearance.Goals as goal
 
@@ -8,20 +7,6 @@ pub returns-then-v-eq0 : goal.returns-then-v-eq0
 returns-then-v-eq0 c =
     tried_set _ _ _ (clearance_off _ c.requires.1 _ _ c.requires.0.1 c.requires.0.2 _ c.device-v.ensures c.if-v-eq0.true)
     c.set_clearance.ensures
-
-pub used-requires : goal.used-requires
-used-requires c =
-    let r = device_there _ c.requires.1.0 _ (λ q. c.if-v-eq0.false (c.device-v.ensures ∙ q)) in (
-      c.requires.0.0,
-      omega (arith, c.device-v.ensures, r.0),
-      omega
-          (arith, c.device-v.ensures, r.1),
-    )
-
-pub all_at_most-requires : goal.all_at_most-requires
-all_at_most-requires c =
-    let r = device_there _ c.requires.1.0 _ (λ q. c.if-v-eq0.false (c.device-v.ensures ∙ q)) in
-    ((c.requires.0.0, omega (arith, c.device-v.ensures, r.0), omega (arith, c.device-v.ensures, r.1)), c.requires.1.0, c.used.ensures)
 
 pub returns-then-not-all_at_most : goal.returns-then-not-all_at_most
 returns-then-not-all_at_most c =

@@ -3,14 +3,10 @@ use Rattle.record_reader.specs.StageLaws.{access_next, access_none, staged}
 use Rattle.record_reader.proofs.records.read_access.Goals as goal
 
 pub returns-in_default : goal.returns-in_default
-returns-in_default c =
-    record { is = access_none _ _ (rw c.in_default.is at c.triples_line.ensures); within = c.requires.0 }
+returns-in_default c = record { is = access_none _ _ c.in_default.ensures; within = c.requires.0 }
 
 pub read_triples-requires : goal.read_triples-requires
-read_triples-requires c =
-    let f = rw c.in-Value.is at c.triples_line.ensures in
-    (f.within, c.requires.1, field_fits f)
+read_triples-requires c = (c.in-Some.ensures.within, c.requires.1, field_fits c.in-Some.ensures)
 
 pub returns : goal.returns
-returns c =
-    staged (access_next _ _ (rw c.in-Value.is at c.triples_line.ensures)) c.read_triples.ensures
+returns c = staged (access_next _ _ c.in-Some.ensures) c.read_triples.ensures

@@ -1,6 +1,7 @@
 use Rattle.std.proofs.Common.{arith, ◌∙◌}
+use Rattle.std.proofs.lemmas.Result.{err_from_is_err_and}
 use Rattle.model.specs.Tables.Words.{entity_count}
-use Rattle.record_reader.specs.NumberedLaws.{inside, records_next, records_none, records_out, records_past, records_stuck, entities_are}
+use Rattle.record_reader.specs.NumberedLaws.{entities_are, inside, records_next, records_none, records_out, records_past, records_stuck}
 use Rattle.record_reader.proofs.records.read_entities.Goals as goal
 
 pub loop-last-init : goal.loop-last-init
@@ -10,34 +11,32 @@ pub read_line-requires : goal.read_line-requires
 read_line-requires c = c.loop-last.invariant.within
 
 pub returns-in_default : goal.returns-in_default
-returns-in_default c =
-    records_none (omega arith) c.loop-last.invariant (rw c.in_default.is at c.read_line.ensures)
+returns-in_default c = records_none (omega arith) c.loop-last.invariant c.in_default.ensures
 
 pub returns-then-v-last : goal.returns-then-v-last
-returns-then-v-last c =
-    records_out (omega arith) c.loop-last.invariant (rw c.in-Value.is at c.read_line.ensures) c.if-v-last.true
+returns-then-v-last c = records_out (omega arith) c.loop-last.invariant c.in-Some.ensures c.if-v-last.true
 
 pub read_entity-requires : goal.read_entity-requires
 read_entity-requires c =
-    let i = inside c.loop-last.last entity_count c.in-Value.v c.if-v-last.false in
-    ((rw c.in-Value.is at c.read_line.ensures).within, (c.loop-last.invariant.size, omega (arith, i.0), i.1))
-
-pub returns-in-Stuck : goal.returns-in-Stuck
-returns-in-Stuck c =
     let i = inside _ _ _ c.if-v-last.false in
-    records_stuck (omega arith) c.loop-last.invariant (rw c.in-Value.is at c.read_line.ensures) i.0 i.1
-    (rw c.in-Stuck.is at c.read_entity.ensures)
+    (c.in-Some.ensures.within, (c.loop-last.invariant.size, omega (arith, i.0), i.1))
+
+pub returns-in_err-i : goal.returns-in_err-i
+returns-in_err-i c =
+    let i = inside _ _ _ c.if-v-last.false in
+    let p = err_from_is_err_and c.from_residual.result c.from_residual.ensures.1 in
+    rw (p.1, p.2) (records_stuck (omega arith) c.loop-last.invariant c.in-Some.ensures i.0 i.1 c.in_err-i.ensures)
 
 pub loop-last-smaller : goal.loop-last-smaller
 loop-last-smaller c =
-    let i = inside c.loop-last.last entity_count c.in-Value.v c.if-v-last.false in
+    let i = inside c.loop-last.last entity_count c.in-Some.field-0.v c.if-v-last.false in
     omega (arith, i.0, i.1)
 
 pub loop-last-preserved : goal.loop-last-preserved
 loop-last-preserved c =
     let i = inside _ _ _ c.if-v-last.false in
-    records_next (omega arith) c.loop-last.invariant (rw c.in-Value.is at c.read_line.ensures) i.0 i.1
-    (rw c.in-Past.is at c.read_entity.ensures) (c.read_entity.auto.t ∙ c.loop-last.invariant.size)
+    records_next (omega arith) c.loop-last.invariant c.in-Some.ensures i.0 i.1 c.in_ok-i.ensures
+    (c.read_entity.auto.t ∙ c.loop-last.invariant.size)
 
 pub returns : goal.returns
 returns c = records_past (omega arith) c.loop-last.invariant c.loop-last-test.false

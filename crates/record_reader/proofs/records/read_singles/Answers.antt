@@ -9,26 +9,16 @@ pub entity_line-requires : goal.entity_line-requires
 entity_line-requires c = (c.loop-j.invariant.within, c.loop-j-test.true)
 
 pub returns-in_default : goal.returns-in_default
-returns-in_default c =
-    entity_stuck c.loop-j.invariant c.loop-j-test.true (rw c.in_default.is at
-    c.entity_line.ensures)
+returns-in_default c = entity_stuck c.loop-j.invariant c.loop-j-test.true c.in_default.ensures
 
-pub set_entity_at-requires : goal.set_entity_at-requires
-set_entity_at-requires c =
+pub set_word_at-requires : goal.set_word_at-requires
+set_word_at-requires c =
     ((c.loop-j.invariant.size, c.requires.1.1, c.requires.1.2), omega (arith, c.loop-j-test.true))
-
-pub overflow_add-j : goal.overflow_add-j
-overflow_add-j c =
-    omega (arith, c.loop-j-test.true)
-
-pub loop-j-smaller : goal.loop-j-smaller
-loop-j-smaller c =
-    omega (arith, c.loop-j-test.true)
 
 pub loop-j-preserved : goal.loop-j-preserved
 loop-j-preserved c =
-    entity_next c.loop-j.invariant c.loop-j-test.true (rw c.in-Value.is at c.entity_line.ensures)
-    c.set_entity_at.ensures (c.set_entity_at.auto.t ∙ c.loop-j.invariant.size)
+    entity_next c.loop-j.invariant c.loop-j-test.true c.in-Some.ensures c.set_word_at.ensures
+    (c.set_word_at.auto.t ∙ c.loop-j.invariant.size)
 
 pub returns : goal.returns
 returns c = entity_past c.loop-j.invariant c.loop-j-test.false

@@ -7,13 +7,8 @@ use Rattle.record_reader.proofs.rows.read_places.Goals as goal
 pub loop-k-init : goal.loop-k-init
 loop-k-init c = places_start _ _ c.requires.0 c.requires.1.0
 
-pub place_line-requires : goal.place_line-requires
-place_line-requires c = c.loop-k.invariant.within
-
 pub returns-in_default : goal.returns-in_default
-returns-in_default c =
-    places_stuck c.loop-k.invariant c.loop-k-test.true (rw c.in_default.is at
-    c.place_line.ensures)
+returns-in_default c = places_stuck c.loop-k.invariant c.loop-k-test.true c.in_default.ensures
 
 pub set_place-requires : goal.set_place-requires
 set_place-requires c =
@@ -26,17 +21,9 @@ set_shown-requires c = (
       (arith, c.loop-k-test.true, c.requires.2),
 )
 
-pub overflow_add-k : goal.overflow_add-k
-overflow_add-k c =
-    omega (arith, c.loop-k-test.true, c.requires.2)
-
-pub loop-k-smaller : goal.loop-k-smaller
-loop-k-smaller c =
-    omega (arith, c.loop-k-test.true)
-
 pub loop-k-preserved : goal.loop-k-preserved
 loop-k-preserved c =
-    places_next c.loop-k.invariant c.loop-k-test.true (rw c.in-Has.is at c.place_line.ensures)
+    places_next c.loop-k.invariant c.loop-k-test.true c.in-Some.ensures
     (c.set_shown.ensures ∙ ap (on_entity _ (word (shown _) _)) c.set_place.ensures)
     (c.set_shown.auto.t ∙ c.set_place.auto.t ∙ c.loop-k.invariant.size)
 

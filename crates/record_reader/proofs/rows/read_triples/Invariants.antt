@@ -1,4 +1,4 @@
-use Rattle.std.proofs.Common.{◌-◌, drop}
+use Rattle.std.proofs.Common.{drop}
 use Rattle.model.specs.Tables.Layout.{tables_of}
 use Rattle.record_reader.specs.RecordLaws.{TriplesTo}
 use Rattle.tables_text.specs.Stages.{triples_stage}
@@ -6,6 +6,3 @@ use Rattle.record_reader.proofs.rows.read_triples.Given as goal
 
 abbrev pub invariant-loop-k : goal.invariant-loop-k
 invariant-loop-k l = TriplesTo (triples_stage l.e.0 l.n 0 (tables_of l.initial.t) (drop l.at l.s)) l.e.0 l.n l.s l.i l.k l.t
-
-abbrev pub decreases-loop-k : goal.decreases-loop-k
-decreases-loop-k l = l.n - l.k

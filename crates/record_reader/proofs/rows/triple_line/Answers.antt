@@ -3,59 +3,40 @@ use Rattle.record_reader.specs.RowLaws.{parts_at, small, triple_large, triple_no
 use Rattle.record_reader.specs.RowLaws.{triple_no_who, triple_read, triple_zero}
 use Rattle.record_reader.proofs.rows.triple_line.Goals as goal
 
-pub returns-in_default : goal.returns-in_default
-returns-in_default c = triple_no_key (rw c.in_default.is at c.read_key.ensures)
+pub returns-in_err-i : goal.returns-in_err-i
+returns-in_err-i c = rw c.from_residual.ensures (triple_no_key c.in_err-i.ensures)
 
-pub read_number-requires : goal.read_number-requires
-read_number-requires c = (rw c.in-At.is at c.read_key.ensures).within
+pub returns-in_err-who : goal.returns-in_err-who
+returns-in_err-who c = rw c.from_residual-in_err-who.ensures (triple_no_who c.in_ok-i.ensures c.in_err-who.ensures)
 
-pub returns-in_default-read_number : goal.returns-in_default-read_number
-returns-in_default-read_number c =
-    triple_no_who (rw c.in-At.is at c.read_key.ensures) (rw c.in_default-read_number.is at c.read_number.ensures)
+pub returns-in_err-op : goal.returns-in_err-op
+returns-in_err-op c =
+    rw c.from_residual-in_err-op.ensures (triple_no_operation c.in_ok-i.ensures c.in_ok-who.ensures c.in_err-op.ensures)
 
-pub dot_number-requires : goal.dot_number-requires
-dot_number-requires c = (rw c.in-Value.is at c.read_number.ensures).within
-
-pub returns-in_default-dot_number : goal.returns-in_default-dot_number
-returns-in_default-dot_number c =
-    triple_no_operation (rw c.in-At.is at c.read_key.ensures) (rw c.in-Value.is at c.read_number.ensures)
-    (rw c.in_default-dot_number.is at c.dot_number.ensures)
-
-pub dot_number-requires-2 : goal.dot_number-requires-2
-dot_number-requires-2 c = (rw c.in-Value-dot_number.is at c.dot_number.ensures).within
-
-pub returns-in_default-dot_number-2 : goal.returns-in_default-dot_number-2
-returns-in_default-dot_number-2 c =
-    triple_no_position (rw c.in-At.is at c.read_key.ensures) (rw c.in-Value.is at c.read_number.ensures)
-    (rw c.in-Value-dot_number.is at c.dot_number.ensures) (rw c.in_default-dot_number-2.is at c.dot_number-2.ensures)
+pub returns-in_err-position : goal.returns-in_err-position
+returns-in_err-position c =
+    rw c.from_residual-in_err-position.ensures
+    (triple_no_position c.in_ok-i.ensures c.in_ok-who.ensures c.in_ok-op.ensures c.in_err-position.ensures)
 
 pub returns-then-who-op : goal.returns-then-who-op
 returns-then-who-op c =
-    triple_large (parts_at (rw c.in-At.is at c.read_key.ensures) (rw c.in-Value.is at c.read_number.ensures)
-    (rw c.in-Value-dot_number.is at c.dot_number.ensures) (rw c.in-Value-dot_number-2.is at c.dot_number-2.ensures)) c.if-who-op.true
+    triple_large (parts_at c.in_ok-i.ensures c.in_ok-who.ensures c.in_ok-op.ensures c.in_ok-position.ensures) c.if-who-op.true
 
 pub packed-v-requires : goal.packed-v-requires
 packed-v-requires c = small _ _ _ c.if-who-op.false
 
 pub returns-then-v-eq0 : goal.returns-then-v-eq0
 returns-then-v-eq0 c =
-    triple_zero (parts_at (rw c.in-At.is at c.read_key.ensures) (rw c.in-Value.is at c.read_number.ensures)
-    (rw c.in-Value-dot_number.is at c.dot_number.ensures) (rw c.in-Value-dot_number-2.is at c.dot_number-2.ensures)) c.if-who-op.false
+    triple_zero (parts_at c.in_ok-i.ensures c.in_ok-who.ensures c.in_ok-op.ensures c.in_ok-position.ensures) c.if-who-op.false
     (sym c.packed-v.ensures ∙ c.if-v-eq0.true)
 
-pub read_end-requires : goal.read_end-requires
-read_end-requires c =
-    (rw c.in-Value-dot_number-2.is at c.dot_number-2.ensures).within
-
-pub returns-in_default-read_end : goal.returns-in_default-read_end
-returns-in_default-read_end c =
-    triple_no_end (parts_at (rw c.in-At.is at c.read_key.ensures) (rw c.in-Value.is at c.read_number.ensures)
-    (rw c.in-Value-dot_number.is at c.dot_number.ensures) (rw c.in-Value-dot_number-2.is at c.dot_number-2.ensures)) c.if-who-op.false
-    (λ q. c.if-v-eq0.false (c.packed-v.ensures ∙ q)) (rw c.in_default-read_end.is at c.read_end.ensures)
+pub returns-in_err-next : goal.returns-in_err-next
+returns-in_err-next c =
+    let p = parts_at c.in_ok-i.ensures c.in_ok-who.ensures c.in_ok-op.ensures c.in_ok-position.ensures in
+    rw c.from_residual-in_err-next.ensures
+    (triple_no_end p c.if-who-op.false (λ q. c.if-v-eq0.false (c.packed-v.ensures ∙ q)) c.in_err-next.ensures)
 
 pub returns : goal.returns
 returns c =
-    triple_read (parts_at (rw c.in-At.is at c.read_key.ensures) (rw c.in-Value.is at c.read_number.ensures)
-    (rw c.in-Value-dot_number.is at c.dot_number.ensures) (rw c.in-Value-dot_number-2.is at c.dot_number-2.ensures)) c.if-who-op.false
-    (λ q. c.if-v-eq0.false (c.packed-v.ensures ∙ q)) c.packed-v.ensures (rw c.in-At-read_end.is at
-    c.read_end.ensures)
+    let p = parts_at c.in_ok-i.ensures c.in_ok-who.ensures c.in_ok-op.ensures c.in_ok-position.ensures in
+    triple_read p c.if-who-op.false (λ q. c.if-v-eq0.false (c.packed-v.ensures ∙ q)) c.packed-v.ensures c.in_ok-next.ensures

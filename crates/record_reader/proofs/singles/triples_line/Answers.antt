@@ -3,13 +3,11 @@ use Rattle.record_reader.specs.FieldLaws.{field_bad, field_over, field_value}
 use Rattle.tables_text.specs.Keys.{triples_field}
 use Rattle.record_reader.proofs.singles.triples_line.Goals as goal
 
-pub returns-then-v-gt-TRIPLES : goal.returns-then-v-gt-TRIPLES
-returns-then-v-gt-TRIPLES c =
-    field_over triples_field (rw c.in-Value.is at c.read_line.ensures) (omega arith) c.if-v-gt-TRIPLES.true
+pub returns-in_err-n : goal.returns-in_err-n
+returns-in_err-n c = rw c.from_residual.ensures (field_bad triples_field c.in_err-n.ensures)
 
-pub returns-in-Bad : goal.returns-in-Bad
-returns-in-Bad c = field_bad triples_field (rw c.in-Bad.is at c.read_line.ensures)
+pub returns-then-n-gt-TRIPLES : goal.returns-then-n-gt-TRIPLES
+returns-then-n-gt-TRIPLES c = field_over triples_field c.in_ok-n.ensures (omega arith) c.if-n-gt-TRIPLES.true
 
-pub returns-else-v-gt-TRIPLES : goal.returns-else-v-gt-TRIPLES
-returns-else-v-gt-TRIPLES c =
-    field_value triples_field (rw c.in-Value.is at c.read_line.ensures) (omega arith) c.if-v-gt-TRIPLES.false
+pub returns : goal.returns
+returns c = field_value triples_field c.in_ok-n.ensures (omega arith) c.if-n-gt-TRIPLES.false

@@ -2,25 +2,25 @@ use Rattle.std.proofs.Common.{arith, ◌≡◌}
 use Rattle.record_reader.specs.FieldLaws.{any_field}
 use Rattle.record_reader.proofs.singles.user_line.Goals as goal
 
-pub returns-then-j-eq-CLEARANCE : goal.returns-then-j-eq-CLEARANCE
-returns-then-j-eq-CLEARANCE c = rw c.if-j-eq-CLEARANCE.true (any_field c.read_line.ensures)
+pub returns-in-1 : goal.returns-in-1
+returns-in-1 c = rw c.in-1.is (any_field c.read_line.ensures)
 
-pub returns-then-j-eq-AUTHORISED : goal.returns-then-j-eq-AUTHORISED
-returns-then-j-eq-AUTHORISED c = rw c.if-j-eq-AUTHORISED.true (any_field c.read_line-then-j-eq-AUTHORISED.ensures)
+pub returns-in-2 : goal.returns-in-2
+returns-in-2 c = rw c.in-2.is (any_field c.read_line-in-2.ensures)
 
-pub returns-then-j-eq-CURRENT : goal.returns-then-j-eq-CURRENT
-returns-then-j-eq-CURRENT c = rw c.if-j-eq-CURRENT.true (any_field c.read_line-then-j-eq-CURRENT.ensures)
+pub returns-in-3 : goal.returns-in-3
+returns-in-3 c = rw c.in-3.is (any_field c.read_line-in-3.ensures)
 
-pub returns-then-j-eq-DEVICE : goal.returns-then-j-eq-DEVICE
-returns-then-j-eq-DEVICE c = rw c.if-j-eq-DEVICE.true (any_field c.read_line-then-j-eq-DEVICE.ensures)
+pub returns-in-4 : goal.returns-in-4
+returns-in-4 c = rw c.in-4.is (any_field c.read_line-in-4.ensures)
 
-pub returns-then-j-eq-HELD : goal.returns-then-j-eq-HELD
-returns-then-j-eq-HELD c = rw c.if-j-eq-HELD.true (any_field c.read_line-then-j-eq-HELD.ensures)
+pub returns-in-5 : goal.returns-in-5
+returns-in-5 c = rw c.in-5.is (any_field c.read_line-in-5.ensures)
 
-pub returns-then-j-eq-HELD_OPERATION : goal.returns-then-j-eq-HELD_OPERATION
-returns-then-j-eq-HELD_OPERATION c = rw c.if-j-eq-HELD_OPERATION.true (any_field c.read_line-then-j-eq-HELD_OPERATION.ensures)
+pub returns-in-6 : goal.returns-in-6
+returns-in-6 c = rw c.in-6.is (any_field c.read_line-in-6.ensures)
 
-pub returns : goal.returns
-returns c =
+pub returns-in_default : goal.returns-in_default
+returns-in_default c =
     let e : c.args.j ≡ 7 = omega arith in
-    rw e (any_field c.read_line-2.ensures)
+    rw e (any_field c.read_line-in_default.ensures)

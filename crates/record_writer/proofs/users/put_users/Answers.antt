@@ -1,26 +1,24 @@
 use Rattle.std.proofs.Common.{arith, ◌≡◌}
 use Rattle.model.specs.Tables.Layout.{tables_of}
-use Rattle.record_writer.specs.SeriesLaws.{series_puts, series_room, series_start}
+use Rattle.record_writer.specs.SeriesLaws.{series_adds, series_room, series_start}
 use Rattle.model.specs.Tables.Words.{user_count}
 use Rattle.tables_text.specs.TextOf.{user_text}
 use Rattle.record_writer.proofs.users.put_users.Goals as goal
 
 pub loop-k-init : goal.loop-k-init
-loop-k-init c = (omega arith, series_start 1 _)
+loop-k-init c = series_start 1 _ _
 
-pub put_user-i-requires : goal.put_user-i-requires
-put_user-i-requires c = (
+pub put_user-requires : goal.put_user-requires
+put_user-requires c = (
   (c.requires.0, omega arith, omega arith),
   series_room user_count c.loop-k.k 1 (user_text (tables_of c.args.tables.now))
-      (omega arith) c.loop-k-test.true c.requires.1 c.loop-k.invariant.1,
+      (omega arith) c.loop-k-test.true c.requires.1 c.loop-k.invariant,
 )
 
 pub loop-k-preserved : goal.loop-k-preserved
-loop-k-preserved c = (
-  omega arith,
-  series_puts c.loop-k.k 1 (user_text (tables_of c.args.tables.now)) (omega arith) (omega (arith, c.requires.1))
-      c.loop-k.invariant.1 c.put_user-i.ensures,
-)
+loop-k-preserved c =
+    series_adds c.loop-k.k 1 (user_text (tables_of c.args.tables.now)) (omega arith) (omega (arith, c.requires.1))
+    c.loop-k.invariant c.put_user.ensures
 
 pub returns : goal.returns
-returns c = let q : c.loop-k.k ≡ user_count = omega arith in rw q at c.loop-k.invariant.1
+returns c = let q : c.loop-k.k ≡ user_count = omega arith in rw q at c.loop-k.invariant

@@ -7,24 +7,25 @@ requester-requires c = c.requires.request
 
 pub full-requires : goal.full-requires
 full-requires c =
-    rw c.requester.ensures (settled_known c.on_checked-answer.ensures (inl c.if-answer-eq-ACCEPTED.true))
+    rw c.requester.ensures (settled_known (rw (← c.number-answer.ensures) at c.on_checked.ensures) (inl c.if-answer-eq-ACCEPTED.true))
 
 pub returns-then-answer-eq-ACCEPTED : goal.returns-then-answer-eq-ACCEPTED
 returns-then-answer-eq-ACCEPTED c =
-    settled_full c.on_checked-answer.ensures _ (inl c.if-answer-eq-ACCEPTED.true) (rw c.requester.ensures at c.full.ensures)
+    settled_full (rw (← c.number-answer.ensures) at c.on_checked.ensures) _ (inl c.if-answer-eq-ACCEPTED.true) (rw c.requester.ensures at c.full.ensures)
 
 pub returns-then-answer-lt-FIRST_NOTICED : goal.returns-then-answer-lt-FIRST_NOTICED
 returns-then-answer-lt-FIRST_NOTICED c =
-    settled_bare c.on_checked-answer.ensures _ (omega (arith, c.if-answer-eq-ACCEPTED.false)) (omega (arith, c.if-answer-lt-FIRST_NOTICED.true)) c.bare.ensures
+    settled_bare (rw (← c.number-answer.ensures) at c.on_checked.ensures) _ (omega (arith, c.if-answer-eq-ACCEPTED.false))
+    (omega (arith, c.if-answer-lt-FIRST_NOTICED.true)) c.bare.ensures
 
 pub requester-requires-2 : goal.requester-requires-2
 requester-requires-2 c = c.requires.request
 
 pub full-requires-2 : goal.full-requires-2
 full-requires-2 c =
-    rw c.requester-2.ensures (settled_known c.on_checked-answer.ensures (inr (omega (arith, c.if-answer-lt-FIRST_NOTICED.false))))
+    rw c.requester-2.ensures (settled_known (rw (← c.number-answer.ensures) at c.on_checked.ensures) (inr (omega (arith, c.if-answer-lt-FIRST_NOTICED.false))))
 
 pub returns : goal.returns
 returns c =
     let e = rw c.requester-2.ensures at c.full-2.ensures in
-    settled_full c.on_checked-answer.ensures _ (inr (omega (arith, c.if-answer-lt-FIRST_NOTICED.false))) e
+    settled_full (rw (← c.number-answer.ensures) at c.on_checked.ensures) _ (inr (omega (arith, c.if-answer-lt-FIRST_NOTICED.false))) e

@@ -5,10 +5,10 @@ pub settled-requires : goal.settled-requires
 settled-requires c =
     record { said = c.requires.said; request = c.read_seven.auto.w }
 
-pub returns-in-BadLine : goal.returns-in-BadLine
-returns-in-BadLine c =
-    turn_bad c.args.tables.now c.args.p (rw c.in-BadLine.is at c.read_seven.ensures) c.stuck.ensures
+pub returns-in-Err : goal.returns-in-Err
+returns-in-Err c =
+    turn_bad c.args.tables.now c.args.p c.in-Err.ensures c.stuck.ensures
 
-pub returns-in-Next : goal.returns-in-Next
-returns-in-Next c =
-    turn_next c.args.tables.now c.args.p (rw c.in-Next.is at c.read_seven.ensures) c.settled.ensures
+pub returns-in-Ok : goal.returns-in-Ok
+returns-in-Ok c =
+    turn_next c.args.tables.now c.args.p c.in-Ok.ensures c.settled.ensures

@@ -1,13 +1,9 @@
-use Rattle.std.proofs.Common.{◌+◌, ◌-◌, eqb, ◌≡◌, ◌≤◌}
+use Rattle.std.proofs.Common.{◌+◌, eqb, ◌≡◌}
 use Rattle.model.specs.Tables.Layout.{offset, tables_of}
 use Rattle.model.specs.Tables.WordAt.{entity_word_at}
 use Rattle.model.specs.Tables.Words.{releaser}
 use Rattle.model.specs.Basics.Tests.{every}
-use Rattle.state.specs.Passes.{bare_width}
 use Rattle.state.proofs.entities.is_bare.Given as goal
 
 abbrev pub invariant-loop-f : goal.invariant-loop-f
-invariant-loop-f l = (l.f ≤ bare_width) × (l.blank ≡ every l.f (λ i. eqb ((tables_of l.t).entity l.e.0 (entity_word_at (offset releaser + i))) 0))
-
-abbrev pub decreases-loop-f : goal.decreases-loop-f
-decreases-loop-f l = bare_width - l.f
+invariant-loop-f l = l.blank ≡ every l.f (λ i. eqb ((tables_of l.t).entity l.e.0 (entity_word_at (offset releaser + i))) 0)

@@ -1,15 +1,6 @@
-use Rattle.std.proofs.Common.{arith, sym, ◌∙◌}
-use Rattle.laws.specs.Loops.{every_done, every_fails, every_more, every_none}
+use Rattle.std.proofs.Common.{refl, rules}
+use Rattle.laws.specs.Ranges.{every_all}
 use Rattle.state.proofs.entities.places_fine.Goals as goal
 
-pub loop-i-init : goal.loop-i-init
-loop-i-init c = (omega arith, every_none _)
-
-pub returns-then-not-place_fine : goal.returns-then-not-place_fine
-returns-then-not-place_fine c = every_fails _ _ _ c.loop-i-test.true (sym c.place_fine.ensures ∙ c.if-not-place_fine.true)
-
-pub loop-i-preserved : goal.loop-i-preserved
-loop-i-preserved c = (omega arith, every_more _ _ c.loop-i.invariant.1 (sym c.place_fine.ensures ∙ c.if-not-place_fine.false))
-
 pub returns : goal.returns
-returns c = every_done _ _ _ c.loop-i.invariant.1 c.loop-i.invariant.0 (omega arith)
+returns c = every_all _ _ _ _ _ _ c.all.ensures.ran refl (λ x b q k. search rules)

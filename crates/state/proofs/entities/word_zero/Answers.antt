@@ -1,4 +1,4 @@
 use Rattle.state.proofs.entities.word_zero.Goals as goal
 
 pub returns : goal.returns
-returns c = rw c.entity_at.ensures
+returns c = rw c.word_at.ensures

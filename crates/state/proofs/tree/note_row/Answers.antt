@@ -13,7 +13,7 @@ returns-then-kind-ne-CONTAINER c =
 
 pub loop-i-init : goal.loop-i-init
 loop-i-init c =
-    (omega arith, packed_room (tables_of _) (bounded _) _ (is_true _ c.requires.1) _ c.used-n.ensures, noted_start _ _ _ c.requires.2)
+    (packed_room (tables_of _) (bounded _) _ (is_true _ c.requires.1) _ c.used-n.ensures, noted_start _ _ _ c.requires.2)
 
 pub bounds-h-x : goal.bounds-h-x
 bounds-h-x c =
@@ -26,7 +26,7 @@ bounds-h-x c =
 pub returns-then-h-x-ne0 : goal.returns-then-h-x-ne0
 returns-then-h-x-ne0 c =
     stopped _ _ _ (amiss_twice (tables_of _) (bounded _) _ _ _ _ (slot_at (tables_of _) _ _ _ _ _ c.requires.0.1 c.kind.ensures c.if-kind-ne-CONTAINER.false
-    c.used-n.ensures c.loop-i-test.true c.place-x.ensures) c.if-h-x-ne0.true c.loop-i.invariant.2)
+    c.used-n.ensures c.loop-i-test.true c.place-x.ensures) c.if-h-x-ne0.true c.loop-i.invariant.1)
 
 pub bounds-h-x-in-loop-i : goal.bounds-h-x-in-loop-i
 bounds-h-x-in-loop-i c =
@@ -38,14 +38,13 @@ bounds-h-x-in-loop-i c =
 
 pub loop-i-preserved : goal.loop-i-preserved
 loop-i-preserved c = (
-  omega arith,
-  c.loop-i.invariant.1,
+  c.loop-i.invariant.0,
   noted_put (tables_of _) (bounded _) _ _ _ _ (slot_at (tables_of _) _ _ _ _ _ c.requires.0.1
       c.kind.ensures c.if-kind-ne-CONTAINER.false c.used-n.ensures c.loop-i-test.true c.place-x.ensures)
-      c.if-h-x-ne0.false c.loop-i.invariant.2,
+      c.if-h-x-ne0.false c.loop-i.invariant.1,
 )
 
 pub returns : goal.returns
 returns c =
-    went_on _ _ _ (noted_rest (tables_of _) (bounded _) _ _ _ _ c.requires.0.1 c.used-n.ensures c.loop-i.invariant.0
-    (omega arith) c.loop-i.invariant.2)
+    went_on _ _ _ (noted_rest (tables_of _) (bounded _) _ _ _ _ c.requires.0.1 c.used-n.ensures (omega arith)
+    (omega arith) c.loop-i.invariant.1)

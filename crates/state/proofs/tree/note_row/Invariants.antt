@@ -5,7 +5,4 @@ use Rattle.state.specs.Holders.{Noted}
 use Rattle.state.proofs.tree.note_row.Given as goal
 
 abbrev pub invariant-loop-i : goal.invariant-loop-i
-invariant-loop-i l = (l.i ≤ l.n) × (l.n ≤ place_count) × Noted (tables_of l.t) ((l.c.0 - 1) * place_count + l.i) l.h
-
-abbrev pub decreases-loop-i : goal.decreases-loop-i
-decreases-loop-i l = l.n - l.i
+invariant-loop-i l = (l.n ≤ place_count) × Noted (tables_of l.t) ((l.c.0 - 1) * place_count + l.i) l.h

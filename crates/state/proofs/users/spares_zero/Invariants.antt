@@ -1,11 +1,8 @@
-use Rattle.std.proofs.Common.{◌-◌, eqb, ◌≡◌, ◌≤◌}
+use Rattle.std.proofs.Common.{eqb, ◌≡◌}
 use Rattle.model.specs.Tables.Layout.{tables_of}
 use Rattle.model.specs.Basics.Tests.{every}
-use Rattle.model.specs.Tables.Words.{spare, spare_count}
+use Rattle.model.specs.Tables.Words.{spare}
 use Rattle.state.proofs.users.spares_zero.Given as goal
 
 abbrev pub invariant-loop-f : goal.invariant-loop-f
-invariant-loop-f l = (l.f ≤ spare_count) × (l.blank ≡ every l.f (λ i. eqb ((tables_of l.t).user l.u.0 (spare i)) 0))
-
-abbrev pub decreases-loop-f : goal.decreases-loop-f
-decreases-loop-f l = spare_count - l.f
+invariant-loop-f l = l.blank ≡ every l.f (λ i. eqb ((tables_of l.t).user l.u.0 (spare i)) 0)

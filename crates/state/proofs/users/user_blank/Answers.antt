@@ -4,11 +4,11 @@ use Rattle.state.specs.Passes.{user_blank}
 use Rattle.state.proofs.users.user_blank.Goals as goal
 
 pub loop-f-init : goal.loop-f-init
-loop-f-init c = (omega arith, sym (every_none _))
+loop-f-init c = sym (every_none _)
 
 pub loop-f-preserved : goal.loop-f-preserved
-loop-f-preserved c = (omega arith, every_gather _ _ _ _ c.word_zero-blank.ensures c.loop-f.invariant.1)
+loop-f-preserved c = every_gather _ _ _ _ c.word_zero-blank.ensures c.loop-f.invariant
 
 pub returns : goal.returns
 unfolding user_blank
-returns c = every_gathered _ _ _ _ c.loop-f.invariant.1 c.loop-f.invariant.0 (omega arith)
+returns c = every_gathered _ _ _ _ c.loop-f.invariant (omega arith) (omega arith)

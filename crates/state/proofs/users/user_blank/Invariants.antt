@@ -1,11 +1,8 @@
-use Rattle.std.proofs.Common.{◌-◌, eqb, ◌≡◌, ◌≤◌}
-use Rattle.model.specs.Tables.Layout.{tables_of, user_width}
+use Rattle.std.proofs.Common.{eqb, ◌≡◌}
+use Rattle.model.specs.Tables.Layout.{tables_of}
 use Rattle.model.specs.Basics.Tests.{every}
 use Rattle.model.specs.Tables.WordAt.{user_word_at}
 use Rattle.state.proofs.users.user_blank.Given as goal
 
 abbrev pub invariant-loop-f : goal.invariant-loop-f
-invariant-loop-f l = (l.f ≤ user_width) × (l.blank ≡ every l.f (λ i. eqb ((tables_of l.t).user l.u.0 (user_word_at i)) 0))
-
-abbrev pub decreases-loop-f : goal.decreases-loop-f
-decreases-loop-f l = user_width - l.f
+invariant-loop-f l = l.blank ≡ every l.f (λ i. eqb ((tables_of l.t).user l.u.0 (user_word_at i)) 0)

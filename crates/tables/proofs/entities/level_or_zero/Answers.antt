@@ -1,8 +1,6 @@
-use Rattle.tables.specs.Laws.{entity_above, entity_below}
+use Rattle.std.proofs.Common.{sym, ◌∙◌}
+use Rattle.tables.specs.Laws.{entity_absent}
 use Rattle.tables.proofs.entities.level_or_zero.Goals as goal
 
-pub returns-then-n-lt1 : goal.returns-then-n-lt1
-returns-then-n-lt1 c = entity_below _ _ _ c.if-n-lt1.true
-
-pub returns-then-n-gt-ENTITIES : goal.returns-then-n-gt-ENTITIES
-returns-then-n-gt-ENTITIES c = entity_above _ _ _ c.if-n-gt-ENTITIES.true
+pub returns-then-not-has_record : goal.returns-then-not-has_record
+returns-then-not-has_record c = entity_absent _ _ _ (sym c.has_record.ensures ∙ c.if-not-has_record.true)

@@ -1,35 +1,26 @@
-use Rattle.std.proofs.Common.{◌+◌, arith, ◌≡◌}
+use Rattle.std.proofs.Common.{ap, arith, length, rules, tests, ◌+◌, ◌∙◌}
+use Rattle.std.proofs.lemmas.Iterator.{YieldsList-from_map, YieldsList-from_range}
 use Rattle.model.specs.Tables.Layout.{tables_of}
-use Rattle.record_writer.specs.SeriesLaws.{series_more, series_zero}
 use Rattle.model.specs.Tables.Words.{entity_count}
 use Rattle.tables_text.specs.TextOf.{entity_text}
-use Rattle.tables_writer.specs.LengthLaws.{entities_most, entity_most_lem}
+use Rattle.tables_writer.specs.LengthLaws.{entities_most}
+use Rattle.tables_writer.specs.SumLaws.{series_after, sum_fits, sum_is}
 use Rattle.tables_writer.proofs.counting.entities_len.Goals as goal
 
-pub loop-k-init : goal.loop-k-init
-loop-k-init c = (omega arith, series_zero 1 _)
-
-pub entity_len-n-requires : goal.entity_len-n-requires
-entity_len-n-requires c = ((c.requires.long, omega arith, omega arith), c.requires.room (c.loop-k.k + 1))
-
-pub overflow_add-n : goal.overflow_add-n
-overflow_add-n c =
-    omega (
-      arith,
-      c.entity_len-n.ensures,
-      c.loop-k.invariant.1,
-      entities_most (tables_of c.args.tables.now)
-          c.loop-k.k c.requires.room,
-      entity_most_lem (tables_of c.args.tables.now) (c.loop-k.k + 1)
-          (c.requires.room (c.loop-k.k + 1)),
-    )
-
-pub loop-k-preserved : goal.loop-k-preserved
-loop-k-preserved c = (
-  omega arith,
-  rw (c.loop-k.invariant.1, c.entity_len-n.ensures) (series_more c.loop-k.k 1
-      (entity_text (tables_of c.args.tables.now)) (omega arith)),
-)
+pub sum-requires-clause-fits : goal.sum-requires-clause-fits
+sum-requires-clause-fits c =
+    sum_fits entity_count 0 (λ j. entity_text (tables_of c.args.tables.now) (j + 1)) c.map.result
+    (YieldsList-from_map _ (λ j. length (entity_text (tables_of c.args.tables.now) (j + 1)))
+    (YieldsList-from_range 0 entity_count entity_count c.map.ensures.source (omega arith))
+    c.map.ensures.closure (λ x r q k. search (rules, tests)))
+    (rw (series_after entity_count 0 (entity_text (tables_of c.args.tables.now)))
+    (omega (arith, entities_most (tables_of c.args.tables.now) entity_count c.requires.room)))
 
 pub returns : goal.returns
-returns c = let q : c.loop-k.k ≡ entity_count = omega arith in rw q at c.loop-k.invariant.1
+returns c =
+    sum_is entity_count 0 (λ j. entity_text (tables_of c.args.tables.now) (j + 1)) c.map.result
+    (YieldsList-from_map _ (λ j. length (entity_text (tables_of c.args.tables.now) (j + 1)))
+    (YieldsList-from_range 0 entity_count entity_count c.map.ensures.source (omega arith))
+    c.map.ensures.closure (λ x r q k. search (rules, tests)))
+    c.sum.ensures.ran
+    ∙ ap length (series_after entity_count 0 (entity_text (tables_of c.args.tables.now)))
