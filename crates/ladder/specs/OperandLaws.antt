@@ -155,8 +155,8 @@ module _ (d : Tables) (q : Request) (u op l : ℕ) (hu : q.user ≡ u) (ho : q.o
         one_barred x y = sym (path_barred d q leads (access ∙ ap not x) (way ∙ ap not y))
 
         -- it may be had
-        pub one_fine : p ≡ true → o ≡ true → refusal.accepted ≡ path_answer d q
-        one_fine x y = sym (path_open d q leads (access ∙ ap not x) (way ∙ ap not y))
+        pub one_fine : p ≡ true → o ≡ true → (refusal.accepted ≡ path_answer d q) × (e.0 ≡ (asked d q).first)
+        one_fine x y = (sym (path_open d q leads (access ∙ ap not x) (way ∙ ap not y)), first_is d q l ns f hf e o h hn)
 
   -- ---- two operands: each rung is asked of both before the next
 
@@ -213,5 +213,9 @@ module _ (d : Tables) (q : Request) (u op l : ℕ) (hu : q.user ≡ u) (ho : q.o
             two_barred y z = sym (path_barred d q both_lead (access_both r hr ∙ rw (x, y)) (way_both ∙ ap not z))
 
             -- both may be had
-            pub two_fine : r ≡ true → (o && w) ≡ true → refusal.accepted ≡ path_answer d q
-            two_fine y z = sym (path_open d q both_lead (access_both r hr ∙ rw (x, y)) (way_both ∙ ap not z))
+            pub two_fine : r ≡ true → (o && w) ≡ true
+                → (refusal.accepted ≡ path_answer d q) × ((e.0 ≡ (asked d q).first) × (c.0 ≡ (asked d q).second))
+            two_fine y z = (
+              sym (path_open d q both_lead (access_both r hr ∙ rw (x, y)) (way_both ∙ ap not z)),
+              (first_is d q l ns f hf e o h hn, second_is d q l ms g hg c w k hm),
+            )

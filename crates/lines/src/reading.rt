@@ -1,7 +1,7 @@
 // Reads numbers and lines at an index of some bytes. Each answer says where reading goes on, or that what was looked for is not there.
 ghost use Rattle.std.specs.Prelude.{[], ◌∷◌, ◌≡◌, ◌-◌, ◌≤◌, length};
 ghost use Rattle.lines.specs.LineAt.{KeyAt, LineAt};
-ghost use Rattle.lines.specs.NumberAt.{NumberAt};
+ghost use Rattle.lines.specs.NumberAt.{DigitsAt, NumberAt};
 ghost use Rattle.model.specs.Text.Lines.{line_end};
 ghost use Rattle.model.specs.Text.Numbers.{most, zero_byte};
 
@@ -14,6 +14,12 @@ pub struct Number {
     pub next: usize,
 }
 
+// What digits make of a number, and the index after them. Where it is too large, they were read until it was.
+struct Digits {
+    v: u64,
+    end: usize,
+}
+
 // At least so many bytes follow a key: a digit and LF.
 const REST_LEAST: usize = 2;
 
@@ -22,7 +28,7 @@ fn digit(b: u8) -> u64
     requires { zero_byte ≤ b }
     ensures { result ≡ b - zero_byte }
 {
-    u64::from(b - text::DIGIT_0)
+    u64::from(b) - u64::from(text::DIGIT_0)
 }
 
 // The answer for a number that fits.
@@ -31,6 +37,26 @@ fn fitting(v: u64, next: usize) -> Number
     ensures { result ≡ record { v = v; next = next } }
 {
     Number { v: v as u32, next }
+}
+
+// Reads on from an index, where a number has begun: as far as its digits go, or until it is too large. Both ways out answer alike, and the caller tells them
+// apart: where one of them answered `None`, the compiler would make that ready at every digit.
+fn read_digits(s: &[u8], at: usize, begun: u64) -> Digits
+    requires { (at ≤ length s.now) × (begun ≤ most) }
+    ensures { DigitsAt s.now at begun result }
+{
+    let mut v = begun;
+    for i in at..s.len() {
+        let b = s[i];
+        if !b.is_ascii_digit() {
+            return Digits { v, end: i };
+        }
+        v = v * 10 + digit(b);
+        if text::NUMBER_MOST < v {
+            return Digits { v, end: i };
+        }
+    }
+    Digits { v, end: s.len() }
 }
 
 // The number at an index: 0 alone, or digits of which the first is not 0. It is read as far as its digits go, and must fit in 32 bits.
@@ -45,18 +71,11 @@ pub fn read_number(s: &[u8], at: usize) -> Option<Number>
     if first == text::DIGIT_0 {
         return Some(fitting(0, at + 1));
     }
-    let mut v = digit(first);
-    for i in at + 1..s.len() {
-        let b = s[i];
-        if !b.is_ascii_digit() {
-            return Some(fitting(v, i));
-        }
-        v = v * 10 + digit(b);
-        if text::NUMBER_MOST < v {
-            return None;
-        }
+    let Digits { v, end } = read_digits(s, at + 1, digit(first));
+    if text::NUMBER_MOST < v {
+        return None;
     }
-    Some(fitting(v, s.len()))
+    Some(fitting(v, end))
 }
 
 // The index after a key that stands at an index. All its bytes are compared, with no way out between them.

@@ -1,4 +1,4 @@
-// The lowest layer: every number of the rules once, by name. `tie` proves that each is the model's; nothing else stands here.
+// The lowest layer: every number of the rules once, by name, and the types whose cases have such numbers. `tie` proves that each is the model's.
 #![tactic(auto)]
 
 pub mod kind;

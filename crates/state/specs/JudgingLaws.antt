@@ -71,18 +71,20 @@ module _ (d : Tables) where
 
 -- ---- whole tables
 
-module _ (d : Tables) (o : Bounded d) (s : Bool) (h : List ℕ) (z : SoundTo d entity_count s h) where
-  -- what stands in what is all in the list then, by numbers of entities, and nothing of 0
+module _ (d : Tables) (s : Bool) (h : List ℕ) (z : SoundTo d entity_count s h) where
+  -- what stands in what is all in the list then
   filled : Filled d slot_count h
   filled = z.noted.1 z.own
 
-  pub all_low : Low h × (get_or h 0 0 ≡ 0)
-  all_low = (filled_low d o z.own slot_count h filled, filled_top d o z.own slot_count h filled)
+  module _ (o : Bounded d) where
+    -- by numbers of entities, and nothing of 0
+    pub all_low : Low h × (get_or h 0 0 ≡ 0)
+    all_low = (filled_low d o z.own slot_count h filled, filled_top d o z.own slot_count h filled)
 
-  -- the ways up are left, where the users and the devices are in order
-  pub ways_left : (u : Bool) → u ≡ every user_count (λ u. user_test (d.user (suc u))) → u ≡ true
-      → (v : Bool) → v ≡ every user_count (λ u. on_device d (suc u)) → v ≡ true → (b : Bool) → b ≡ all_end h → b ≡ well_formed_test d
-  ways_left u ue ut v ve vt b be = tree_left d o u ue ut v ve vt z.own b (tree_ends d o z.own h filled b be)
+    -- the ways up are left, where the users and the devices are in order
+    pub ways_left : (u : Bool) → u ≡ every user_count (λ u. user_test (d.user (suc u))) → u ≡ true
+        → (v : Bool) → v ≡ every user_count (λ u. on_device d (suc u)) → v ≡ true → (b : Bool) → b ≡ all_end h → b ≡ well_formed_test d
+    ways_left u ue ut v ve vt b be = tree_left d o u ue ut v ve vt z.own b (tree_ends d o z.own h filled b be)
 
   -- every entity is secure
   pub all_secure_lem : s ≡ true → all_secure d ≡ true

@@ -28,7 +28,7 @@ pub fn judged(t: &[u32]) -> Result<(), Refusal>
     }
     let mut h = [0u32; size::ENTITY_NUMBERS];
     let kept = entities::entities_judged(t, &mut h)?;
-    if !tree::all_end(&mut h) {
+    if !tree::all_end(&h) {
         return Err(Refusal::NotWellFormed);
     }
     if !kept {

@@ -48,20 +48,21 @@ fn jump(a: &[u32; size::ENTITY_NUMBERS], d: &mut [u32; size::ENTITY_NUMBERS]) ->
     none
 }
 
-// Whether the way up from every entity ends. All of them climb at once, each time twice as far, so that no branch waits for how deep one lies. The list h
-// and one beside it take turns and are used up, since what climbs twice as far needs no more than the list before it.
-pub fn all_end(h: &mut [u32; size::ENTITY_NUMBERS]) -> bool
-    requires { Low h.old × (get_or h.old 0 0 ≡ 0) }
-    ensures { result ≡ all_end h.old }
+// Whether the way up from every entity ends. All of them climb at once, each time twice as far, so that no branch waits for how deep one lies. A copy of
+// the list h and one beside it take turns, since what climbs twice as far needs no more than the list before it.
+pub fn all_end(h: &[u32; size::ENTITY_NUMBERS]) -> bool
+    requires { Low h.now × (get_or h.now 0 0 ≡ 0) }
+    ensures { result ≡ all_end h.now }
 {
+    let mut b = *h;
     let mut a = [0u32; size::ENTITY_NUMBERS];
     for _round in 0..ROUNDS {
-        if jump(h, &mut a) {
+        if jump(&b, &mut a) {
             return true;
         }
-        if jump(&a, h) {
+        if jump(&a, &mut b) {
             return true;
         }
     }
-    jump(h, &mut a)
+    jump(&b, &mut a)
 }

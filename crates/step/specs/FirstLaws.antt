@@ -73,11 +73,12 @@ unnamed t q u k e = record {
   tables = refl;
 }
 
--- a request that fits no operation
-pub unfit : (t q : List ℕ) (u : ℕ) → PastRequester t q u → of_op (request_of q) (λ o. fits o (request_of q)) ≡ false → Judged t q refusal.bad_request t
+-- b says whether the request has the form that its operation asks, which none has whose number is no operation's: it has not
+pub misshapen : (t q : List ℕ) (u : ℕ) → PastRequester t q u → (b : Bool) → b ≡ of_op (request_of q) (λ o. fits o (request_of q)) → b ≡ false
+    → Judged t q refusal.bad_request t
 unfolding applies rung_at never ladder not_understood
-unfit t q u k e = record {
-  answer = passed_hit (tables_of t) (request_of q) refusal.unknown_requester k.passed (ap not e);
+misshapen t q u k b h z = record {
+  answer = passed_hit (tables_of t) (request_of q) refusal.unknown_requester k.passed (ap not (sym h ∙ z));
   tables = refl;
 }
 
@@ -91,13 +92,6 @@ module _ (t q : List ℕ) (u : ℕ) (k : PastRequester t q u) (o : Op) (e : (req
     form_is : applies refusal.bad_request (tables_of t) (request_of q) ≡ not b
     unfolding applies rung_at never ladder not_understood
     form_is = ap not (sym (h ∙ fits_named (request_of q) (meant o) e))
-
-    -- the request has not the form that its operation asks
-    pub misshapen : b ≡ false → Judged t q refusal.bad_request t
-    misshapen z = record {
-      answer = passed_hit (tables_of t) (request_of q) refusal.unknown_requester k.passed (form_is ∙ ap not z);
-      tables = refl;
-    }
 
     module _ (z : b ≡ true) (v : ℕ) (hv : v ≡ (tables_of t).user u device) where
       fifth : Passed refusal.bad_request (tables_of t) (request_of q)

@@ -128,13 +128,14 @@ pub fn advance(t: &mut [u32], q: &[u32]) -> Result<(), Refusal>
     }
     let answer = attend(t, q, User(n));
     if let Err(refusal) = answer {
-        notice::leave(t, User(n), refusal, noticed(q));
+        notice::leave(t, User(n), u32::from(refusal), noticed(q));
     }
     answer
 }
 
 // The step on words of which the check has said c: those that failed are refused with c, and the others go up the ladder. So a run of many
-// requests need check its tables once only.
+// requests need check its tables once only. It is inlined, so that a run of requests to tables that have failed the check goes through without a call.
+#[inline(always)]
 pub fn on_checked(t: &mut [u32], q: &[u32], c: Result<(), Refusal>) -> Result<(), Refusal>
     requires { Checked t.old q.now (answer_number c) }
     ensures { Settled t.old q.now (answer_number result) t.new }

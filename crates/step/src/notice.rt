@@ -3,11 +3,9 @@ ghost use Rattle.std.specs.Prelude.{◌≡◌, ltb};
 ghost use Rattle.model.specs.Effect.Notice.{missed_more, notice};
 ghost use Rattle.model.specs.Tables.Layout.{tables_of};
 ghost use Rattle.model.specs.Tables.Words.{missed_most};
-ghost use Rattle.names.specs.Refusals.{number_of};
 ghost use Rattle.tables.specs.Singles.{UserIn};
 
 use names::range;
-use names::refusal::Refusal;
 use tables::User;
 
 // The number of missed refusals, one more; it stops at its most.
@@ -20,10 +18,10 @@ fn one_more(m: u32) -> u32
     range::MISSED_MOST
 }
 
-// Leaves user u a notice of a refusal of operation o. The first one unread is kept, and one more is missed.
-pub fn leave(t: &mut [u32], u: User, refusal: Refusal, o: u32)
+// Leaves user u a notice of refusal n of operation o. The first one unread is kept, and one more is missed.
+pub fn leave(t: &mut [u32], u: User, n: u32, o: u32)
     requires { UserIn t.old u.0 }
-    ensures { tables_of t.new ≡ notice u.0 (number_of refusal) o (tables_of t.old) }
+    ensures { tables_of t.new ≡ notice u.0 n o (tables_of t.old) }
 {
     let h = tables::held(t, u);
     let m = one_more(tables::missed(t, u));
@@ -32,5 +30,5 @@ pub fn leave(t: &mut [u32], u: User, refusal: Refusal, o: u32)
         return;
     }
     tables::set_held_op(t, u, o);
-    tables::set_held(t, u, u32::from(refusal));
+    tables::set_held(t, u, n);
 }

@@ -13,13 +13,13 @@ use Rattle.state.proofs.judged.Goals as goal
 -- the ways up decide whether the tables are well-formed
 formed : (c : After-all_end) → c.all_end.result ≡ well_formed_test (tables_of c.args.t.now)
 formed c =
-    ways_left (tables_of _) (bounded _) _ _ c.in_ok-kept.ensures _ c.users_fine.ensures c.if-not-users_fine.false _
+    ways_left (tables_of _) _ _ c.in_ok-kept.ensures (bounded _) _ c.users_fine.ensures c.if-not-users_fine.false _
     c.devices_fine.ensures c.if-not-devices_fine.false _ c.all_end.ensures
 
 -- and the users then, whether they are secure
 graded : {b : Bool} (c : After-users_secure) → c.users_secure.result ≡ b → b ≡ secure_test (tables_of c.args.t.now)
 graded c e =
-    sym e ∙ secure_rest (tables_of _) _ refl (all_secure_lem (tables_of _) (bounded _) _ _ c.in_ok-kept.ensures c.if-not-kept.false) _
+    sym e ∙ secure_rest (tables_of _) _ refl (all_secure_lem (tables_of _) _ _ c.in_ok-kept.ensures c.if-not-kept.false) _
     c.users_secure.ensures
 
 pub returns-then-not-users_fine : goal.returns-then-not-users_fine
@@ -40,19 +40,19 @@ returns-in_err-kept c =
     c.users_fine.ensures c.if-not-users_fine.false _ c.devices_fine.ensures c.if-not-devices_fine.false c.in_err-kept.ensures.1))
 
 pub all_end-requires : goal.all_end-requires
-all_end-requires c = all_low (tables_of _) (bounded _) _ _ c.in_ok-kept.ensures
+all_end-requires c = all_low (tables_of _) _ _ c.in_ok-kept.ensures (bounded _)
 
 pub returns-then-not-all_end : goal.returns-then-not-all_end
 returns-then-not-all_end c = judge_unformed _ (sym c.if-not-all_end.true ∙ formed (goal.at.returns-then-not-all_end c).After-all_end)
 
 pub returns-then-not-kept : goal.returns-then-not-kept
 returns-then-not-kept c =
-    not_secure_lem (tables_of _) (bounded _) _ _ c.in_ok-kept.ensures
+    not_secure_lem (tables_of _) _ _ c.in_ok-kept.ensures
     (sym c.if-not-all_end.false ∙ formed (goal.at.returns-then-not-kept c).After-all_end) c.if-not-kept.true
 
 pub users_secure-requires : goal.users_secure-requires
 users_secure-requires c =
-    (c.requires, all_secure_lem (tables_of _) (bounded _) _ _ c.in_ok-kept.ensures c.if-not-kept.false)
+    (c.requires, all_secure_lem (tables_of _) _ _ c.in_ok-kept.ensures c.if-not-kept.false)
 
 pub returns-then-not-users_secure : goal.returns-then-not-users_secure
 returns-then-not-users_secure c =

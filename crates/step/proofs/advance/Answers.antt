@@ -21,7 +21,7 @@ pub returns-in-Err : goal.returns-in-Err
 returns-in-Err c =
     judged_refused c.in-Err.ensures (known_climbed _ _ c.requires _ c.requester-n.ensures
     (sym c.is_known.ensures ∙ c.if-not-is_known.false)) c.noticed.ensures
-    (λ z. omega (arith, refusal_some c.in-Err.refusal)) c.leave.ensures
+    (λ z. omega (arith, refusal_some c.in-Err.refusal)) (rw c.from.ensures at c.leave.ensures)
 
 pub returns-in_default : goal.returns-in_default
 returns-in_default c = rw c.in_default.is (judged_done c.in_default.ensures refl)

@@ -1,9 +1,9 @@
 use Rattle.std.proofs.Common.{refl, sym}
-use Rattle.step.specs.FirstLaws.{off, on, unfit}
+use Rattle.step.specs.FirstLaws.{misshapen, off, on}
 use Rattle.step.proofs.attend.Goals as goal
 
 pub returns-in_default : goal.returns-in_default
-returns-in_default c = unfit _ _ _ c.requires c.in_default.ensures
+returns-in_default c = misshapen _ _ _ c.requires _ refl c.in_default.ensures
 
 pub returns-then-wants_device-device : goal.returns-then-wants_device-device
 returns-then-wants_device-device c =

@@ -50,9 +50,9 @@ returns-then-not-clear-clause-answer c =
 
 pub returns-clause-answer : goal.returns-clause-answer
 returns-clause-answer c =
-    one_fine _ _ _ _ _ c.requires.0.user c.requires.1 c.clearance-l.ensures c.requires.2 _ c.first_names.ensures _ c.resolve.ensures
+    (one_fine _ _ _ _ _ c.requires.0.user c.requires.1 c.clearance-l.ensures c.requires.2 _ c.first_names.ensures _ c.resolve.ensures
     c.in-At.e c.in-At.clear c.in-At.is _ c.is_permitted.ensures c.if-not-is_permitted.false
-    c.if-not-clear.false
+    c.if-not-clear.false).0
 
 pub returns-clause-operand : goal.returns-clause-operand
 returns-clause-operand c = first_is _ _ _ _ _ c.resolve.ensures c.in-At.e c.in-At.clear c.in-At.is c.first_names.ensures

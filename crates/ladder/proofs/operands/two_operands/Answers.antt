@@ -88,10 +88,10 @@ returns-then-not-clear-free-clause-answer c =
 
 pub returns-clause-answer : goal.returns-clause-answer
 returns-clause-answer c =
-    two_fine _ _ _ _ _ c.requires.0.user c.requires.1 c.clearance-l.ensures c.requires.2 _ c.first_names.ensures _
+    (two_fine _ _ _ _ _ c.requires.0.user c.requires.1 c.clearance-l.ensures c.requires.2 _ c.first_names.ensures _
     c.resolve.ensures c.in-At.e c.in-At.clear c.in-At.is _ c.second_names.ensures _ c.resolve-2.ensures
     c.in-At-resolve.c c.in-At-resolve.free c.in-At-resolve.is _ c.is_permitted.ensures c.if-not-is_permitted.false
-    _ c.is_permitted-2.ensures c.if-not-is_permitted-2.false c.if-not-clear-free.false
+    _ c.is_permitted-2.ensures c.if-not-is_permitted-2.false c.if-not-clear-free.false).0
 
 pub returns-clause-first : goal.returns-clause-first
 returns-clause-first c = first_is _ _ _ _ _ c.resolve.ensures c.in-At.e c.in-At.clear c.in-At.is c.first_names.ensures

@@ -9,5 +9,5 @@ returns-then-h-gt0 c =
 
 pub returns : goal.returns
 returns c =
-    c.set_held.ensures ∙ rw (c.from.ensures, c.set_held_op.ensures, c.set_missed.ensures)
+    c.set_held.ensures ∙ rw (c.set_held_op.ensures, c.set_missed.ensures)
     (notice_new _ _ _ _ _ (c.one_more-m.ensures ∙ rw c.missed.ensures) (omega (arith, c.held-h.ensures, c.if-h-gt0.false)))
